@@ -1,0 +1,96 @@
+-- "Examples": the cases that document 01 marks P, as rows of one table. What it says of a row is `Holds`, and proofs/Cases.antt proves the table.
+use Prim.Native.Nat.{ℕ, zero, suc, _*_}
+use mathlib.Core.Path.{_≡_}
+use mathlib.Core.Bool.{cond}
+use mathlib.Core.List.{List, [], _∷_}
+use lib.ListN.{length, getD, drop}
+use lib.IntN.{ℤ, pos, negsuc}
+use lib.Dec.{eqb}
+use Rattle.scope.specs.Lowest.{lowest}
+use Rattle.scope.specs.Outcome.{Outcome, gives, refused}
+use Rattle.scope.specs.File.{rowOf, fileOf}
+use Rattle.scope.specs.Plan.{planOf}
+use Rattle.scope.specs.Cycle.{arrivals, eventRow}
+use Rattle.scope.specs.Verdict.{FirstFailing}
+use Rattle.scope.specs.Questions.{readFile, writeFile, replay, slack, maySpare}
+
+-- Plan B: "links 0→1, 0→2, 2→1 and t = 4. Both messages have first path link 0, message 0 in slot 0 and message 1 in slot 1, and second path
+-- links 1, 2."
+abbrev pub rowB : List ℕ
+rowB =
+    1 ∷ 2 ∷ 2 ∷ 1 ∷ 3 ∷ 0 ∷ 1 ∷ 0 ∷ 2 ∷ 2 ∷ 1 ∷ 0 ∷ 0 ∷ 0 ∷ 1 ∷ 1 ∷ 1 ∷ 2 ∷ 0 ∷ 0 ∷ 1 ∷ 1 ∷ 1 ∷ 1 ∷ 2 ∷ []
+
+-- "Its file, 17 bytes in hex", with any first and last byte
+abbrev pub fileWith : ℕ → ℕ → List ℕ
+fileWith front back =
+    front ∷ 0x82 ∷ 0x08 ∷ 0x60 ∷ 0x02 ∷ 0x00 ∷ 0x41 ∷ 0x02 ∷ 0x00 ∷ 0x01 ∷ 0x10 ∷ 0x42 ∷ 0x00 ∷ 0x01 ∷ 0x88 ∷ 0x21 ∷ back ∷ []
+
+abbrev pub fileB : List ℕ
+fileB = fileWith 0x10 0x00
+
+-- Plan A: "links 0→1, 1→3, 0→2, 2→3 and t = 4. Message 0: links 0, 1 in slots 0, 1, second path 2, 3 from place 0. Message 1: links 2, 3 in
+-- slots 0, 1, second path 0, 1 from place 0."
+abbrev pub rowA : List ℕ
+rowA =
+    1 ∷ 3 ∷ 3 ∷ 1 ∷ 3 ∷
+    0 ∷ 1 ∷ 1 ∷ 3 ∷ 0 ∷ 2 ∷ 2 ∷ 3 ∷
+    1 ∷ 0 ∷ 0 ∷ 1 ∷ 1 ∷ 2 ∷ 3 ∷ 1 ∷ 1 ∷ 0 ∷
+    1 ∷ 2 ∷ 0 ∷ 1 ∷ 1 ∷ 0 ∷ 1 ∷ 3 ∷ 1 ∷ 0 ∷ []
+
+-- the kinds of message m in a row of events of so many messages: every other number, message by message
+unfoldable pub kindsOf : ℕ → ℕ → ℕ → List ℕ → List ℕ
+kindsOf messages m zero row = []
+kindsOf messages m (suc slots) row = getD row (m * 2) 0 ∷ kindsOf messages m slots (drop (messages * 2) row)
+
+-- the time at which a message arrives, from its kinds: the first slot in which it is "at its target already"
+abbrev pub arrivesAt : List ℕ → ℕ
+arrivesAt kinds = lowest (λ i. eqb (getD kinds i 0) 0) (length kinds)
+
+-- a row of the table: a question with its answer
+pub data Case : Type 0 where
+  -- a file, the room lent, and the outcome of reading it
+  reads : List ℕ → ℕ → Outcome → Case
+  -- a file and a row that give each other, read and written with exactly the room needed
+  same : List ℕ → List ℕ → Case
+  -- a row, a cut list, the arrivals and the events
+  plays : List ℕ → List ℕ → ℕ → List ℕ → Case
+  -- a row, a cut list, the arrivals, and one message of the two with its kinds in the four slots and the time at which it arrives
+  follows : List ℕ → List ℕ → ℕ → ℕ → List ℕ → ℕ → Case
+  -- a row, a message, a place, and the slack
+  spares : List ℕ → ℕ → ℕ → ℤ → Case
+  -- a row, k, l, and the list that the verdict answers
+  fails : List ℕ → ℕ → ℕ → List ℕ → Case
+
+abbrev pub Holds : Case → Type 0
+Holds (reads file lent says) = readFile file lent ≡ says
+Holds (same file row) =
+    (rowOf file ≡ row) × (fileOf row ≡ file) × (readFile file (length row) ≡ gives (length row)) × (writeFile row (length file) ≡ gives (length file))
+Holds (plays row cuts n events) =
+    (replay row cuts (length events) ≡ gives n) × (eventRow (planOf row) cuts ≡ events)
+Holds (follows row cuts n m kinds time) =
+    (replay row cuts 16 ≡ gives n) × (kindsOf 2 m 4 (eventRow (planOf row) cuts) ≡ kinds) × (arrivesAt kinds ≡ time)
+Holds (spares row m p z) = (maySpare row m p ≡ gives 0) × (slack row m p ≡ z)
+Holds (fails row k l cuts) = FirstFailing (planOf row) k l cuts
+
+abbrev pub table : List Case
+table =
+    same fileB rowB ∷
+    reads (fileWith 0x10 0x01) 25 (refused 4 129) ∷
+    reads [] 25 (refused 2 0) ∷
+    reads (fileWith 0x20 0x00) 25 (refused 1 0) ∷
+    plays rowB (0 ∷ 0 ∷ []) 2
+    (3 ∷ 1 ∷ 5 ∷ 0 ∷ 3 ∷ 2 ∷ 3 ∷ 1 ∷ 0 ∷ 0 ∷ 3 ∷ 2 ∷ 0 ∷ 0 ∷ 0 ∷ 0 ∷ []) ∷
+    follows rowB (1 ∷ 0 ∷ []) 2 1 (1 ∷ 3 ∷ 3 ∷ 0 ∷ []) 3 ∷
+    spares rowB 0 0 (pos 2) ∷
+    spares rowB 1 0 (negsuc 0) ∷
+    follows rowB (0 ∷ 0 ∷ []) 2 1 (5 ∷ 3 ∷ 3 ∷ 0 ∷ []) 3 ∷
+    plays rowA [] 2
+    (2 ∷ 0 ∷ 2 ∷ 2 ∷ 2 ∷ 1 ∷ 2 ∷ 3 ∷ 0 ∷ 0 ∷ 0 ∷ 0 ∷ 0 ∷ 0 ∷ 0 ∷ 0 ∷ []) ∷
+    follows rowA (0 ∷ 0 ∷ []) 2 0 (4 ∷ 3 ∷ 3 ∷ 0 ∷ []) 3 ∷
+    follows rowA (1 ∷ 1 ∷ []) 1 0 (2 ∷ 6 ∷ 6 ∷ 6 ∷ []) 4 ∷
+    []
+
+-- every row of a table holds
+abbrev pub All : List Case → Type 0
+All [] = Unit {0}
+All (c ∷ cs) = Holds c × All cs
