@@ -13,7 +13,7 @@ use Rattle.scope.specs.Cycle.{foremost, tableOf, moves, slot, numbers, p
 use Rattle.scope.specs.Verdict.{FirstFailing, earlier}
 use Rattle.scope.specs.Spare.{entriesOf, entries, hasSecondThrough, lowerThrough, delay}
 use Rattle.scope.specs.Questions.{judge, readFile, writeFile, replay, maySpare, slack}
-use Rattle.scope.specs.Cases.{kindsOf, table, ownTable, All, rowA, rowLate}
+use Rattle.scope.specs.Cases.{kindsOf, table, ownTable, All, rowA, rowLate, rowOrder}
 use Rattle.scope.proofs.First.{every, spared, before-one, before-two}
 
 -- "A: cuts (0,0), (0,2): .. this is the list for k 2, l 1"
@@ -35,6 +35,16 @@ first-of-late =
       few = lit≤ tt;
       fails = lit< tt;
       first = before-one (planOf rowLate) 2 3 3 refl refl (lit≤ tt) 2 0 refl;
+    }
+
+first-of-order : FirstFailing (planOf rowOrder) 1 3 (0 ∷ 3 ∷ [])
+unfolding every spared earlier seek isCut foremost tableOf moves slot positions arrived arrivals numbersAt linksAt placesAt afterPlaces messagesAt afterMessages planOf holds
+first-of-order =
+    record {
+      good = refl;
+      few = lit≤ tt;
+      fails = lit< tt;
+      first = before-one (planOf rowOrder) 3 4 3 refl refl (lit≤ tt) 0 3 refl;
     }
 
 pub cases : All table
@@ -88,4 +98,4 @@ cases = (
 
 pub own-cases : All ownTable
 unfolding seek bitsOf bits numberFrom bytesOf walkBits fieldsOf zeros endsAt walkFile rowOf packed fileOf walkFrom walkRow numbersAt linksAt placesAt afterPlaces messagesAt afterMessages planOf has different areLinks joins visited slotsRise holds taken goodSeconds rules checkCuts isCut foremost tableOf moves slot numbers positions events arrived arrivals eventRow entriesOf entries hasSecondThrough lowerThrough delay judge readFile writeFile replay maySpare slack kindsOf
-own-cases = (first-of-late, ((refl, refl), (refl, ((refl, refl), tt))))
+own-cases = (first-of-late, (first-of-order, ((refl, refl), ((refl, refl), (refl, ((refl, refl), tt))))))

@@ -38,11 +38,16 @@ rowA =
     1 ∷ 0 ∷ 0 ∷ 1 ∷ 1 ∷ 2 ∷ 3 ∷ 1 ∷ 1 ∷ 0 ∷
     1 ∷ 2 ∷ 0 ∷ 1 ∷ 1 ∷ 0 ∷ 1 ∷ 3 ∷ 1 ∷ 0 ∷ []
 
--- Four plans of our own, where the cases marked P let a wrong rule of "Plausible and wrong" through (docs/DECISIONS.md).
+-- Plans of our own, where the cases marked P let a wrong rule of "Plausible and wrong" through (docs/DECISIONS.md).
 
 -- plan B with message 1 in slot 2 and t = 3: no cut before the cycle does harm, and one in slot 2 does
 abbrev pub rowLate : List ℕ
 rowLate = 1 ∷ 2 ∷ 2 ∷ 1 ∷ 2 ∷ 0 ∷ 1 ∷ 0 ∷ 2 ∷ 2 ∷ 1 ∷ 0 ∷ 0 ∷ 0 ∷ 1 ∷ 1 ∷ 1 ∷ 2 ∷ 0 ∷ 0 ∷ 2 ∷ 1 ∷ 1 ∷ 1 ∷ 2 ∷ []
+
+-- the same with a link 3 from 1 to 0 and a message 2 on it in slot 0: a cut in slot 0 of link 3, and one in slot 2 of link 0, each lose one
+abbrev pub rowOrder : List ℕ
+rowOrder =
+    1 ∷ 2 ∷ 3 ∷ 2 ∷ 2 ∷ 0 ∷ 1 ∷ 0 ∷ 2 ∷ 2 ∷ 1 ∷ 1 ∷ 0 ∷ 0 ∷ 0 ∷ 0 ∷ 1 ∷ 1 ∷ 1 ∷ 2 ∷ 0 ∷ 0 ∷ 2 ∷ 1 ∷ 1 ∷ 1 ∷ 2 ∷ 0 ∷ 3 ∷ 0 ∷ 0 ∷ []
 
 -- links 0→1, 1→3, 0→2, 2→1; one message: links 0, 1 in slots 0, 2, second path 2, 3, 1 from place 0, which meets its own entry on link 1
 abbrev pub rowOwn : List ℕ
@@ -133,7 +138,9 @@ table =
 abbrev pub ownTable : List Case
 ownTable =
     fails rowLate 1 2 (2 ∷ 0 ∷ []) ∷
+    fails rowOrder 1 3 (0 ∷ 3 ∷ []) ∷
     follows rowOwn (0 ∷ 0 ∷ []) 1 0 (3 ∷ 3 ∷ 4 ∷ 3 ∷ []) ∷
+    spares rowOwn 0 0 (pos 0) ∷
     comesAndGoes rowB brief 1 (5 ∷ 3 ∷ 3 ∷ 0 ∷ []) ∷
     spares rowTwice 1 0 (pos 3) ∷
     []
