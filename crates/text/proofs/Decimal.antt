@@ -65,6 +65,17 @@ digits-most (suc most) n (suc k) h = by (ltb n 10) refl (digits-most most (n / 1
 pub decimal-most : (n k : ℕ) → n < 10 ^ suc k → length (decimal n) ≤ suc k
 decimal-most n k h = digits-most 20 n k h
 
--- every number that the code holds has at most 20 digits
-pub decimal-fits : (n : ℕ) → n < 2 ^ 64 → length (decimal n) ≤ 20
-decimal-fits n h = decimal-most n 19 (omega arith)
+-- and no number has more than 20
+digits-all : (most n : ℕ) → length (digits most n) ≤ most
+digits-all zero n = let e = ap length (digits-none n) in omega arith
+digits-all (suc most) n = by (ltb n 10) refl (digits-all most (n / 10))
+  where
+    by : (t : Bool) → ltb n 10 ≡ t → length (digits most (n / 10)) ≤ most → length (digits (suc most) n) ≤ suc most
+    by true e r = let l = ap length (digits-small most n (ltb-true n 10 e)) in omega arith
+    by false e r =
+        let l = ap length (digits-large most n (ltb-false n 10 e)) in
+        let a = length-append (digits most (n / 10)) ((48 + n % 10) ∷ []) in
+        omega arith
+
+pub decimal-all : (n : ℕ) → length (decimal n) ≤ 20
+decimal-all n = digits-all 20 n

@@ -1,7 +1,7 @@
 // Text into lent bytes: a byte, a word and a number in decimal, from an index on. Each function lays its text over the buffer as
 // far as the buffer goes and gives the index after the text, so a caller learns how many bytes a text has even where there is no
 // room for it. It leans on `decimal` of document 01 (specs/Lines of `scope`) alone.
-ghost use mathlib.Core.List.{[], _∷_};
+ghost use mathlib.Core.List.{[], _∷_, _++_};
 ghost use Rattle.text.specs.Text.{Puts, Told};
 ghost use Rattle.scope.specs.Lines.{decimal};
 
@@ -41,4 +41,13 @@ pub fn put_decimal(out: &mut [u8], at: usize, n: usize) -> usize
     }
     let next = put_decimal(out, at, n / 10);
     put_byte(out, next, 48 + (n % 10) as u8)
+}
+
+// A number in decimal and the byte after it.
+pub fn put_number(out: &mut [u8], at: usize, n: usize, mark: u8) -> usize
+    requires { ⌜ Told at (decimal n ++ (mark ∷ [])) ⌝ }
+    ensures { λ r. ⌜ Puts (decimal n ++ (mark ∷ [])) (now (out .entry)) (now (out .exit)) at r ⌝ }
+{
+    let next = put_decimal(out, at, n);
+    put_byte(out, next, mark)
 }
