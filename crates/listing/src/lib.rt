@@ -1,12 +1,14 @@
 // The lines that the programs print, laid into lent bytes: document 01, "Programs". `listing` is the whole text of a replay, or of
 // a refusal; it asks nothing of its rows, and refuses with 13 where the buffer is too short. It leans on specs/Lines of `scope`, on
 // `view::number` (the total read of a row) and on `text` (a byte, a word, a number).
-ghost use Prim.Native.Nat.{_≤_, _<_, _^_};
+ghost use Prim.Native.Nat.{_*_, _≤_, _<_, _^_};
+ghost use Rattle.listing.specs.Phrase.{phrase};
 ghost use Rattle.text.specs.Text.{Puts, Told};
 ghost use Rattle.scope.specs.Lines.{eventLine, eventLines, arrivedLine, refusedLine};
-use text::put_byte;
+use text::put_decimal;
 use text::put_number;
 use text::put_word;
+use view::number;
 
 // One event: slot, message, kind and number.
 fn event_line(out: &mut [u8], at: usize, slot: usize, message: usize, kind: usize, number: usize) -> usize
@@ -17,4 +19,47 @@ fn event_line(out: &mut [u8], at: usize, slot: usize, message: usize, kind: usiz
     let b = put_number(out, a, message, b' ');
     let c = put_number(out, b, kind, b' ');
     put_number(out, c, number, b'\n')
+}
+
+// The lines of the first events of a row, where a slot has so many messages.
+fn event_lines(out: &mut [u8], at: usize, messages: usize, events: &[u16], lines: usize) -> usize
+    requires { ⌜ (0 < messages) × (lines < 2 ^ 40) × Told at (eventLines messages (now events) 0 lines) ⌝ }
+    ensures { λ r. ⌜ Puts (eventLines messages (now (events .entry)) 0 lines) (now (out .entry)) (now (out .exit)) at r ⌝ }
+{
+    let mut next = at;
+    let mut j = 0;
+    while j < lines {
+        let kind = number(events, 2 * j);
+        let value = number(events, 2 * j + 1);
+        next = event_line(out, next, j / messages, j % messages, kind, value);
+        j += 1;
+    }
+    next
+}
+
+// Two words with a number after each, and a line feed.
+fn phrase_line(out: &mut [u8], at: usize, v: &[u8], a: usize, w: &[u8], b: usize) -> usize
+    requires { ⌜ Told at (phrase (now v) a (now w) b) ⌝ }
+    ensures { λ r. ⌜ Puts (phrase (now (v .entry)) a (now (w .entry)) b) (now (out .entry)) (now (out .exit)) at r ⌝ }
+{
+    let i = put_word(out, at, v);
+    let j = put_decimal(out, i, a);
+    let k = put_word(out, j, w);
+    put_number(out, k, b, b'\n')
+}
+
+// How many messages arrived, of how many.
+fn arrived_line(out: &mut [u8], at: usize, n: usize, messages: usize) -> usize
+    requires { ⌜ Told at (arrivedLine n messages) ⌝ }
+    ensures { λ r. ⌜ Puts (arrivedLine n messages) (now (out .entry)) (now (out .exit)) at r ⌝ }
+{
+    phrase_line(out, at, b"arrived ", n, b" of ", messages)
+}
+
+// A refusal: its number and its place.
+fn refused_line(out: &mut [u8], at: usize, no: usize, place: usize) -> usize
+    requires { ⌜ Told at (refusedLine no place) ⌝ }
+    ensures { λ r. ⌜ Puts (refusedLine no place) (now (out .entry)) (now (out .exit)) at r ⌝ }
+{
+    phrase_line(out, at, b"refused ", no, b" place ", place)
 }
