@@ -3,15 +3,28 @@
 // `view::number` (the total read of a row) and on `text` (a byte, a word, a number).
 ghost use Prim.Native.Nat.{_*_, _≤_, _<_, _^_};
 ghost use Rattle.listing.specs.Phrase.{phrase};
+ghost use Rattle.listing.specs.Prints.{Prints};
 ghost use Rattle.text.specs.Text.{Puts, Told};
 ghost use Rattle.scope.specs.Lines.{eventLine, eventLines, arrivedLine, refusedLine};
+ghost use Rattle.scope.specs.Lines.{listing as Lines·listing};
+ghost use Rattle.scope.specs.Outcome.{gives, outcomeOf};
+ghost use Rattle.scope.specs.Plan.{planOf};
+use scope::Answer;
+use scope::Refusal;
 use text::put_decimal;
 use text::put_number;
 use text::put_word;
 use view::number;
 
 // One event: slot, message, kind and number.
-fn event_line(out: &mut [u8], at: usize, slot: usize, message: usize, kind: usize, number: usize) -> usize
+fn event_line(
+    out: &mut [u8],
+    at: usize,
+    slot: usize,
+    message: usize,
+    kind: usize,
+    number: usize,
+) -> usize
     requires { ⌜ Told at (eventLine slot message kind number) ⌝ }
     ensures { λ r. ⌜ Puts (eventLine slot message kind number) (now (out .entry)) (now (out .exit)) at r ⌝ }
 {
@@ -62,4 +75,41 @@ fn refused_line(out: &mut [u8], at: usize, no: usize, place: usize) -> usize
     ensures { λ r. ⌜ Puts (refusedLine no place) (now (out .entry)) (now (out .exit)) at r ⌝ }
 {
     phrase_line(out, at, b"refused ", no, b" place ", place)
+}
+
+// The listing of a replay with n arrivals: the header, its events and the arrivals.
+fn replayed(out: &mut [u8], n: usize, row: &[u16], events: &[u16]) -> usize
+    ensures { λ r. ⌜ Puts (Lines·listing (gives n) (planOf (now (row .entry))) (now (events .entry))) (now (out .entry)) (now (out .exit)) 0 r ⌝ }
+{
+    let messages = number(row, 3) + 1;
+    let timeout = number(row, 4) + 1;
+    let first = put_word(out, 0, b"slot message kind number\n");
+    let next = event_lines(out, first, messages, events, timeout * messages);
+    arrived_line(out, next, n, messages)
+}
+
+// The listing of any answer, as far as the buffer goes, and how many bytes it has.
+fn answered(out: &mut [u8], answer: Answer, row: &[u16], events: &[u16]) -> usize
+    ensures { λ r. ⌜ Puts (Lines·listing (outcomeOf answer) (planOf (now (row .entry))) (now (events .entry))) (now (out .entry)) (now (out .exit)) 0 r ⌝ }
+{
+    match answer {
+        Answer::Gives(n) => replayed(out, n, row, events),
+        Answer::Refused(r) => refused_line(out, 0, r.no, r.place),
+    }
+}
+
+// What the replay program prints for the answer of a replay of a plan's row, with its events: how many bytes, or refusal 13 with the
+// bytes needed.
+pub fn listing(answer: Answer, row: &[u16], events: &[u16], out: &mut [u8]) -> Answer
+    ensures { λ r. ⌜ Prints (Lines·listing (outcomeOf answer) (planOf (now (row .entry))) (now (events .entry))) (now (out .entry)) (now (out .exit)) r ⌝ }
+{
+    let needed = answered(&mut out[..0], answer, row, events);
+    if out.len() < needed {
+        return Answer::Refused(Refusal {
+            no: 13,
+            place: needed,
+        });
+    }
+    answered(out, answer, row, events);
+    Answer::Gives(needed)
 }

@@ -55,14 +55,13 @@ loop-less c = search needs
 
 loop-again : tie.Need-loop-again Inv-loop μ-loop
 loop-again c =
-    let l = c .before .before .before .before .before .before .before .loop in
-    (
+    let l = c .before .before .before .before .before .before .before .loop in (
       search needs,
       left-more
-      (left-is
-      (lines-more _ _ _ _ _ _ (c .before .before .before .before .before .before .loop-test .taken) (c .before .before .before .before .before .number .ensures .is) (c .before .before .before .before .number2 .ensures .is))
-      (l .inv .1))
-      (c .before .before .event-line .ensures),
+          (left-is
+          (lines-more _ _ _ _ _ _ (c .before .before .before .before .before .before .loop-test .taken) (c .before .before .before .before .before .number .ensures .is) (c .before .before .before .before .number2 .ensures .is))
+          (l .inv .1))
+          (c .before .before .event-line .ensures),
     )
 
 same-length : tie.Need-same-length Inv-loop μ-loop
