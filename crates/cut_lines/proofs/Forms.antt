@@ -9,8 +9,8 @@ use lib.ListN.{length, getD, drop, drop-of-length-le}
 use lib.Seq.{drop-cons}
 use lib.Dec.{ltb, leb, eqb}
 use borrow.Author.Tests.{lt-ltb, le-ltb, le-leb, lt-leb, eq-eqb, ne-eqb, leb-true, leb-false}
-use Rattle.scope.specs.Lines.{byteAt, isDigit, twoDigits, numberAt, numberSize, hasWord, cutWord}
-use Rattle.cut_lines.specs.Reads.{stands}
+use Rattle.scope.specs.Lines.{byteAt, isDigit, twoDigits, numberAt, numberSize, hasWord, cutWord, isCutLine, slotIndex, spaceIndex, linkIndex, feedIndex}
+use Rattle.cut_lines.specs.Reads.{stands, End}
 
 -- the size and the value of a number whose bytes are a and b
 abbrev pub sizeOf : ℕ → ℕ → ℕ
@@ -105,3 +105,116 @@ stands-cut text i =
     same true true false d = refl
     same true false c d = refl
     same false b c d = refl
+
+-- a chain of tests
+and-false : (a b : Bool) → a ≡ false → (a && b) ≡ false
+and-false a b e = rw e
+
+and-not : (a b : Bool) → b ≡ false → (a && b) ≡ false
+and-not true b e = e
+and-not false b e = refl
+
+module _ (w x e l f : Bool) where
+  five-1 : w ≡ false → (w && x && e && l && f) ≡ false
+  five-1 h = and-false (w && x && e && l) f (and-false (w && x && e) l (and-false (w && x) e (and-false w x h)))
+
+  five-2 : x ≡ false → (w && x && e && l && f) ≡ false
+  five-2 h = and-false (w && x && e && l) f (and-false (w && x && e) l (and-false (w && x) e (and-not w x h)))
+
+  five-3 : e ≡ false → (w && x && e && l && f) ≡ false
+  five-3 h = and-false (w && x && e && l) f (and-false (w && x && e) l (and-not (w && x) e h))
+
+  five-4 : l ≡ false → (w && x && e && l && f) ≡ false
+  five-4 h = and-false (w && x && e && l) f (and-not (w && x && e) l h)
+
+  five-5 : f ≡ false → (w && x && e && l && f) ≡ false
+  five-5 h = and-not (w && x && e && l) f h
+
+  five-all : w ≡ true → x ≡ true → e ≡ true → l ≡ true → f ≡ true → (w && x && e && l && f) ≡ true
+  five-all p q r t u = rw (p, q, r, t, u)
+
+-- the tests of a cut line, with the sizes and bytes that were read
+module _ (text : List ℕ) (i : ℕ) where
+  abbrev slot : Bool
+  slot = ltb 0 (numberSize text (slotIndex i))
+
+  abbrev space : Bool
+  space = eqb (byteAt text (spaceIndex text i)) 32
+
+  abbrev link : Bool
+  link = ltb 0 (numberSize text (linkIndex text i))
+
+  abbrev feed : Bool
+  feed = eqb (byteAt text (feedIndex text i)) 10
+
+  pub no-word : hasWord text i ≡ false → isCutLine text i ≡ false
+  no-word h = five-1 (hasWord text i) slot space link feed h
+
+  module _ (a : ℕ) (p : a ≡ numberSize text (i + 4)) where
+    pub no-slot : a ≡ 0 → isCutLine text i ≡ false
+    no-slot h = five-2 (hasWord text i) slot space link feed (le-ltb 0 (numberSize text (i + 4)) (omega arith))
+
+    pub no-space : (s : ℕ) → s ≡ byteAt text (i + 4 + a) → (s ≡ 32 → ⊥) → isCutLine text i ≡ false
+    no-space s q n =
+        let h : s ≡ byteAt text (spaceIndex text i) = q ∙ ap (λ (k : ℕ). byteAt text (i + 4 + k)) p in
+        five-3 (hasWord text i) slot space link feed (ne-eqb (byteAt text (spaceIndex text i)) 32 (λ e. n (h ∙ e)))
+
+    module _ (b : ℕ) (q : b ≡ numberSize text (i + 4 + a + 1)) where
+      link-is : i + 4 + a + 1 ≡ linkIndex text i
+      link-is = ap (λ (k : ℕ). i + 4 + k + 1) p
+
+      size-link : b ≡ numberSize text (linkIndex text i)
+      size-link = q ∙ ap (λ (k : ℕ). numberSize text k) link-is
+
+      pub feed-is : i + 4 + a + 1 + b ≡ feedIndex text i
+      feed-is = ap (λ (k : ℕ). k + b) link-is ∙ ap (λ (k : ℕ). linkIndex text i + k) size-link
+
+      pub no-link : b ≡ 0 → isCutLine text i ≡ false
+      no-link h =
+          let z : numberSize text (linkIndex text i) ≡ 0 = sym size-link ∙ h in
+          five-4 (hasWord text i) slot space link feed (le-ltb 0 (numberSize text (linkIndex text i)) (omega arith))
+
+      module _ (f : ℕ) (r : f ≡ byteAt text (i + 4 + a + 1 + b)) where
+        byte-feed : f ≡ byteAt text (feedIndex text i)
+        byte-feed = r ∙ ap (λ (k : ℕ). byteAt text k) feed-is
+
+        pub no-feed : (f ≡ 10 → ⊥) → isCutLine text i ≡ false
+        no-feed n = five-5 (hasWord text i) slot space link feed (ne-eqb (byteAt text (feedIndex text i)) 10 (λ e. n (byte-feed ∙ e)))
+
+        pub is-line : hasWord text i ≡ true → (a ≡ 0 → ⊥) → byteAt text (i + 4 + a) ≡ 32 → (b ≡ 0 → ⊥) → f ≡ 10 → isCutLine text i ≡ true
+        is-line w n s m e =
+            let one : 0 < numberSize text (i + 4) = omega arith in
+            let at : byteAt text (spaceIndex text i) ≡ 32 = sym (ap (λ (k : ℕ). byteAt text (i + 4 + k)) p) ∙ s in
+            let size : b ≡ numberSize text (linkIndex text i) = size-link in
+            let two : 0 < numberSize text (linkIndex text i) = omega arith in
+            let end : byteAt text (feedIndex text i) ≡ 10 = sym byte-feed ∙ e in
+            five-all (hasWord text i) slot space link feed w
+            (lt-ltb 0 (numberSize text (i + 4)) one)
+            (eq-eqb (byteAt text (spaceIndex text i)) 32 at)
+            (lt-ltb 0 (numberSize text (linkIndex text i)) two)
+            (eq-eqb (byteAt text (feedIndex text i)) 10 end)
+
+-- the index after a line, as `line_end` tells it
+module _ (text : List ℕ) (i r : ℕ) (p : r ≡ cond (isCutLine text i) (feedIndex text i + 1) 0) where
+  pub end-none : r ≡ 0 → isCutLine text i ≡ false
+  end-none z = by (isCutLine text i) refl p
+    where
+      by : (t : Bool) → isCutLine text i ≡ t → r ≡ cond t (feedIndex text i + 1) 0 → isCutLine text i ≡ false
+      by true e q = absurd (omega arith)
+      by false e q = e
+
+  pub end-line : (r ≡ 0 → ⊥) → isCutLine text i ≡ true
+  end-line n = by (isCutLine text i) refl p
+    where
+      by : (t : Bool) → isCutLine text i ≡ t → r ≡ cond t (feedIndex text i + 1) 0 → isCutLine text i ≡ true
+      by true e q = e
+      by false e q = absurd (n q)
+
+  pub end-is : (r ≡ 0 → ⊥) → r ≡ feedIndex text i + 1
+  end-is n = p ∙ rw (end-line n)
+
+pub is-end : (text : List ℕ) (i r : ℕ) → isCutLine text i ≡ true → r ≡ feedIndex text i + 1 → r ≡ cond (isCutLine text i) (feedIndex text i + 1) 0
+is-end text i r e q = q ∙ rw e
+
+pub no-end : (text : List ℕ) (i : ℕ) → isCutLine text i ≡ false → End text i 0
+no-end text i e = record { is = rw e; near = omega arith }

@@ -7,7 +7,7 @@ ghost use mathlib.Core.Path.{_≡_};
 ghost use lib.ListN.{length};
 ghost use Rattle.cut_lines.specs.Reads.{Byte, Size, End, Cuts};
 ghost use Rattle.cut_lines.specs.Reads.{stands as Reads·stands};
-ghost use Rattle.scope.specs.Lines.{isDigit, numberAt};
+ghost use Rattle.scope.specs.Lines.{isDigit, linkIndex, numberAt};
 
 // The byte at an index, 0 past the end.
 fn byte(text: &[u8], i: usize) -> usize
@@ -77,4 +77,64 @@ fn number_at(text: &[u8], i: usize) -> u16
         return (a * 10 + digit(b)) as u16;
     }
     a as u16
+}
+
+// The index after the cut line at an index, or 0 where no such line stands there.
+fn line_end(text: &[u8], i: usize) -> usize
+    requires { ⌜ i + 10 < 2 ^ 64 ⌝ }
+    ensures { λ r. ⌜ End (now (text .entry)) i r ⌝ }
+{
+    if !stands(text, i, b"cut ") {
+        return 0;
+    }
+    let a = number_size(text, i + 4);
+    if a == 0 {
+        return 0;
+    }
+    if byte(text, i + 4 + a) != 32 {
+        return 0;
+    }
+    let b = number_size(text, i + 4 + a + 1);
+    if b == 0 {
+        return 0;
+    }
+    if byte(text, i + 4 + a + 1 + b) != 10 {
+        return 0;
+    }
+    i + 4 + a + 1 + b + 1
+}
+
+// The link of the cut line at an index.
+fn link_at(text: &[u8], i: usize) -> u16
+    requires { ⌜ i + 10 < 2 ^ 64 ⌝ }
+    ensures { λ r. ⌜ r ≡ numberAt (now (text .entry)) (linkIndex (now (text .entry)) i) ⌝ }
+{
+    let a = number_size(text, i + 4);
+    number_at(text, i + 4 + a + 1)
+}
+
+// The cuts of a text, a pair a line, of as many lines as the buffer has room for pairs: how many numbers were written. A line of
+// another form ends them with a lone 0.
+pub fn cuts(text: &[u8], out: &mut [u16]) -> usize
+    ensures { λ r. ⌜ Cuts (now (text .entry)) (now (out .entry)) (now (out .exit)) r ⌝ }
+{
+    let mut lines = out.len() / 2;
+    let mut i = 0;
+    let mut n = 0;
+    while 0 < lines {
+        if text.len() <= i {
+            return n;
+        }
+        let end = line_end(text, i);
+        if end == 0 {
+            out[n] = 0;
+            return n + 1;
+        }
+        out[n] = number_at(text, i + 4);
+        out[n + 1] = link_at(text, i);
+        n += 2;
+        i = end;
+        lines -= 1;
+    }
+    n
 }
