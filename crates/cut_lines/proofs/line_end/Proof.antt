@@ -7,11 +7,6 @@ use native.Mathlib.Omega.{arith}
 use Rattle.cut_lines.proofs.Forms.{stands-cut, no-word, no-slot, no-space, no-link, no-feed, is-line, feed-is, is-end, no-end}
 use Rattle.cut_lines.proofs.line_end.Statement.{statement}
 use Rattle.cut_lines.proofs.line_end.Tie as tie
-use Rattle.cut_lines.proofs.line_end.Reads as reads
-use Rattle.cut_lines.proofs.line_end.Lts as lts
-use Rattle.cut_lines.proofs.byte.Reads as byte-reads
-use Rattle.cut_lines.proofs.number_size.Reads as number-size-reads
-use Rattle.cut_lines.proofs.stands.Reads as stands-reads
 
 slice-aggregate-stands : tie.Need-slice-aggregate-stands
 slice-aggregate-stands c = search needs
@@ -107,11 +102,11 @@ returns-6 c =
     let b = c .before .before .before .number-size2 .ensures in
     record {
       is =
-        is-end (c .before .before .before .before .before .before .before .before .before .before .before .before .args .text .now) (c .before .before .before .before .before .before .before .before .before .before .before .before .args .i) _
-        (is-line (c .before .before .before .before .before .before .before .before .before .before .before .before .args .text .now) (c .before .before .before .before .before .before .before .before .before .before .before .before .args .i) (c .before .before .before .before .before .before .before .number-size .result) (a .is) (c .before .before .before .number-size2 .result) (b .is) (c .before .byte2 .result) (c .before .byte2 .ensures .is)
-        (sym (stands-cut (c .before .before .before .before .before .before .before .before .before .before .before .before .args .text .now) (c .before .before .before .before .before .before .before .before .before .before .before .before .args .i)) ∙ sym (c .before .before .before .before .before .before .before .before .before .stands .ensures) ∙ not-false _ (c .before .before .before .before .before .before .before .before .if1 .left))
-        (c .before .before .before .before .before .before .if2 .left) (sym (c .before .before .before .before .before .byte .ensures .is) ∙ c .before .before .before .before .if3 .left) (c .before .before .if4 .left) (c .if5 .left))
-        (ap (_+ 1) (feed-is (c .before .before .before .before .before .before .before .before .before .before .before .before .args .text .now) (c .before .before .before .before .before .before .before .before .before .before .before .before .args .i) (c .before .before .before .before .before .before .before .number-size .result) (a .is) (c .before .before .before .number-size2 .result) (b .is)));
+          is-end (c .before .before .before .before .before .before .before .before .before .before .before .before .args .text .now) (c .before .before .before .before .before .before .before .before .before .before .before .before .args .i) _
+          (is-line (c .before .before .before .before .before .before .before .before .before .before .before .before .args .text .now) (c .before .before .before .before .before .before .before .before .before .before .before .before .args .i) (c .before .before .before .before .before .before .before .number-size .result) (a .is) (c .before .before .before .number-size2 .result) (b .is) (c .before .byte2 .result) (c .before .byte2 .ensures .is)
+          (sym (stands-cut (c .before .before .before .before .before .before .before .before .before .before .before .before .args .text .now) (c .before .before .before .before .before .before .before .before .before .before .before .before .args .i)) ∙ sym (c .before .before .before .before .before .before .before .before .before .stands .ensures) ∙ not-false _ (c .before .before .before .before .before .before .before .before .if1 .left))
+          (c .before .before .before .before .before .before .if2 .left) (sym (c .before .before .before .before .before .byte .ensures .is) ∙ c .before .before .before .before .if3 .left) (c .before .before .if4 .left) (c .if5 .left))
+          (ap (_+ 1) (feed-is (c .before .before .before .before .before .before .before .before .before .before .before .before .args .text .now) (c .before .before .before .before .before .before .before .before .before .before .before .before .args .i) (c .before .before .before .before .before .before .before .number-size .result) (a .is) (c .before .before .before .number-size2 .result) (b .is)));
       near = omega arith;
     }
 

@@ -5,10 +5,6 @@ use borrow.Author.Needs.{needs}
 use Rattle.scope.specs.Lines.{numberAt}
 use Rattle.cut_lines.proofs.link_at.Statement.{statement}
 use Rattle.cut_lines.proofs.link_at.Tie as tie
-use Rattle.cut_lines.proofs.link_at.Reads as reads
-use Rattle.cut_lines.proofs.link_at.Lts as lts
-use Rattle.cut_lines.proofs.number_at.Reads as number-at-reads
-use Rattle.cut_lines.proofs.number_size.Reads as number-size-reads
 
 add-number-size : tie.Need-add-number-size
 add-number-size c = search needs
