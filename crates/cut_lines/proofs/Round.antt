@@ -221,3 +221,139 @@ cuts-back cuts small =
     let z : 0 + length (cutLines cuts) ≡ length (cutLines cuts) = omega arith in
     lines-read small (cutLines cuts) (length (cutLines cuts)) 0 (lines-many small) z
     (λ k h. let e : 0 + k ≡ k = omega arith in ap (byteAt (cutLines cuts)) e)
+
+-- a number that is read was printed so
+record Printed (text : List ℕ) (i : ℕ) : Type 0 where
+  most : numberAt text i ≤ 63
+  size : numberSize text i ≡ length (decimal (numberAt text i))
+  bytes : Bytes text i (decimal (numberAt text i))
+
+module _ (text : List ℕ) (i : ℕ) where
+  number-there : 0 < numberSize text i → Printed text i
+  number-there h =
+      by (isDigit (byteAt text i)) (isDigit (byteAt text (i + 1))) (ltb 48 (byteAt text i))
+      (leb ((byteAt text i - 48) * 10 + (byteAt text (i + 1) - 48)) 63) refl refl refl refl h
+    where
+      one : isDigit (byteAt text i) ≡ true → isDigit (byteAt text (i + 1)) ≡ false → Printed text i
+      one p q =
+          let low = digit-low (byteAt text i) p in
+          let high = digit-high (byteAt text i) p in
+          let size : numberSize text i ≡ 1 = size-one (byteAt text i) (byteAt text (i + 1)) p q in
+          let value : numberAt text i ≡ byteAt text i - 48 = value-one (byteAt text i) (byteAt text (i + 1)) q in
+          let back : 48 + numberAt text i ≡ byteAt text i = omega arith in
+          let digits : decimal (numberAt text i) ≡ byteAt text i ∷ [] =
+            decimal-small (numberAt text i) (omega arith) ∙ ap (λ (x : ℕ). x ∷ []) back
+          in
+          record {
+            most = omega arith;
+            size = size ∙ sym (ap length digits);
+            bytes = rw digits (bytes-one text i (byteAt text i) refl);
+          }
+
+      two : isDigit (byteAt text i) ≡ true → isDigit (byteAt text (i + 1)) ≡ true → 48 < byteAt text i →
+          (byteAt text i - 48) * 10 + (byteAt text (i + 1) - 48) ≤ 63 → Printed text i
+      two p q f g =
+          let low = digit-low (byteAt text (i + 1)) q in
+          let high = digit-high (byteAt text (i + 1)) q in
+          let size : numberSize text i ≡ 2 = size-two (byteAt text i) (byteAt text (i + 1)) p q f g in
+          let value : numberAt text i ≡ (byteAt text i - 48) * 10 + (byteAt text (i + 1) - 48) = value-two (byteAt text i) (byteAt text (i + 1)) q in
+          let front : 48 + numberAt text i / 10 ≡ byteAt text i = omega arith in
+          let back : 48 + numberAt text i % 10 ≡ byteAt text (i + 1) = omega arith in
+          let digits : decimal (numberAt text i) ≡ byteAt text i ∷ byteAt text (i + 1) ∷ [] =
+            decimal-two (numberAt text i) (omega arith) (omega arith) ∙ rw (front, back)
+          in
+          record {
+            most = omega arith;
+            size = size ∙ sym (ap length digits);
+            bytes = rw digits (bytes-cons text i (byteAt text i) (byteAt text (i + 1) ∷ []) refl (bytes-one text (i + 1) (byteAt text (i + 1)) refl));
+          }
+
+      by : (t u v w : Bool) → isDigit (byteAt text i) ≡ t → isDigit (byteAt text (i + 1)) ≡ u → ltb 48 (byteAt text i) ≡ v →
+          leb ((byteAt text i - 48) * 10 + (byteAt text (i + 1) - 48)) 63 ≡ w → 0 < cond t (cond u (cond (v && w) 2 0) 1) 0 → Printed text i
+      by true true true true p q r x h = two p q (ltb-true 48 (byteAt text i) r) (leb-true ((byteAt text i - 48) * 10 + (byteAt text (i + 1) - 48)) 63 x)
+      by true true true false p q r x h = absurd (omega arith)
+      by true true false w p q r x h = absurd (omega arith)
+      by true false v w p q r x h = one p q
+      by false u v w p q r x h = absurd (omega arith)
+
+-- tests that hold together hold each
+and-split : (a b : Bool) → (a && b) ≡ true → (a ≡ true) × (b ≡ true)
+and-split true b e = (refl, e)
+and-split false b e = absurd (let z : _≡_ {A = ℕ} 0 1 = cc in omega arith)
+
+-- a byte that is not 0 lies within the text
+byte-inside : (text : List ℕ) (j x : ℕ) → byteAt text j ≡ x → 0 < x → j < length text
+byte-inside text j x p h = by (ltb j (length text)) refl
+  where
+    by : (t : Bool) → ltb j (length text) ≡ t → j < length text
+    by true e = ltb-true j (length text) e
+    by false e =
+        let z : byteAt text j ≡ 0 = List·getD-eq-default text 0 (ltb-false j (length text) e) in
+        absurd (omega arith)
+
+-- the parts of a line, one after the other
+assemble : (text : List ℕ) (i s e : ℕ) → byteAt text i ≡ 99 → byteAt text (i + 1) ≡ 117 → byteAt text (i + 2) ≡ 116 → byteAt text (i + 3) ≡ 32 →
+    Bytes text (i + 4) (decimal s) → byteAt text (i + 4 + length (decimal s)) ≡ 32 →
+    Bytes text (i + 4 + length (decimal s) + 1) (decimal e) →
+    byteAt text (i + 4 + length (decimal s) + 1 + length (decimal e)) ≡ 10 → Bytes text i (cutLine s e)
+assemble text i s e a b c d slot gap link feed =
+    bytes-append text i cutWord (afterWord s e) word
+    (bytes-append text (i + 4) (decimal s) (32 ∷ (decimal e ++ (10 ∷ []))) slot
+    (bytes-cons text (i + 4 + length (decimal s)) 32 (decimal e ++ (10 ∷ [])) gap
+    (bytes-append text (i + 4 + length (decimal s) + 1) (decimal e) (10 ∷ []) link
+    (bytes-one text (i + 4 + length (decimal s) + 1 + length (decimal e)) 10 feed))))
+  where
+    word : Bytes text i cutWord
+    word zero h = let z : i + 0 ≡ i = omega arith in ap (byteAt text) z ∙ a
+    word (suc zero) h = b
+    word (suc (suc zero)) h = c
+    word (suc (suc (suc zero))) h = d
+    word (suc (suc (suc (suc k)))) h = absurd (omega arith)
+
+-- a line of slot s and link e stands at index i of a text
+pub record CutLineAt (text : List ℕ) (i s e : ℕ) : Type 0 where
+  pub slot : s ≤ 63
+  pub link : e ≤ 63
+  pub stands : take (length (cutLine s e)) (drop i text) ≡ cutLine s e
+
+-- exactly where a line stands, `isCutLine` holds: with the numbers that are read, and only with them
+pub line-holds : (text : List ℕ) (i s e : ℕ) → CutLineAt text i s e → isCutLine text i ≡ true
+line-holds text i s e c = line-here text i s e (c .slot) (c .link) (stand-bytes text i (cutLine s e) (c .stands)) .is
+
+pub line-slot : (text : List ℕ) (i s e : ℕ) → CutLineAt text i s e → numberAt text (slotIndex i) ≡ s
+line-slot text i s e c = line-here text i s e (c .slot) (c .link) (stand-bytes text i (cutLine s e) (c .stands)) .slot
+
+pub line-link : (text : List ℕ) (i s e : ℕ) → CutLineAt text i s e → numberAt text (linkIndex text i) ≡ e
+line-link text i s e c = line-here text i s e (c .slot) (c .link) (stand-bytes text i (cutLine s e) (c .stands)) .link
+
+pub line-stands : (text : List ℕ) (i : ℕ) → isCutLine text i ≡ true → CutLineAt text i (numberAt text (slotIndex i)) (numberAt text (linkIndex text i))
+line-stands text i h =
+    let t₅ = and-split (hasWord text i && ltb 0 (numberSize text (slotIndex i)) && eqb (byteAt text (spaceIndex text i)) 32 && ltb 0 (numberSize text (linkIndex text i))) (eqb (byteAt text (feedIndex text i)) 10) h in
+    let t₄ = and-split (hasWord text i && ltb 0 (numberSize text (slotIndex i)) && eqb (byteAt text (spaceIndex text i)) 32) (ltb 0 (numberSize text (linkIndex text i))) (t₅ .0) in
+    let t₃ = and-split (hasWord text i && ltb 0 (numberSize text (slotIndex i))) (eqb (byteAt text (spaceIndex text i)) 32) (t₄ .0) in
+    let t₂ = and-split (hasWord text i) (ltb 0 (numberSize text (slotIndex i))) (t₃ .0) in
+    let w₄ = and-split (eqb (byteAt text i) 99 && eqb (byteAt text (i + 1)) 117 && eqb (byteAt text (i + 2)) 116) (eqb (byteAt text (i + 3)) 32) (t₂ .0) in
+    let w₃ = and-split (eqb (byteAt text i) 99 && eqb (byteAt text (i + 1)) 117) (eqb (byteAt text (i + 2)) 116) (w₄ .0) in
+    let w₂ = and-split (eqb (byteAt text i) 99) (eqb (byteAt text (i + 1)) 117) (w₃ .0) in
+    let s = number-there text (slotIndex i) (ltb-true 0 (numberSize text (slotIndex i)) (t₂ .1)) in
+    let e = number-there text (linkIndex text i) (ltb-true 0 (numberSize text (linkIndex text i)) (t₄ .1)) in
+    let feed : byteAt text (feedIndex text i) ≡ 10 = eqb-true (byteAt text (feedIndex text i)) 10 (t₅ .1) in
+    let gap : byteAt text (spaceIndex text i) ≡ 32 = eqb-true (byteAt text (spaceIndex text i)) 32 (t₃ .1) in
+    let m = numberAt text (slotIndex i) in
+    let n = numberAt text (linkIndex text i) in
+    let space : spaceIndex text i ≡ i + 4 + length (decimal m) = ap (λ (k : ℕ). i + 4 + k) (s .size) in
+    let link : linkIndex text i ≡ i + 4 + length (decimal m) + 1 = ap (λ (k : ℕ). k + 1) space in
+    let last : feedIndex text i ≡ i + 4 + length (decimal m) + 1 + length (decimal n) = ap (λ (k : ℕ). linkIndex text i + k) (e .size) ∙ ap (λ (k : ℕ). k + length (decimal n)) link in
+    let inside = byte-inside text (feedIndex text i) 10 feed (omega arith) in
+    let size = line-size m n in
+    record {
+      slot = s .most;
+      link = e .most;
+      stands =
+        bytes-stand text i (cutLine m n) (omega arith)
+        (assemble text i m n
+        (eqb-true (byteAt text i) 99 (w₂ .0)) (eqb-true (byteAt text (i + 1)) 117 (w₂ .1)) (eqb-true (byteAt text (i + 2)) 116 (w₃ .1)) (eqb-true (byteAt text (i + 3)) 32 (w₄ .1))
+        (s .bytes) (sym (ap (byteAt text) space) ∙ gap)
+        (λ k g. ap (λ (x : ℕ). byteAt text (x + k)) (sym link) ∙ e .bytes k g)
+        (sym (ap (byteAt text) last) ∙ feed));
+    }
