@@ -1,6 +1,6 @@
 -- What is read is what is printed: `isCutLine` holds exactly where a `cutLine` of numbers of at most 63 stands, and the lines of a list
 -- of cuts give the list back.
-use Prim.Native.Nat.{ℕ, zero, suc, _+_, _-_, _*_, _/_, _%_, _^_, _≤_, _<_}
+use Prim.Native.Nat.{ℕ, zero, suc, _+_, _-_, _*_, _/_, _%_, _≤_, _<_}
 use mathlib.Core.Path.{_≡_, refl, sym, _∙_, ap}
 use mathlib.Core.Bool.{Bool, true, false, cond, _&&_}
 use mathlib.Core.List.{List, [], _∷_, _++_, append-assoc}
@@ -8,10 +8,10 @@ use native.Mathlib.Omega.{arith}
 use lib.ListN.{length, getD, take, drop, length-append, length-drop, List·getD-append, List·getD-eq-default}
 use lib.Seq.{getD-append-add, getD-take, getD-drop, ext-getD, length-take-le}
 use lib.Dec.{ltb, leb, eqb}
-use borrow.Author.Tests.{lt-ltb, le-ltb, le-leb, lt-leb, eq-eqb, ne-eqb, ltb-true, ltb-false, leb-true, eqb-true}
+use borrow.Author.Tests.{le-leb, ltb-true, ltb-false, leb-true, eqb-true}
 use Rattle.scope.specs.Lines.{byteAt, decimal, isDigit, numberAt, numberSize, hasWord, cutWord, cutLine, isCutLine, slotIndex, spaceIndex, linkIndex, feedIndex, cutsFrom, cutsOf, cutLines}
 use Rattle.text.proofs.Decimal.{decimal-small, decimal-large}
-use Rattle.cut_lines.proofs.Forms.{sizeOf, valueOf, size-one, size-two, value-one, value-two, digit-low, digit-high, is-line, feed-is}
+use Rattle.cut_lines.proofs.Forms.{size-one, size-two, value-one, value-two, digit-low, digit-high, is-line, feed-is}
 use Rattle.cut_lines.proofs.Lines.{cuts-end, cuts-line}
 
 -- the bytes of a text from index i on begin with a list
@@ -100,7 +100,7 @@ number-here text i s mark g m h = by (ltb s 10) refl
         let h′ : Bytes text i ((48 + s / 10) ∷ (48 + s % 10) ∷ mark ∷ []) = rw e at h in
         let a : byteAt text i ≡ 48 + s / 10 = bytes-first text i (48 + s / 10) ((48 + s % 10) ∷ mark ∷ []) h′ in
         let b : byteAt text (i + 1) ≡ 48 + s % 10 =
-          bytes-first text (i + 1) (48 + s % 10) (mark ∷ []) (bytes-next text i (48 + s / 10) ((48 + s % 10) ∷ mark ∷ []) h′)
+        bytes-first text (i + 1) (48 + s % 10) (mark ∷ []) (bytes-next text i (48 + s / 10) ((48 + s % 10) ∷ mark ∷ []) h′)
         in
         let v : (48 + s / 10 - 48) * 10 + (48 + s % 10 - 48) ≡ s = omega arith in
         let f = digit-is (s / 10) (omega arith) in
@@ -168,8 +168,8 @@ module _ (text : List ℕ) (i : ℕ) where
       let size = line-size s e in
       record {
         is =
-          is-line text i (length (decimal s)) (sym (one .size)) (length (decimal e)) (sym (two .size)) 10 (sym end)
-          (word-here (afterWord s e) h) (λ z. omega arith) gap (λ z. omega arith) refl;
+            is-line text i (length (decimal s)) (sym (one .size)) (length (decimal e)) (sym (two .size)) 10 (sym end)
+            (word-here (afterWord s e) h) (λ z. omega arith) gap (λ z. omega arith) refl;
         slot = one .value;
         link = ap (λ (k : ℕ). numberAt text k) link ∙ two .value;
         end = omega arith;
@@ -202,8 +202,8 @@ lines-read (pair {s} {e} {cuts} p q r) text (suc n) i g t h =
     let all = ap length (lines-pair s e cuts) ∙ length-append (cutLine s e) (cutLines cuts) in
     let end = here .end in
     let rest : cutsFrom n text (feedIndex text i + 1) ≡ cuts =
-      ap (λ (k : ℕ). cutsFrom n text k) end
-      ∙ lines-read r text n (i + length (cutLine s e)) (omega arith) (omega arith) (bytes-right text i (cutLine s e) (cutLines cuts) h′)
+    ap (λ (k : ℕ). cutsFrom n text k) end
+    ∙ lines-read r text n (i + length (cutLine s e)) (omega arith) (omega arith) (bytes-right text i (cutLine s e) (cutLines cuts) h′)
     in
     cuts-line text n i (omega arith) (here .is) ∙ rw (here .slot, here .link, rest)
 
@@ -242,7 +242,7 @@ module _ (text : List ℕ) (i : ℕ) where
           let value : numberAt text i ≡ byteAt text i - 48 = value-one (byteAt text i) (byteAt text (i + 1)) q in
           let back : 48 + numberAt text i ≡ byteAt text i = omega arith in
           let digits : decimal (numberAt text i) ≡ byteAt text i ∷ [] =
-            decimal-small (numberAt text i) (omega arith) ∙ ap (λ (x : ℕ). x ∷ []) back
+          decimal-small (numberAt text i) (omega arith) ∙ ap (λ (x : ℕ). x ∷ []) back
           in
           record {
             most = omega arith;
@@ -260,7 +260,7 @@ module _ (text : List ℕ) (i : ℕ) where
           let front : 48 + numberAt text i / 10 ≡ byteAt text i = omega arith in
           let back : 48 + numberAt text i % 10 ≡ byteAt text (i + 1) = omega arith in
           let digits : decimal (numberAt text i) ≡ byteAt text i ∷ byteAt text (i + 1) ∷ [] =
-            decimal-two (numberAt text i) (omega arith) (omega arith) ∙ rw (front, back)
+          decimal-two (numberAt text i) (omega arith) (omega arith) ∙ rw (front, back)
           in
           record {
             most = omega arith;
@@ -350,10 +350,10 @@ line-stands text i h =
       slot = s .most;
       link = e .most;
       stands =
-        bytes-stand text i (cutLine m n) (omega arith)
-        (assemble text i m n
-        (eqb-true (byteAt text i) 99 (w₂ .0)) (eqb-true (byteAt text (i + 1)) 117 (w₂ .1)) (eqb-true (byteAt text (i + 2)) 116 (w₃ .1)) (eqb-true (byteAt text (i + 3)) 32 (w₄ .1))
-        (s .bytes) (sym (ap (byteAt text) space) ∙ gap)
-        (λ k g. ap (λ (x : ℕ). byteAt text (x + k)) (sym link) ∙ e .bytes k g)
-        (sym (ap (byteAt text) last) ∙ feed));
+          bytes-stand text i (cutLine m n) (omega arith)
+          (assemble text i m n
+          (eqb-true (byteAt text i) 99 (w₂ .0)) (eqb-true (byteAt text (i + 1)) 117 (w₂ .1)) (eqb-true (byteAt text (i + 2)) 116 (w₃ .1)) (eqb-true (byteAt text (i + 3)) 32 (w₄ .1))
+          (s .bytes) (sym (ap (byteAt text) space) ∙ gap)
+          (λ k g. ap (λ (x : ℕ). byteAt text (x + k)) (sym link) ∙ e .bytes k g)
+          (sym (ap (byteAt text) last) ∙ feed));
     }

@@ -5,7 +5,7 @@ use mathlib.Core.Bool.{Bool, true, cond, _&&_}
 use mathlib.Core.List.{List, [], _∷_, _++_}
 use lib.ListN.{length, drop}
 use lib.Dec.{eqb}
-use Rattle.scope.specs.Lines.{byteAt, numberAt, numberSize, isCutLine, feedIndex, cutsFrom}
+use Rattle.scope.specs.Lines.{byteAt, numberSize, isCutLine, feedIndex, cutsFrom}
 
 -- r is the byte at an index of a text
 pub record Byte (text : List ℕ) (i r : ℕ) : Type 0 where

@@ -1,11 +1,11 @@
 use borrow.Author.Needs.{needs}
 -- `cut_lines::cuts` meets its contract: what the loop has left are the cuts of the lines from index i on.
 use Prim.Native.Nat.{_+_, _*_, _/_}
-use mathlib.Core.Path.{_≡_, sym, _∙_}
+use mathlib.Core.Path.{_≡_}
 use native.Mathlib.Omega.{arith}
 use lib.ListN.{length, length-set}
 use Rattle.scope.specs.Lines.{cutsFrom}
-use Rattle.text.proofs.Laid.{Left, left-first, left-is, left-more, left-done, left-same}
+use Rattle.text.proofs.Laid.{Left, left-first, left-is, left-more, left-done}
 use Rattle.cut_lines.proofs.Forms.{end-none, end-line, end-is}
 use Rattle.cut_lines.proofs.Lines.{cuts-none, cuts-end, line-more, line-bad, puts-one, puts-two, cuts-done}
 use Rattle.cut_lines.proofs.cuts.Statement.{statement}

@@ -1,8 +1,7 @@
 -- `cut_lines::number_at` meets its contract: a second digit counts where there is one.
-use Prim.Native.Nat.{_+_, _-_, _*_}
-use mathlib.Core.Path.{_≡_, sym, _∙_, ap}
+use Prim.Native.Nat.{_-_}
+use mathlib.Core.Path.{sym, _∙_}
 use borrow.Author.Needs.{needs}
-use native.Mathlib.Omega.{arith}
 use Rattle.cut_lines.proofs.Forms.{value-is, value-one, value-two}
 use Rattle.cut_lines.proofs.number_at.Statement.{statement}
 use Rattle.cut_lines.proofs.number_at.Tie as tie

@@ -1,7 +1,6 @@
 -- `listing::event_lines` meets its contract: what the loop has left are the lines from event j on.
 use Prim.Native.Nat.{_≤_, _-_}
 use borrow.Author.Needs.{needs}
-use native.Mathlib.Omega.{arith}
 use Rattle.scope.specs.Lines.{eventLines}
 use Rattle.text.proofs.Laid.{Left, left-first, left-is, left-told, left-more, left-done, left-same}
 use Rattle.listing.proofs.Lines.{lines-more, lines-done, lines-first}

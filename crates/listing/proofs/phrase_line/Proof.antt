@@ -1,8 +1,5 @@
 -- `listing::phrase_line` meets its contract: word, number, word, and the last number with its line feed.
-use mathlib.Core.List.{_++_, [], _∷_}
 use borrow.Author.Needs.{needs}
-use Rattle.scope.specs.Lines.{decimal}
-use Rattle.text.specs.Text.{Told}
 use Rattle.text.proofs.Laid.{told-first, told-rest, then}
 use Rattle.listing.proofs.phrase_line.Statement.{statement}
 use Rattle.listing.proofs.phrase_line.Tie as tie

@@ -3,7 +3,6 @@ use Prim.Native.Nat.{_+_}
 use mathlib.Core.Path.{ap}
 use borrow.Author.Needs.{needs}
 use native.Mathlib.Omega.{arith}
-use Rattle.text.specs.Text.{Told}
 use Rattle.text.proofs.Laid.{told-first, told-rest, then}
 use Rattle.listing.proofs.Lines.{few-lines, replay-told, replay-parts}
 use Rattle.listing.proofs.replayed.Statement.{statement}

@@ -1,13 +1,12 @@
 -- `text::put_decimal` meets its contract: the last digit comes after the digits of a tenth. The measure is the number.
 use Prim.Native.Nat.{ℕ, _+_, _%_, _/_, _<_}
-use mathlib.Core.Path.{sym}
 use mathlib.Core.List.{[], _∷_}
 use borrow.Author.Needs.{needs}
 use native.Mathlib.Omega.{arith}
 use borrow.Fn.Kinds.{In}
 use borrow.Fn.PlainCycle.{Measures, is, falls, and}
 use Rattle.scope.specs.Lines.{decimal}
-use Rattle.text.specs.Text.{Told, Puts}
+use Rattle.text.specs.Text.{Told}
 use Rattle.text.proofs.Laid.{told-first, told-rest, then}
 use Rattle.text.proofs.Decimal.{decimal-small, decimal-large}
 use Rattle.text.proofs.put_decimal.Reads as put-decimal
