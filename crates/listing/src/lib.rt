@@ -98,6 +98,9 @@ fn answered(out: &mut [u8], answer: Answer, row: &[u16], events: &[u16]) -> usiz
     }
 }
 
+// Bytes enough for every listing of a plan of at most 32 messages and timeout of at most 64 (proofs/Room).
+pub const ROOM: usize = 36942;
+
 // What the replay program prints for the answer of a replay of a plan's row, with its events: how many bytes, or refusal 13 with the
 // bytes needed.
 pub fn listing(answer: Answer, row: &[u16], events: &[u16], out: &mut [u8]) -> Answer
