@@ -1,0 +1,5 @@
+pub mod Forms
+pub mod Lines
+pub mod Round
+pub mod Pigeons
+pub mod Enough
