@@ -8,7 +8,7 @@ ghost use Rattle.scope.specs.Bits.{bits, bitsOf};
 ghost use Rattle.bits.specs.Word.{wordAt, mixed, Power, Byte, Within, Read};
 
 // A power of two, no larger than three bytes hold.
-fn power(k: usize) -> usize
+pub fn power(k: usize) -> usize
     requires { ⌜ k ≤ 24 ⌝ }
     ensures { λ r. ⌜ Power k r ⌝ }
 {

@@ -6,9 +6,11 @@ use scope::Refusal;
 ghost use mathlib.Core.Path.{_≡_};
 ghost use Prim.Native.Nat.{ℕ, _+_, _^_, _≤_, _<_};
 ghost use Rattle.scope.specs.Fields as fields;
+ghost use Rattle.scope.specs.Outcome.{outcomeOf, gives, refused};
+ghost use Rattle.scope.specs.Row.{walkRow};
 
 // Where the fields after the edition begin.
-pub fn open() -> Fields
+pub fn opening() -> Fields
     ensures { λ r. ⌜ r ≡ fields.opening ⌝ }
 {
     Fields {
@@ -167,5 +169,43 @@ pub fn step(s: Fields, v: usize) -> Fields
     Fields {
         slot: s.slot,
         next: following(next, v),
+    }
+}
+
+// A refusal, with its number and place.
+fn refuse(no: usize, place: usize) -> Answer
+    ensures { λ r. ⌜ outcomeOf r ≡ refused no place ⌝ }
+{
+    Answer::Refused(Refusal { no, place })
+}
+
+// Refusals 1 to 4 of a row, or how many numbers it has.
+pub fn walk_row(row: &[u16]) -> Answer
+    ensures { λ r. ⌜ outcomeOf r ≡ walkRow (now (row .entry)) ⌝ }
+{
+    if row.len() == 0 {
+        return refuse(2, 0);
+    }
+    if view::number(row, 0) != 1 {
+        return refuse(1, 0);
+    }
+    let mut s = opening();
+    let mut i: usize = 1;
+    while i < row.len() {
+        let w = width(s);
+        if w == 0 {
+            return refuse(4, i);
+        }
+        let v = view::number(row, i);
+        if bits::power(w) <= v {
+            return refuse(3, i);
+        }
+        s = step(s, v);
+        i += 1;
+    }
+    if width(s) == 0 {
+        Answer::Gives(i)
+    } else {
+        refuse(2, i)
     }
 }
