@@ -1,2 +1,4 @@
 pub mod Most
 pub mod Walk
+pub mod Tail
+pub mod Filling

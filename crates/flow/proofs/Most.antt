@@ -6,6 +6,7 @@ use mathlib.Core.Bool.{cond}
 use native.Mathlib.Nat.{mul-le-mul-right}
 use native.Mathlib.Omega.{arith}
 use lib.Dec.{eqb·suc-zero}
+use lib.Pow.{pow-mono}
 use borrow.Author.Tests.{ne-eqb}
 use Rattle.scope.specs.declared.Fields.{Fields}
 use Rattle.scope.specs.declared.Field.{Field}
@@ -119,3 +120,13 @@ width-most s h = by (s .slot) (s .next) h
     by slot (SecondLength p m) h = omega arith
     by slot (SecondLink e p m) h = omega arith
     by slot End h = omega arith
+
+-- a number of at most 16 bits
+pub number-small : (w v : ℕ) → w ≤ 16 → v < 2 ^ w → v < 65536
+number-small w v h l = let most : 2 ^ w ≤ 2 ^ 16 = pow-mono h in omega arith
+
+-- one number fewer can follow, in the words of a loop: w is the width of the field, v what it holds, and t where it leads
+pub fewer : (s t : Fields) (w v : ℕ) → w ≡ width s → (w ≡ 0 → ⊥) → v < 2 ^ w → t ≡ step s v → numbers t < numbers s
+fewer s t w v is some small next =
+    let less = falls (λ w. 1) s v (λ z. some (is ∙ z)) (rw is at small) in
+    rw next (omega arith)

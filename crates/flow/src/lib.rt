@@ -4,10 +4,14 @@ use scope::Field;
 use scope::Fields;
 use scope::Refusal;
 ghost use mathlib.Core.Path.{_≡_};
-ghost use Prim.Native.Nat.{ℕ, _+_, _^_, _≤_, _<_};
+ghost use Prim.Native.Nat.{ℕ, _+_, _*_, _^_, _≤_, _<_};
 ghost use Rattle.scope.specs.Fields as fields;
+ghost use lib.ListN.{length};
 ghost use Rattle.scope.specs.Outcome.{outcomeOf, gives, refused};
 ghost use Rattle.scope.specs.Row.{walkRow};
+ghost use Rattle.scope.specs.Bits.{bits};
+ghost use Rattle.scope.specs.File.{walkBits, endsAt, walkFile};
+ghost use Rattle.flow.specs.Unpack.{Unpacks};
 
 // Where the fields after the edition begin.
 pub fn opening() -> Fields
@@ -207,5 +211,58 @@ pub fn walk_row(row: &[u16]) -> Answer
         Answer::Gives(i)
     } else {
         refuse(2, i)
+    }
+}
+
+// What is found in a file: the answer of its walk, and how many numbers its row has.
+pub struct Unpacked {
+    pub answer: Answer,
+    pub count: usize,
+}
+
+// The walk over the fields after the edition, into the row from index 1 on.
+fn fill(file: &[u8], row: &mut [u16]) -> Unpacked
+    requires { ⌜ (0 < length (now file)) × (10405 ≤ length (now row)) ⌝ }
+    ensures { λ r. ⌜ Unpacks (now (file .entry)) (now (row .entry)) (now (row .exit)) (walkBits (length (bits (now (file .entry)))) fields.opening 4 (bits (now (file .entry)))) r ⌝ }
+{
+    row[0] = 1;
+    let mut s = opening();
+    let mut p: usize = 4;
+    let mut i: usize = 1;
+    loop {
+        let w = width(s);
+        if w == 0 {
+            return Unpacked {
+                answer: Answer::Gives(p),
+                count: i,
+            };
+        }
+        if file.len() < (p + w + 7) / 8 {
+            return Unpacked {
+                answer: refuse(2, p),
+                count: i,
+            };
+        }
+        let v = bits::field(file, p, w);
+        row[i] = v as u16;
+        s = step(s, v);
+        p += w;
+        i += 1;
+    }
+}
+
+// Refusal 4 of a file whose last field ends at a bit of it.
+fn ends(file: &[u8], end: usize) -> Answer
+    requires { ⌜ (end ≤ 8 * length (now file)) × (end < 2 ^ 32) ⌝ }
+    ensures { λ r. ⌜ outcomeOf r ≡ endsAt (bits (now (file .entry))) end ⌝ }
+{
+    let n = (end + 7) / 8;
+    if n < file.len() {
+        return refuse(4, end);
+    }
+    if bits::field(file, end, 8 * n - end) == 0 {
+        Answer::Gives(end)
+    } else {
+        refuse(4, end)
     }
 }
