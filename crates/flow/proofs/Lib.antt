@@ -2,3 +2,5 @@ pub mod Most
 pub mod Walk
 pub mod Tail
 pub mod Filling
+pub mod Accepted
+pub mod Whole

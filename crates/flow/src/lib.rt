@@ -266,3 +266,37 @@ fn ends(file: &[u8], end: usize) -> Answer
         refuse(4, end)
     }
 }
+
+// A file's row into the front of a buffer that has room for the longest, with refusals 1, 2 and 4 of the file, or the bit where its
+// last field ends. What is written is the row as far as the fields go, whether the file is refused or not.
+pub fn unpack(file: &[u8], row: &mut [u16]) -> Unpacked
+    requires { ⌜ 10405 ≤ length (now row) ⌝ }
+    ensures { λ r. ⌜ Unpacks (now (file .entry)) (now (row .entry)) (now (row .exit)) (walkFile (now (file .entry))) r ⌝ }
+{
+    if file.len() == 0 {
+        row[0] = 1;
+        return Unpacked {
+            answer: refuse(2, 0),
+            count: 1,
+        };
+    }
+    let filled = fill(file, row);
+    let answer = filled.answer;
+    let count = filled.count;
+    if bits::field(file, 0, 4) != 1 {
+        return Unpacked {
+            answer: refuse(1, 0),
+            count,
+        };
+    }
+    match answer {
+        Answer::Gives(end) => Unpacked {
+            answer: ends(file, end),
+            count,
+        },
+        Answer::Refused(r) => Unpacked {
+            answer: Answer::Refused(r),
+            count,
+        },
+    }
+}
