@@ -4,3 +4,4 @@ pub mod Tail
 pub mod Filling
 pub mod Accepted
 pub mod Whole
+pub mod Packing

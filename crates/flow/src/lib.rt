@@ -10,8 +10,9 @@ ghost use lib.ListN.{length};
 ghost use Rattle.scope.specs.Outcome.{outcomeOf, gives, refused};
 ghost use Rattle.scope.specs.Row.{walkRow};
 ghost use Rattle.scope.specs.Bits.{bits};
-ghost use Rattle.scope.specs.File.{walkBits, endsAt, walkFile};
+ghost use Rattle.scope.specs.File.{walkBits, endsAt, walkFile, rowBits, fileOf};
 ghost use Rattle.flow.specs.Unpack.{Unpacks};
+ghost use Rattle.flow.specs.Pack.{Complete, Sized, Fitting, Packed};
 
 // Where the fields after the edition begin.
 pub fn opening() -> Fields
@@ -299,4 +300,57 @@ pub fn unpack(file: &[u8], row: &mut [u16]) -> Unpacked
             count,
         },
     }
+}
+
+// How many bits the fields of a row have, its edition's with them.
+pub fn packed_bits(row: &[u16]) -> usize
+    requires { ⌜ Complete (now row) ⌝ }
+    ensures { λ r. ⌜ r ≡ length (rowBits (now (row .entry))) ⌝ }
+{
+    let mut s = opening();
+    let mut p: usize = 4;
+    let mut i: usize = 1;
+    while i < row.len() {
+        p += width(s);
+        s = step(s, view::number(row, i));
+        i += 1;
+    }
+    p
+}
+
+// How many bytes the file of a row has.
+pub fn packed_bytes(row: &[u16]) -> usize
+    requires { ⌜ Complete (now row) ⌝ }
+    ensures { λ r. ⌜ Sized (now (row .entry)) r ⌝ }
+{
+    (packed_bits(row) + 7) / 8
+}
+
+// The edition and the fields of a row into a part of as many bytes as its file has: the bit where they end.
+fn pack_fields(row: &[u16], file: &mut [u8]) -> usize
+    requires { ⌜ Fitting (now row) (now file) ⌝ }
+    ensures { λ r. ⌜ Packed (now (row .entry)) (now (file .exit)) r ⌝ }
+{
+    bits::put(file, 0, 4, 1);
+    let mut s = opening();
+    let mut p: usize = 4;
+    let mut i: usize = 1;
+    while i < row.len() {
+        let w = width(s);
+        let v = view::number(row, i);
+        bits::put(file, p, w, v);
+        s = step(s, v);
+        p += w;
+        i += 1;
+    }
+    p
+}
+
+// The file of a row into a part of exactly as many bytes: every bit of it is written, the zero bits after the last field too.
+pub fn pack(row: &[u16], file: &mut [u8])
+    requires { ⌜ Fitting (now row) (now file) ⌝ }
+    ensures { λ r. ⌜ now (file .exit) ≡ fileOf (now (row .entry)) ⌝ }
+{
+    let end = pack_fields(row, file);
+    bits::put(file, end, 8 * file.len() - end, 0);
 }
