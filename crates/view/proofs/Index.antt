@@ -2,6 +2,7 @@
 use Prim.Native.Nat.{ℕ, zero, suc, _+_, _-_, _*_, _≤_, _<_}
 use mathlib.Core.Path.{_≡_, refl, sym, _∙_, ap}
 use mathlib.Core.List.{List}
+use native.Mathlib.Numerals.{add-one}
 use native.Mathlib.Omega.{arith}
 use borrow.Author.Tests.{eq-eqb, ne-eqb}
 use Rattle.scope.specs.Plan.{at, placeSize, afterPlaces, afterMessage, afterMessages}
@@ -45,3 +46,20 @@ module _ (row : List ℕ) where
   messages-done i n k h =
       let f : n - k ≡ zero = omega arith in
       rw f
+
+  -- one place more, and one message more
+  pub places-suc : (i p : ℕ) → afterPlaces row i (p + 1) ≡ afterPlaces row i p + placeSize row (afterPlaces row i p)
+  unfolding afterPlaces
+  places-suc i p = ap (afterPlaces row i) (add-one p) ∙ more i p
+    where
+      more : (i p : ℕ) → afterPlaces row i (suc p) ≡ afterPlaces row i p + placeSize row (afterPlaces row i p)
+      more i zero = refl
+      more i (suc p) = more (i + placeSize row i) p
+
+  pub messages-suc : (i m : ℕ) → afterMessages row i (m + 1) ≡ afterMessage row (afterMessages row i m)
+  unfolding afterMessages
+  messages-suc i m = ap (afterMessages row i) (add-one m) ∙ more i m
+    where
+      more : (i m : ℕ) → afterMessages row i (suc m) ≡ afterMessage row (afterMessages row i m)
+      more i zero = refl
+      more i (suc m) = more (afterMessage row i) m
