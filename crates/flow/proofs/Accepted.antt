@@ -94,7 +94,7 @@ pub data Goes (bs : List ℕ) (end : ℕ) : ℕ → Fields → ℕ → Type 0 wh
   on : {n : ℕ} {s : Fields} {p : ℕ} → (width s ≡ 0 → ⊥) → p + width s ≤ length bs → Goes bs end n (step s (fieldAt bs p (width s))) (p + width s) →
       Goes bs end (suc n) s p
 
-same-end : (p end : ℕ) → gives p ≡ gives end → p ≡ end
+pub same-end : (p end : ℕ) → gives p ≡ gives end → p ≡ end
 same-end p end e = cc
 
 pub goes : (bs : List ℕ) (end n : ℕ) (s : Fields) (p : ℕ) → walkBits n s p bs ≡ gives end → Goes bs end n s p

@@ -5,3 +5,4 @@ pub mod Filling
 pub mod Accepted
 pub mod Whole
 pub mod Packing
+pub mod Round
