@@ -6,3 +6,4 @@ pub mod Accepted
 pub mod Whole
 pub mod Packing
 pub mod Round
+pub mod Front
