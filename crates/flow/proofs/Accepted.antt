@@ -14,7 +14,7 @@ use Rattle.scope.specs.Row.{walkFrom, walkRow}
 use Rattle.scope.specs.Bits.{bitsOf, bits, fieldAt}
 use Rattle.scope.specs.File.{walkBits, fieldsOf, packed}
 use Rattle.bits.proofs.Laws.{AreBits, field-small, length-bitsOf}
-use Rattle.flow.proofs.Most.{most, numbers, wide, falls, width-most, number-small}
+use Rattle.grammar.proofs.Most.{most, numbers, wide, falls, width-most, number-small}
 use Rattle.flow.proofs.Walk.{bits-end, bits-step, fields-end, fields-step}
 
 pub not-both : {A : Type 0} (n k p : ℕ) → refused k p ≡ gives n → A

@@ -15,10 +15,15 @@ use Rattle.scope.specs.Fields.{width, step, opening, edition}
 use Rattle.scope.specs.Bits.{bits, fieldAt, numberFrom}
 use Rattle.scope.specs.File.{walkBits, endsAt, walkFile}
 use Rattle.bits.proofs.Laws.{AreBits, length-bits, bits-take, are-bits, field-small}
-use Rattle.flow.proofs.Most.{numbers, wide, falls, numbers-opening, wide-opening}
+use Rattle.flow.specs.Longest.{longestFile}
+use Rattle.grammar.proofs.Most.{numbers, wide, falls, numbers-opening, wide-opening}
 use Rattle.flow.proofs.Walk.{bits-end, bits-step}
 use Rattle.flow.proofs.Accepted.{goes, goes-bound}
 use Rattle.flow.proofs.Whole.{file-opens, other-edition}
+
+-- the bits of that many bytes
+abbrev enough : ℕ
+enough = 8 * (longestFile + 1)
 
 -- a field among the first k bits
 field-front : (bs : List ℕ) (k p w : ℕ) → k ≤ length bs → p + w ≤ k → fieldAt (take k bs) p w ≡ fieldAt bs p w
@@ -73,29 +78,29 @@ far : (bs : List ℕ) (end : ℕ) → end + 8 ≤ length bs → endsAt bs end �
 unfolding endsAt
 far bs end l = rw (le-ltb (length bs) (end + 8) l)
 
-pub front-decides : (file : List ℕ) → 7348 < length file → walkFile (take 7349 file) ≡ walkFile file
+pub front-decides : (file : List ℕ) → longestFile < length file → walkFile (take (longestFile + 1) file) ≡ walkFile file
 front-decides file more = by (eqb (fieldAt (bits file) 0 4) edition) refl
   where
     short : List ℕ
-    short = take 7349 file
+    short = take (longestFile + 1) file
 
-    size : length short ≡ 7349
-    size = length-take-le 7349 file more
+    size : length short ≡ (longestFile + 1)
+    size = length-take-le (longestFile + 1) file more
 
-    is : bits short ≡ take 58792 (bits file)
-    is = bits-take 7349 file
+    is : bits short ≡ take enough (bits file)
+    is = bits-take (longestFile + 1) file
 
     all : length (bits file) ≡ 8 * length file
     all = length-bits file
 
-    kept : 58792 ≤ length (bits file)
+    kept : enough ≤ length (bits file)
     kept = omega (arith, all)
 
-    long : length (bits short) ≡ 58792
-    long = ap length is ∙ length-take-le 58792 (bits file) kept
+    long : length (bits short) ≡ enough
+    long = ap length is ∙ length-take-le enough (bits file) kept
 
     same : fieldAt (bits short) 0 4 ≡ fieldAt (bits file) 0 4
-    same = ap (λ (t : List ℕ). fieldAt t 0 4) is ∙ field-front (bits file) 58792 0 4 kept (omega arith)
+    same = ap (λ (t : List ℕ). fieldAt t 0 4) is ∙ field-front (bits file) enough 0 4 kept (omega arith)
 
     some : length short ≡ 0 → ⊥
     some z = omega (arith, size)
@@ -106,7 +111,7 @@ front-decides file more = by (eqb (fieldAt (bits file) 0 4) edition) refl
     walked : walkBits (length (bits short)) opening 4 (bits short) ≡ walkBits (length (bits file)) opening 4 (bits file)
     walked =
         ap (λ (t : List ℕ). walkBits (length (bits short)) opening 4 t) is
-        ∙ walk-front (bits file) 58792 (length (bits short)) (length (bits file)) opening 4 (are-bits file) kept
+        ∙ walk-front (bits file) enough (length (bits short)) (length (bits file)) opening 4 (are-bits file) kept
         (omega (arith, wide-opening)) (omega (arith, numbers-opening, long)) (omega (arith, numbers-opening, kept))
 
     after : (o : Outcome) → walkBits (length (bits file)) opening 4 (bits file) ≡ o → andThen o (endsAt (bits short)) ≡ andThen o (endsAt (bits file))

@@ -1,4 +1,3 @@
-pub mod Most
 pub mod Walk
 pub mod Tail
 pub mod Filling
@@ -7,3 +6,4 @@ pub mod Whole
 pub mod Packing
 pub mod Round
 pub mod Front
+pub mod Theorems

@@ -16,7 +16,8 @@ use Rattle.scope.specs.Row.{walkFrom, walkRow}
 use Rattle.scope.specs.Bits.{bitsOf, bits, fieldAt, numberFrom, bytesOf}
 use Rattle.scope.specs.File.{walkBits, fieldsOf, zeros, endsAt, walkFile, rowOf, packed, rowBits, wholeBytes, fileOf}
 use Rattle.bits.proofs.Laws.{AreBits, AreBytes, length-bitsOf, length-bits, are-bits, are-bitsOf, are-append, field-bits, field-small, number-bitsOf, bytes-bits, bits-bytes}
-use Rattle.flow.proofs.Most.{numbers, numbers-opening, wide, wide-opening}
+use Rattle.flow.specs.Longest.{longestRow, longestFile}
+use Rattle.grammar.proofs.Most.{numbers, numbers-opening, wide, wide-opening}
 use Rattle.flow.proofs.Walk.{bits-end, bits-step, fields-end, fields-step}
 use Rattle.flow.proofs.Tail.{and-split, zeros-are}
 use Rattle.flow.proofs.Accepted.{Walks, done, next, walks, walks-back, walks-numbers, walks-turns, walks-small, Goes, stop, on, goes, goes-inside, goes-bound, goes-walks, not-both, same-end}
@@ -120,7 +121,7 @@ module _ (file : List ℕ) (end : ℕ) (walked : walkFile file ≡ gives end) wh
       ∙ bytes-bits file bytes
 
   -- no accepted file is longer
-  pub file-most : length file ≤ 7348
+  pub file-most : length file ≤ longestFile
   file-most = omega (arith, all, ok .last, goes-bound (are-bits file) (ok .way), wide-opening)
 
 -- a walk over the fields of packed numbers gives them back
@@ -185,10 +186,10 @@ module _ (row : List ℕ) (n : ℕ) (walked : walkRow row ≡ gives n) where
       let whole : walkRow row ≡ gives (1 + length (drop 1 row)) = ap walkRow split ∙ walks-back 1 path in
       omega (arith, same-end n (1 + length (drop 1 row)) (sym walked ∙ whole), long)
 
-  pub row-most : length row ≤ 10405
+  pub row-most : length row ≤ longestRow
   row-most = omega (arith, long, walks-numbers path, numbers-opening)
 
-  pub row-file-most : length (fileOf row) ≤ 7348
+  pub row-file-most : length (fileOf row) ≤ longestFile
   row-file-most = omega (arith, length-file row, row-bits-most row path)
 
   pub row-small : (i : ℕ) → getD row i 0 < 65536
