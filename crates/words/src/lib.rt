@@ -5,7 +5,7 @@ ghost use Prim.Native.Nat.{_+_, _≤_, _<_};
 ghost use lib.ListN.{length};
 ghost use Rattle.words.specs.Within.{Reached, Small};
 
-// How many numbers or bytes a line gave, and whether all of it was in order.
+// How many bytes a word gave, and whether all of it was in order.
 pub struct Count {
     pub n: usize,
     pub good: bool,
@@ -105,9 +105,10 @@ pub fn number(line: &[u8], at: usize) -> Found
     found
 }
 
-// The numbers of a line from an index to its end, each behind one space, into the front of what is lent.
-pub fn numbers(line: &[u8], at: usize, into: &mut [u16]) -> Count
-    ensures { λ r. ⌜ r .n ≤ length (now (into .entry)) ⌝ }
+// The numbers of a line from an index to its end, each behind one space, into the front of what is lent: how many, 0 where the line
+// has anything else.
+pub fn numbers(line: &[u8], at: usize, into: &mut [u16]) -> usize
+    ensures { λ r. ⌜ r ≤ length (now (into .entry)) ⌝ }
 {
     let mut i = at;
     let mut n = 0;
@@ -115,16 +116,16 @@ pub fn numbers(line: &[u8], at: usize, into: &mut [u16]) -> Count
         let found = number(line, i);
         let next = found.next;
         if next <= i {
-            return Count { n, good: false };
+            return 0;
         }
         if into.len() <= n {
-            return Count { n, good: false };
+            return 0;
         }
         into[n] = found.value as u16;
         n += 1;
         i = next;
     }
-    Count { n, good: true }
+    n
 }
 
 // The byte that two hexadecimal digits stand for, 256 where they are none.
@@ -179,6 +180,17 @@ pub fn bytes(word: &[u8], into: &mut [u8]) -> Count
         };
     }
     pairs(word, into)
+}
+
+// What stands behind one space at an index of a line, to its end.
+pub fn last_word(line: &[u8], at: usize) -> &[u8] {
+    if line.len() <= at {
+        return &line[..0];
+    }
+    if line[at] != b' ' {
+        return &line[..0];
+    }
+    &line[at + 1..]
 }
 
 // A word at an index of a buffer, as far as the buffer goes; the index behind it.
