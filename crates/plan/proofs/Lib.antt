@@ -1,2 +1,3 @@
 pub mod Outcomes
 pub mod Copied
+pub mod Ways
