@@ -20,6 +20,7 @@ use Rattle.scope.specs.Questions.{after, judge, readFile, writeFile, secondPath
 use Rattle.view.specs.View.{secondPart}
 use Rattle.flow.proofs.Theorems.{file-row, row-count}
 use Rattle.plan.specs.Answers.{Answers, Accepts, GoodRow}
+use Rattle.plan.proofs.Numbers.{judge-numbered}
 use Rattle.plan.proofs.Outcomes.{then-refused, then-gives, then-back, rules-give, room-there, room-short, after-refused, after-gives}
 
 -- the outcome of an answer that is known
@@ -56,33 +57,33 @@ good-row row n e =
 
 -- accepting a row of the right form
 pub accepted : (row entry exit : List ℕ) (z : ℕ) → rules (planOf row) ≡ gives z → length row ≤ length entry → exit ≡ row ++ drop (length row) entry →
-  Accepts row entry exit (Gives (length row))
+    Accepts row entry exit (Gives (length row))
 accepted row entry exit z h fits written =
     let o : andThen (rules (planOf row)) (λ _. room (length row) (length entry)) ≡ gives (length row) =
-          then-gives (rules (planOf row)) (λ _. room (length row) (length entry)) z h ∙ room-there (length row) (length entry) fits in
+    then-gives (rules (planOf row)) (λ _. room (length row) (length entry)) z h ∙ room-there (length row) (length entry) fits in
     record { answer = sym o; buffer = written ∙ after-gives _ (length row) row entry o }
 
 pub no-room : (row entry : List ℕ) (z : ℕ) → rules (planOf row) ≡ gives z → length entry < length row →
-  Accepts row entry entry (Refused (record { no = 13; place = length row }))
+    Accepts row entry entry (Refused (record { no = 13; place = length row }))
 no-room row entry z h short =
     let o : andThen (rules (planOf row)) (λ _. room (length row) (length entry)) ≡ refused 13 (length row) =
-          then-gives (rules (planOf row)) (λ _. room (length row) (length entry)) z h ∙ room-short (length row) (length entry) short in
+    then-gives (rules (planOf row)) (λ _. room (length row) (length entry)) z h ∙ room-short (length row) (length entry) short in
     record { answer = sym o; buffer = after-refused _ 13 (length row) row entry o }
 
 pub broken : (row entry : List ℕ) (r : Refusal) → rules (planOf row) ≡ refused (r .no) (r .place) → Accepts row entry entry (Refused r)
 broken row entry r h =
     let o : andThen (rules (planOf row)) (λ _. room (length row) (length entry)) ≡ refused (r .no) (r .place) =
-          then-refused (rules (planOf row)) (λ _. room (length row) (length entry)) (r .no) (r .place) h in
+    then-refused (rules (planOf row)) (λ _. room (length row) (length entry)) (r .no) (r .place) h in
     record { answer = sym o; buffer = after-refused _ (r .no) (r .place) row entry o }
 
 -- reading a file
 pub read-on : (file all entry exit : List ℕ) (a : Answer) (end : ℕ) → walkFile file ≡ gives end → all ≡ rowOf file → Accepts all entry exit a →
-  Answers (readFile file (length entry)) (rowOf file) entry exit a
+    Answers (readFile file (length entry)) (rowOf file) entry exit a
 unfolding readFile
 read-on file all entry exit a end e row h = rw (e, ← row) h
 
 pub read-form : (file entry : List ℕ) (r : Refusal) → walkFile file ≡ refused (r .no) (r .place) →
-  Answers (readFile file (length entry)) (rowOf file) entry entry (Refused r)
+    Answers (readFile file (length entry)) (rowOf file) entry entry (Refused r)
 unfolding readFile
 read-form file entry r e =
     let o : readFile file (length entry) ≡ refused (r .no) (r .place) = rw e in
@@ -93,21 +94,21 @@ all-form file all end e row = rw row (file-row file end e)
 
 -- writing a row
 pub written : (row entry exit : List ℕ) (n c : ℕ) → judge row ≡ gives n → c ≡ length (fileOf row) → c ≤ length entry →
-  exit ≡ fileOf row ++ drop c entry → Answers (writeFile row (length entry)) (fileOf row) entry exit (Gives c)
+    exit ≡ fileOf row ++ drop c entry → Answers (writeFile row (length entry)) (fileOf row) entry exit (Gives c)
 unfolding writeFile
 written row entry exit n c e is fits wrote =
     let o : writeFile row (length entry) ≡ gives c = rw (e, ← is) (room-there c (length entry) fits) in
     record { answer = sym o; buffer = wrote ∙ ap (λ k. fileOf row ++ drop k entry) is ∙ after-gives _ c (fileOf row) entry o }
 
 pub write-no-room : (row entry : List ℕ) (n c : ℕ) → judge row ≡ gives n → c ≡ length (fileOf row) → length entry < c →
-  Answers (writeFile row (length entry)) (fileOf row) entry entry (Refused (record { no = 13; place = c }))
+    Answers (writeFile row (length entry)) (fileOf row) entry entry (Refused (record { no = 13; place = c }))
 unfolding writeFile
 write-no-room row entry n c e is short =
     let o : writeFile row (length entry) ≡ refused 13 c = rw (e, ← is) (room-short c (length entry) short) in
     record { answer = sym o; buffer = after-refused _ 13 c (fileOf row) entry o }
 
 pub write-bad : (row entry : List ℕ) (r : Refusal) → judge row ≡ refused (r .no) (r .place) →
-  Answers (writeFile row (length entry)) (fileOf row) entry entry (Refused r)
+    Answers (writeFile row (length entry)) (fileOf row) entry entry (Refused r)
 unfolding writeFile
 write-bad row entry r e =
     let o : writeFile row (length entry) ≡ refused (r .no) (r .place) = rw e in
@@ -118,3 +119,6 @@ pub shown-part : (row : List ℕ) (m p n : ℕ) → judge row ≡ gives n → se
 unfolding secondPath shown
 shown-part row m p n e = rw e
 
+pub shown-none : (row : List ℕ) (m p k q : ℕ) → judge row ≡ refused k q → [] ≡ secondPath row m p
+unfolding secondPath shown
+shown-none row m p k q e = sym (rw (e, ne-eqb k 0 (judge-numbered row k q e)))

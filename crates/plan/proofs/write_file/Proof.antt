@@ -1,55 +1,54 @@
+-- `plan::write_file` meets its contract: the row is judged first, then the room is asked for, then its bytes are packed. Assumes nothing.
+use mathlib.Core.Path.{sym, _∙_, ap}
+use mathlib.Core.List.{_++_}
+use lib.ListN.{drop}
+use lib.Seq.{length-take-le}
 use borrow.Author.Needs.{needs}
+use native.Mathlib.Omega.{arith}
+use Rattle.plan.proofs.Ways as law
 use Rattle.plan.proofs.write_file.Statement.{statement}
 use Rattle.plan.proofs.write_file.Tie as tie
-use Rattle.plan.proofs.write_file.Reads as reads
-use Rattle.plan.proofs.write_file.Lts as lts
-use Rattle.flow.proofs.pack.Reads as pack-reads
-use Rattle.flow.proofs.packed_bytes.Reads as packed-bytes-reads
-use Rattle.plan.proofs.judge.Reads as judge-reads
 
--- src/lib.rt:86:9
 judge-requires : tie.Need-judge-requires
 judge-requires c κs = search needs
 
--- src/lib.rt:89:17
 enum-told : tie.Need-enum-told
 enum-told c = search needs
 
--- src/lib.rt:89:17
 packed-bytes-requires : tie.Need-packed-bytes-requires
-packed-bytes-requires c κs = ?
+packed-bytes-requires c κs = law.good-row _ _ (law.gave _ (c .enum-told .given .1) (c .before .before .judge .ensures)) .form
 
--- src/lib.rt:91:33
 slice-relend-prefix-pack : tie.Need-slice-relend-prefix-pack
 slice-relend-prefix-pack c = search needs
 
--- src/lib.rt:91:33
 slice-aggregate-pack : tie.Need-slice-aggregate-pack
-slice-aggregate-pack c = ?
+slice-aggregate-pack c = sym (length-take-le _ _ (search needs))
 
--- src/lib.rt:91:17
 pack-requires : tie.Need-pack-requires
-pack-requires c κs = ?
+pack-requires c κs =
+    let n = c .before .before .packed-bytes in
+    record {
+      complete = law.good-row _ _ (law.gave _ (c .before .before .before .enum-told .given .1) (c .before .before .before .before .before .judge .ensures)) .form;
+      room = length-take-le _ _ (c .before .if1 .taken) ∙ n .ensures .is;
+    }
 
--- src/lib.rt:97:25
 enum-known-judged : tie.Need-enum-known-judged
 enum-known-judged c = search needs
 
--- src/lib.rt:83:1
 same-length : tie.Need-same-length
 same-length c = search needs
 
--- src/lib.rt:83:1
 returns : tie.Need-returns
-returns c = ?
+returns c =
+    let n = c .before .before .before .before .before .packed-bytes in
+    law.written _ _ _ _ _ (law.gave _ (c .before .before .before .before .before .before .enum-told .given .1) (c .before .before .before .before .before .before .before .before .judge .ensures)) (n .ensures .is) (c .before .before .before .before .if1 .taken)
+    (ap (λ x. x ++ drop (n .result) (c .before .before .before .before .before .before .before .before .before .before .before .args .file .now)) (c .before .before .pack .ensures))
 
--- src/lib.rt:83:1
 returns-2 : tie.Need-returns-2
-returns-2 c = ?
+returns-2 c = law.write-no-room _ _ _ _ (law.gave _ (c .before .before .enum-told .given .1) (c .before .before .before .before .judge .ensures)) (c .before .packed-bytes .ensures .is) (c .if1 .left)
 
--- src/lib.rt:83:1
 returns-3 : tie.Need-returns-3
-returns-3 c = ?
+returns-3 c = law.write-bad _ _ _ (law.refused-as _ (c .before .judged .given .1) (c .before .before .before .judge .ensures))
 
 pub write-file-spec : {M : Type 1} → statement M
 write-file-spec =
