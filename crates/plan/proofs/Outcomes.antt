@@ -31,7 +31,7 @@ same-answer (Refused r) (Refused s) e =
 
 -- two outcomes that a statement allows are equal, the answer and the buffer
 pub only-one : (o : Outcome) (written entry exit exit′ : List ℕ) (r r′ : Answer) →
-  Answers o written entry exit r → Answers o written entry exit′ r′ → (r ≡ r′) × (exit ≡ exit′)
+    Answers o written entry exit r → Answers o written entry exit′ r′ → (r ≡ r′) × (exit ≡ exit′)
 only-one o written entry exit exit′ r r′ a b =
     (same-answer r r′ (a .answer ∙ sym (b .answer)), a .buffer ∙ sym (b .buffer))
 

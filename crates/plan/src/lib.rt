@@ -97,3 +97,15 @@ pub fn write_file(row: &[u16], file: &mut [u8]) -> Answer
         Answer::Refused(r) => Answer::Refused(r),
     }
 }
+
+// The second path of a message from a place, as a part of the row itself: its links only, and no number of them where there is none or
+// the row is bad.
+pub fn second_path(row: &[u16], m: usize, p: usize) -> &[u16]
+    ensures { λ r. ⌜ now r ≡ secondPath (now (row .entry)) m p ⌝ }
+{
+    let judged = judge(row);
+    match judged {
+        Answer::Gives(_) => view::second_path_part(row, m, p),
+        Answer::Refused(_) => &row[..0],
+    }
+}

@@ -39,10 +39,12 @@ loop-less c = search needs
 loop-again : tie.Need-loop-again Inv-loop μ-loop
 loop-again c =
     let a = c .before .before .before .args in
-    let l = c .before .before .loop in
-    (ap (λ x. set x (l .i) (getD (a .from .now) (l .i) 0)) (l .inv .0) ∙
-    law.copied-step (a .from .now) (a .to .now) (c .before .before .before .pre) (l .i) (c .before .loop-test .taken),
-    omega arith, simp length-set (l .inv .2))
+    let l = c .before .before .loop in (
+      ap (λ x. set x (l .i) (getD (a .from .now) (l .i) 0)) (l .inv .0) ∙
+          law.copied-step (a .from .now) (a .to .now) (c .before .before .before .pre) (l .i) (c .before .loop-test .taken),
+      omega arith,
+      simp length-set (l .inv .2),
+    )
 
 same-length : tie.Need-same-length Inv-loop μ-loop
 same-length c = search needs
