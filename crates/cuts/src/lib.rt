@@ -66,3 +66,86 @@ pub fn cut_from(cuts: &[u16]) -> [u16; 64]
     }
     from
 }
+
+// Pair i does not come after the one before it.
+fn falls_at(cuts: &[u16], i: usize) -> bool
+    requires { ⌜ i < 2 ^ 61 ⌝ }
+    ensures { λ r. ⌜ r ≡ falls (now (cuts .entry)) i ⌝ }
+{
+    if i == 0 {
+        return false;
+    }
+    let slot = number(cuts, 2 * i);
+    let before = number(cuts, 2 * (i - 1));
+    if before < slot {
+        return false;
+    }
+    if slot < before {
+        return true;
+    }
+    number(cuts, 2 * i + 1) <= number(cuts, 2 * (i - 1) + 1)
+}
+
+// Pair i names a link that an earlier pair names.
+fn twice(cuts: &[u16], i: usize) -> bool
+    requires { ⌜ i < 2 ^ 61 ⌝ }
+    ensures { λ r. ⌜ r ≡ isTwice (now (cuts .entry)) i ⌝ }
+{
+    let link = number(cuts, 2 * i + 1);
+    let mut j = 0;
+    while j < i {
+        if number(cuts, 2 * j + 1) == link {
+            return true;
+        }
+        j += 1;
+    }
+    false
+}
+
+// Pair i is bad.
+fn bad_pair(timeout: usize, links: usize, cuts: &[u16], i: usize) -> bool
+    requires { ⌜ i < 2 ^ 61 ⌝ }
+    ensures { λ r. ⌜ r ≡ isBad timeout links (now (cuts .entry)) i ⌝ }
+{
+    if cuts.len() == 2 * i + 1 {
+        return true;
+    }
+    if number(cuts, 2 * i) >= timeout {
+        return true;
+    }
+    if number(cuts, 2 * i + 1) >= links {
+        return true;
+    }
+    if falls_at(cuts, i) {
+        return true;
+    }
+    twice(cuts, i)
+}
+
+// The first bad pair, or how many pairs there are.
+fn first_bad(timeout: usize, links: usize, cuts: &[u16]) -> usize
+    ensures { λ r. ⌜ r ≡ lowest (isBad timeout links (now (cuts .entry))) (pairs (now (cuts .entry))) ⌝ }
+{
+    let n = count(cuts);
+    let mut i = 0;
+    while i < n {
+        if bad_pair(timeout, links, cuts, i) {
+            return i;
+        }
+        i += 1;
+    }
+    i
+}
+
+// Refusal 12 of a cut list, for the plan of a row, or how many pairs it has.
+pub fn check(row: &[u16], cuts: &[u16]) -> Answer
+    ensures { λ r. ⌜ outcomeOf r ≡ checkCuts (planOf (now (row .entry))) (now (cuts .entry)) ⌝ }
+{
+    let n = count(cuts);
+    let i = first_bad(view::timeout(row), view::links(row), cuts);
+    if i < n {
+        Answer::Refused(Refusal { no: 12, place: i })
+    } else {
+        Answer::Gives(n)
+    }
+}
