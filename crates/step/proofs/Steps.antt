@@ -1,0 +1,1 @@
+-- Laws of what a message does once it has turned.
