@@ -135,4 +135,114 @@ impl Position {
             self
         }
     }
+
+    // The link that it tries after its turn, plus one; 0 where it tries none.
+    pub fn tries(self, row: &[u16], from: &[u16], slot: Slot) -> u32
+        ensures { λ r. ⌜ r ≡ tries (downOf (now (from .entry)) (slot .0)) (positionOf (now (row .entry)) self) ⌝ }
+    {
+        if self.left == 0 {
+            return 0;
+        }
+        if self.turned {
+            let link = number(row, self.at as usize);
+            if is_down(from, slot.0, link) {
+                0
+            } else {
+                (link + 1) as u32
+            }
+        } else {
+            0
+        }
+    }
+
+    // The next link of the second path that it is on; 0 where there is none.
+    pub fn next_second(self, row: &[u16]) -> usize
+        ensures { λ r. ⌜ r ≡ nextSecond (positionOf (now (row .entry)) self) ⌝ }
+    {
+        if self.left == 0 {
+            return 0;
+        }
+        if self.turned {
+            number(row, self.at as usize)
+        } else {
+            0
+        }
+    }
+
+    // On its first path, past the next place.
+    fn past_place(self, row: &[u16]) -> Position
+        requires { ⌜ (self .turned ≡ false) × (0 < self .left) × (endOf (now row) self < 65536) ⌝ }
+        ensures { λ r. ⌜ Leads (now (row .entry)) self (onFirst (placesAt (now (row .entry)) (self .at + placeSize (now (row .entry)) (self .at)) (self .left - 1))) r ⌝ }
+    {
+        let at = self.at as usize;
+        Position {
+            at: (at + view::place_size(row, at)) as u16,
+            left: self.left - 1,
+            turned: false,
+        }
+    }
+
+    // What it does on its first path, with its next link cut or whole: kinds 6, 2 and 1.
+    fn act_first(self, row: &[u16], slot: Slot, down: bool) -> Moved
+        requires { ⌜ (self .turned ≡ false) × (0 < self .left) × (endOf (now row) self < 65536) ⌝ }
+        ensures { λ r. ⌜ Acts (now (row .entry)) self (onFirstPath down (slot .0) (placeAt (now (row .entry)) (self .at)) (placesAt (now (row .entry)) (self .at + placeSize (now (row .entry)) (self .at)) (self .left - 1))) r ⌝ }
+    {
+        let at = self.at as usize;
+        let link = number(row, at) as u16;
+        if down {
+            let event = Event::Stays(link);
+            Moved { next: self, event }
+        } else if number(row, at + 1) == slot.0 {
+            let next = self.past_place(row);
+            let event = Event::Crosses(link);
+            Moved { next, event }
+        } else {
+            let event = Event::Waits(link);
+            Moved { next: self, event }
+        }
+    }
+
+    // What it does on its second path, with its next link cut or whole: the tests "go in the order 7, 4, 5, 3". `entry` is what the
+    // table has for that link and slot, `first` the lowest message that tries the link, and `m` this message.
+    fn act_second(self, row: &[u16], down: bool, entry: u8, first: u16, m: u16) -> Moved
+        requires { ⌜ (self .turned ≡ true) × (0 < self .left) × (endOf (now row) self < 65536) ⌝ }
+        ensures { λ r. ⌜ Acts (now (row .entry)) self (onSecondPath down entry (ltb first m) first (at (now (row .entry)) (self .at)) (numbersAt (now (row .entry)) (self .at + 1) (self .left - 1))) r ⌝ }
+    {
+        let link = number(row, self.at as usize) as u16;
+        if down {
+            let event = Event::StaysSecond(link);
+            Moved { next: self, event }
+        } else if 0 < entry {
+            let event = Event::HeldByTable((entry - 1) as u16);
+            Moved { next: self, event }
+        } else if first < m {
+            let event = Event::HeldByLower(first);
+            Moved { next: self, event }
+        } else {
+            let next = Position {
+                at: self.at + 1,
+                left: self.left - 1,
+                turned: true,
+            };
+            let event = Event::CrossesSecond(link);
+            Moved { next, event }
+        }
+    }
+
+    // What message m does in a slot, once it has turned if it must.
+    pub fn act(self, row: &[u16], from: &[u16], slot: Slot, entry: u8, first: u16, m: u16) -> Moved
+        requires { ⌜ endOf (now row) self < 65536 ⌝ }
+        ensures { λ r. ⌜ Acts (now (row .entry)) self (act (downOf (now (from .entry)) (slot .0)) (slot .0) entry (ltb first m) first (positionOf (now (row .entry)) self)) r ⌝ }
+    {
+        if self.left == 0 {
+            let event = Event::Arrived;
+            return Moved { next: self, event };
+        }
+        let down = is_down(from, slot.0, number(row, self.at as usize));
+        if self.turned {
+            self.act_second(row, down, entry, first, m)
+        } else {
+            self.act_first(row, slot, down)
+        }
+    }
 }
