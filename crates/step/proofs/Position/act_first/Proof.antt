@@ -1,3 +1,5 @@
+use native.Mathlib.Omega.{arith}
+use Rattle.step.proofs.Steps.{first-stays, first-waits, first-crosses}
 use borrow.Author.Needs.{needs}
 use Rattle.step.proofs.Position.act_first.Statement.{statement}
 use Rattle.step.proofs.Position.act_first.Tie as tie
@@ -32,15 +34,33 @@ past-place-requires c κs = search needs
 
 -- src/lib.rt:186:5
 returns : tie.Need-returns
-returns c = ?
+returns c =
+    record {
+      is =
+          first-stays (c .before .before .before .before .args .row .now) (c .before .before .before .before .args .self .at) (c .before .before .before .before .args .self .left) (c .before .before .before .before .args .self .turned) (c .before .before .before .before .pre .0) (c .before .before .before .before .pre .1) (c .before .before .before .before .args .slot .0) _
+          (c .before .number .ensures .is) (c .before .before .before .before .args .down) (c .if1 .taken);
+      within = omega arith;
+    }
 
 -- src/lib.rt:186:5
 returns-2 : tie.Need-returns-2
-returns-2 c = ?
+returns-2 c =
+    record {
+      is =
+          first-crosses (c .before .before .before .before .before .before .before .before .args .row .now) (c .before .before .before .before .before .before .before .before .args .self .at) (c .before .before .before .before .before .before .before .before .args .self .left) (c .before .before .before .before .before .before .before .before .args .self .turned) (c .before .before .before .before .before .before .before .before .pre .0) (c .before .before .before .before .before .before .before .before .pre .1) (c .before .before .before .before .before .before .before .before .args .slot .0) _
+          (c .before .before .before .before .before .number .ensures .is) (c .before .before .before .before .before .before .before .before .args .down) (c .before .before .before .before .if1 .left) _ (c .before .before .before .number2 .ensures .is) (c .before .if2 .taken) _ (c .past-place .ensures .is);
+      within = c .past-place .ensures .within;
+    }
 
 -- src/lib.rt:186:5
 returns-3 : tie.Need-returns-3
-returns-3 c = ?
+returns-3 c =
+    record {
+      is =
+          first-waits (c .before .before .before .before .before .before .before .args .row .now) (c .before .before .before .before .before .before .before .args .self .at) (c .before .before .before .before .before .before .before .args .self .left) (c .before .before .before .before .before .before .before .args .self .turned) (c .before .before .before .before .before .before .before .pre .0) (c .before .before .before .before .before .before .before .pre .1) (c .before .before .before .before .before .before .before .args .slot .0) _
+          (c .before .before .before .before .number .ensures .is) (c .before .before .before .before .before .before .before .args .down) (c .before .before .before .if1 .left) _ (c .before .before .number2 .ensures .is) (c .if2 .left);
+      within = omega arith;
+    }
 
 pub act-first-spec : {M : Type 1} → statement M
 act-first-spec =
