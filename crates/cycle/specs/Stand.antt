@@ -1,0 +1,32 @@
+-- All messages at once: the positions of an array, the table that is lent, and what one slot makes of them.
+use Prim.Native.Nat.{ℕ, _+_, _*_, _≤_, _<_}
+use mathlib.Core.Path.{_≡_}
+use mathlib.Core.Bool.{Bool, false, cond}
+use mathlib.Core.List.{List, map}
+use lib.ListN.{length, getD, take}
+use lib.Dec.{ltb}
+use Rattle.scope.specs.Slot as S
+use Rattle.step.specs.declared.Position.{Position}
+use Rattle.step.specs.Where.{positionOf, endOf}
+
+-- a position with nothing left
+abbrev pub home : Position
+home = record { at = 0; left = 0; turned = false }
+
+-- the positions of the first n messages of an array
+abbrev pub positionsOf : List ℕ → ℕ → List Position → List S.Position
+positionsOf row n ps = map (positionOf row) (take n ps)
+
+-- n messages at positions that end below index 65536
+pub record Stand (row : List ℕ) (n : ℕ) (ps : List Position) : Type 0 where
+  pub few : n ≤ 32
+  pub fit : (k : ℕ) → k < n → endOf row (getD ps k home) < 65536
+
+-- n messages at the positions `next`
+pub record Become (row : List ℕ) (n : ℕ) (next : List S.Position) (ps : List Position) : Type 0 where
+  pub is : positionsOf row n ps ≡ next
+  pub stand : Stand row n ps
+
+-- the table that is lent: a byte for each slot and link below 64, the message that holds them plus one
+abbrev pub ownerOf : List ℕ → ℕ → ℕ → ℕ
+ownerOf table i e = cond (ltb e 64) (getD table (i * 64 + e) 0) 0
