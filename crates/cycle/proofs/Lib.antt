@@ -1,2 +1,4 @@
 pub mod Walk
 pub mod Going
+pub mod Tried
+pub mod Moves

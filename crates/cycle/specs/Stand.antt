@@ -1,10 +1,9 @@
--- All messages at once: the positions of an array, the table that is lent, and what one slot makes of them.
-use Prim.Native.Nat.{ℕ, _+_, _*_, _≤_, _<_}
+-- All messages at once: the positions of an array.
+use Prim.Native.Nat.{ℕ, _≤_, _<_}
 use mathlib.Core.Path.{_≡_}
-use mathlib.Core.Bool.{Bool, false, cond}
+use mathlib.Core.Bool.{false}
 use mathlib.Core.List.{List, map}
-use lib.ListN.{length, getD, take}
-use lib.Dec.{ltb}
+use lib.ListN.{getD, take}
 use Rattle.scope.specs.Slot as S
 use Rattle.step.specs.declared.Position.{Position}
 use Rattle.step.specs.Where.{positionOf, endOf}
@@ -26,7 +25,3 @@ pub record Stand (row : List ℕ) (n : ℕ) (ps : List Position) : Type 0 where
 pub record Become (row : List ℕ) (n : ℕ) (next : List S.Position) (ps : List Position) : Type 0 where
   pub is : positionsOf row n ps ≡ next
   pub stand : Stand row n ps
-
--- the table that is lent: a byte for each slot and link below 64, the message that holds them plus one
-abbrev pub ownerOf : List ℕ → ℕ → ℕ → ℕ
-ownerOf table i e = cond (ltb e 64) (getD table (i * 64 + e) 0) 0

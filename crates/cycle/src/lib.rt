@@ -8,12 +8,14 @@ use view::number;
 ghost use Prim.Native.Nat.{_+_, _-_, _*_, _<_, _≤_, _^_};
 ghost use mathlib.Core.Path.{_≡_};
 ghost use mathlib.Core.List.{map};
-ghost use lib.ListN.{length, take, drop};
+ghost use lib.ListN.{length, take, drop, set};
 ghost use Rattle.scope.specs.Slot.{turn, tries, nextSecond, act};
 ghost use Rattle.scope.specs.Cycle.{byNumber, foremost, moves, slot, nexts, numbers, positions, events, arrived};
 ghost use Rattle.cuts.specs.From.{downOf};
+ghost use Rattle.step.specs.Events.{eventOf};
 ghost use Rattle.step.specs.Where.{positionOf, endOf, Leads, Acts};
-ghost use Rattle.cycle.specs.Stand.{positionsOf, ownerOf, Stand, Become};
+ghost use Rattle.cycle.specs.Stand.{positionsOf, Stand, Become};
+ghost use Rattle.cycle.specs.Slot.{ownerOf, moveOf, MayAct, MayMove, Done};
 
 // All messages turn that must.
 fn turn_all(ps: [Position; 32], n: usize, row: &[u16], from: &[u16], slot: Slot) -> [Position; 32]
@@ -29,4 +31,79 @@ fn turn_all(ps: [Position; 32], n: usize, row: &[u16], from: &[u16], slot: Slot)
         j += 1;
     }
     qs
+}
+
+// What each message tries.
+fn tries_all(ps: [Position; 32], n: usize, row: &[u16], from: &[u16], slot: Slot) -> [u32; 32]
+    requires { ⌜ n ≤ 32 ⌝ }
+    ensures { λ r. ⌜ take n r ≡ map (tries (downOf (now (from .entry)) (slot .0))) (positionsOf (now (row .entry)) n ps) ⌝ }
+{
+    let mut tried = [0u32; 32];
+    let mut j = 0;
+    while j < n {
+        let p = ps[j];
+        tried[j] = p.tries(row, from, slot);
+        j += 1;
+    }
+    tried
+}
+
+// Of message m and those that try a link, the lowest.
+fn first_trier(tried: &[u32], link: usize, m: usize) -> usize
+    requires { ⌜ (m ≤ length (now tried)) × (link < 65536) ⌝ }
+    ensures { λ r. ⌜ (r ≡ foremost byNumber link m 0 (now (tried .entry))) × (r ≤ m) ⌝ }
+{
+    let mut j = 0;
+    while j < m {
+        if tried[j] as usize == link + 1 {
+            return j;
+        }
+        j += 1;
+    }
+    m
+}
+
+// What the table has for a slot and a link.
+fn owner(table: &[u8], slot: Slot, link: usize) -> u8
+    requires { ⌜ slot .0 < 65536 ⌝ }
+    ensures { λ r. ⌜ r ≡ ownerOf (now (table .entry)) (slot .0) link ⌝ }
+{
+    if link < 64 {
+        let k = slot.0 * 64 + link;
+        if k < table.len() { table[k] } else { 0 }
+    } else {
+        0
+    }
+}
+
+// What message m does. The messages are searched only for one that has turned.
+fn act_one(
+    p: Position,
+    m: usize,
+    row: &[u16],
+    table: &[u8],
+    from: &[u16],
+    tried: &[u32],
+    slot: Slot,
+) -> Moved
+    requires { ⌜ MayAct (now row) p m (length (now tried)) (slot .0) ⌝ }
+    ensures { λ r. ⌜ Acts (now (row .entry)) p (moveOf byNumber (downOf (now (from .entry)) (slot .0)) (ownerOf (now (table .entry)) (slot .0)) (slot .0) (now (tried .entry)) m (positionOf (now (row .entry)) p)) r ⌝ }
+{
+    if p.turned {
+        let link = p.next_second(row);
+        let entry = owner(table, slot, link);
+        let first = first_trier(tried, link, m);
+        p.act(row, from, slot, entry, first as u16, m as u16)
+    } else {
+        p.act(row, from, slot, 0, 0, 0)
+    }
+}
+
+// An event in the row of events: "kind then number".
+fn put_event(out: &mut [u16], k: usize, event: Event)
+    requires { ⌜ k + 1 < length (now out) ⌝ }
+    ensures { λ _. ⌜ now (out .exit) ≡ set (set (now (out .entry)) k (eventOf event .kind)) (k + 1) (eventOf event .number) ⌝ }
+{
+    out[k] = event.kind();
+    out[k + 1] = event.what();
 }

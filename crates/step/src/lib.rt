@@ -157,7 +157,7 @@ impl Position {
 
     // The next link of the second path that it is on; 0 where there is none.
     pub fn next_second(self, row: &[u16]) -> usize
-        ensures { λ r. ⌜ r ≡ nextSecond (positionOf (now (row .entry)) self) ⌝ }
+        ensures { λ r. ⌜ (r ≡ nextSecond (positionOf (now (row .entry)) self)) × (r < 65536) ⌝ }
     {
         if self.left == 0 {
             return 0;
