@@ -2,3 +2,4 @@ pub mod Walk
 pub mod Going
 pub mod Tried
 pub mod Moves
+pub mod Acting

@@ -107,3 +107,30 @@ fn put_event(out: &mut [u16], k: usize, event: Event)
     out[k] = event.kind();
     out[k + 1] = event.what();
 }
+
+// All messages act, on what all try. Their events go to the front of `out`.
+fn act_all(
+    ps: [Position; 32],
+    row: &[u16],
+    table: &[u8],
+    from: &[u16],
+    tried: &[u32],
+    slot: Slot,
+    out: &mut [u16],
+) -> [Position; 32]
+    requires { ⌜ MayMove (now row) ps (length (now tried)) (slot .0) (length (now out)) ⌝ }
+    ensures { λ r. ⌜ Done (now (row .entry)) (length (now (tried .entry))) (moves byNumber (downOf (now (from .entry)) (slot .0)) (ownerOf (now (table .entry)) (slot .0)) (slot .0) (now (tried .entry)) 0 (positionsOf (now (row .entry)) (length (now (tried .entry))) ps)) (now (out .entry)) (now (out .exit)) r ⌝ }
+{
+    let mut qs = ps;
+    let mut m = 0;
+    while m < tried.len() {
+        let p = qs[m];
+        let moved = act_one(p, m, row, table, from, tried, slot);
+        let next = moved.next;
+        let event = moved.event;
+        qs[m] = next;
+        put_event(out, 2 * m, event);
+        m += 1;
+    }
+    qs
+}
