@@ -3,3 +3,5 @@ pub mod Going
 pub mod Tried
 pub mod Moves
 pub mod Acting
+pub mod Start
+pub mod Run

@@ -4,6 +4,7 @@ use mathlib.Core.Path.{_≡_}
 use mathlib.Core.Bool.{false}
 use mathlib.Core.List.{List, map}
 use lib.ListN.{getD, take}
+use Rattle.scope.specs.Plan.{firstMessage, afterMessages}
 use Rattle.scope.specs.Slot as S
 use Rattle.step.specs.declared.Position.{Position}
 use Rattle.step.specs.Where.{positionOf, endOf}
@@ -25,3 +26,8 @@ pub record Stand (row : List ℕ) (n : ℕ) (ps : List Position) : Type 0 where
 pub record Become (row : List ℕ) (n : ℕ) (next : List S.Position) (ps : List Position) : Type 0 where
   pub is : positionsOf row n ps ≡ next
   pub stand : Stand row n ps
+
+-- n messages of a row may start: what they take of the row ends below index 65536
+pub record MayStart (row : List ℕ) (n : ℕ) : Type 0 where
+  pub few : n ≤ 32
+  pub fit : afterMessages row (firstMessage row) n < 65536

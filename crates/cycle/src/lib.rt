@@ -5,16 +5,19 @@ use step::Position;
 use step::Slot;
 use step::Time;
 use view::number;
-ghost use Prim.Native.Nat.{_+_, _-_, _*_, _<_, _≤_, _^_};
+ghost use Prim.Native.Nat.{ℕ, _+_, _-_, _*_, _<_, _≤_, _^_};
 ghost use mathlib.Core.Path.{_≡_};
-ghost use mathlib.Core.List.{map};
+ghost use mathlib.Core.Bool.{cond};
+ghost use mathlib.Core.List.{List, map};
 ghost use lib.ListN.{length, take, drop, set};
-ghost use Rattle.scope.specs.Slot.{turn, tries, nextSecond, act};
+ghost use lib.Dec.{eqb};
+ghost use Rattle.scope.specs.Plan.{messagesAt, firstMessage};
+ghost use Rattle.scope.specs.Slot.{onFirst, turn, tries};
 ghost use Rattle.scope.specs.Cycle.{byNumber, foremost, moves, slot, nexts, numbers, positions, events, arrived};
 ghost use Rattle.cuts.specs.From.{downOf};
 ghost use Rattle.step.specs.Events.{eventOf};
 ghost use Rattle.step.specs.Where.{positionOf, endOf, Leads, Acts};
-ghost use Rattle.cycle.specs.Stand.{positionsOf, Stand, Become};
+ghost use Rattle.cycle.specs.Stand.{positionsOf, Stand, MayStart, Become};
 ghost use Rattle.cycle.specs.Slot.{ownerOf, moveOf, MayAct, MayMove, Done};
 
 // All messages turn that must.
@@ -133,4 +136,70 @@ fn act_all(
         m += 1;
     }
     qs
+}
+
+// One slot of all messages: they turn, they try, they act.
+fn run_slot(
+    ps: [Position; 32],
+    n: usize,
+    row: &[u16],
+    table: &[u8],
+    from: &[u16],
+    i: Slot,
+    out: &mut [u16],
+) -> [Position; 32]
+    requires { ⌜ MayMove (now row) ps n (i .0) (length (now out)) ⌝ }
+    ensures { λ r. ⌜ Done (now (row .entry)) n (slot byNumber (downOf (now (from .entry))) (ownerOf (now (table .entry))) (i .0) (positionsOf (now (row .entry)) n ps)) (now (out .entry)) (now (out .exit)) r ⌝ }
+{
+    let turned = turn_all(ps, n, row, from, i);
+    let tried = tries_all(turned, n, row, from, i);
+    act_all(turned, row, table, from, &tried[..n], i, out)
+}
+
+// One where a position is at its target, else 0.
+fn home_one(p: Position) -> usize
+    ensures { λ r. ⌜ (r ≡ cond (eqb (p .left) 0) 1 0) × (r ≤ 1) ⌝ }
+{
+    if p.is_home() { 1 } else { 0 }
+}
+
+// How many of the first n messages are at their targets.
+fn count_home(ps: [Position; 32], n: usize) -> usize
+    requires { ⌜ n ≤ 32 ⌝ }
+    ensures { λ r. ⌜ ((row : List ℕ) → r ≡ arrived (positionsOf row n ps)) ⌝ }
+{
+    let mut count = 0;
+    let mut j = 0;
+    while j < n {
+        let p = ps[j];
+        count += home_one(p);
+        j += 1;
+    }
+    count
+}
+
+// The first positions of n messages: "A message starts where its first path begins."
+fn start_all(row: &[u16], n: usize) -> [Position; 32]
+    requires { ⌜ MayStart (now row) n ⌝ }
+    ensures { λ r. ⌜ Become (now (row .entry)) n (map onFirst (messagesAt (now (row .entry)) (firstMessage (now (row .entry))) n)) r ⌝ }
+{
+    let mut ps = [Position {
+        at: 0,
+        left: 0,
+        turned: false,
+    }; 32];
+    let mut at = view::links(row) * 2 + 5;
+    let mut m = 0;
+    while m < n {
+        let left = view::place_count(row, at);
+        let p = Position {
+            at: (at + 1) as u16,
+            left: left as u16,
+            turned: false,
+        };
+        ps[m] = p;
+        at = view::after_message(row, at);
+        m += 1;
+    }
+    ps
 }
