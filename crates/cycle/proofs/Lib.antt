@@ -4,4 +4,4 @@ pub mod Tried
 pub mod Moves
 pub mod Acting
 pub mod Start
-pub mod Run
+pub mod Slots

@@ -19,6 +19,7 @@ ghost use Rattle.step.specs.Events.{eventOf};
 ghost use Rattle.step.specs.Where.{positionOf, endOf, Leads, Acts};
 ghost use Rattle.cycle.specs.Stand.{positionsOf, Stand, MayStart, Become};
 ghost use Rattle.cycle.specs.Slot.{ownerOf, moveOf, MayAct, MayMove, Done};
+ghost use Rattle.cycle.specs.Play.{endsWith, tells, MayRun, Ran, MayPlay, Played};
 
 // All messages turn that must.
 fn turn_all(ps: [Position; 32], n: usize, row: &[u16], from: &[u16], slot: Slot) -> [Position; 32]
@@ -202,4 +203,30 @@ fn start_all(row: &[u16], n: usize) -> [Position; 32]
         m += 1;
     }
     ps
+}
+
+// All slots up to the timeout, with the row of events at the front of `out`.
+fn run(
+    ps: [Position; 32],
+    n: usize,
+    timeout: usize,
+    row: &[u16],
+    table: &[u8],
+    from: &[u16],
+    out: &mut [u16],
+) -> [Position; 32]
+    requires { ⌜ MayRun (now row) ps n timeout (tells (now table) (now from) 0 timeout (positionsOf (now row) n ps)) (length (now out)) ⌝ }
+    ensures { λ r. ⌜ Ran (now (row .entry)) n (endsWith (now (table .entry)) (now (from .entry)) 0 timeout (positionsOf (now (row .entry)) n ps)) (tells (now (table .entry)) (now (from .entry)) 0 timeout (positionsOf (now (row .entry)) n ps)) (now (out .entry)) (now (out .exit)) r ⌝ }
+{
+    let mut qs = ps;
+    let mut at = 0;
+    let mut time = Time::first();
+    while time.0 < timeout {
+        let i = time.begins(timeout);
+        let next = run_slot(qs, n, row, table, from, i, &mut out[at..]);
+        qs = next;
+        at += 2 * n;
+        time = i.after();
+    }
+    qs
 }

@@ -4,7 +4,7 @@ use lib.Seq.{length-take-le}
 use native.Mathlib.Omega.{arith}
 use Rattle.cuts.specs.From.{downOf}
 use Rattle.cycle.specs.Slot.{ownerOf}
-use Rattle.cycle.proofs.Run.{slot-done}
+use Rattle.cycle.proofs.Slots.{slot-done}
 use borrow.Author.Needs.{needs}
 use Rattle.cycle.proofs.run_slot.Statement.{statement}
 use Rattle.cycle.proofs.run_slot.Tie as tie
