@@ -5,3 +5,4 @@ pub mod Moves
 pub mod Acting
 pub mod Start
 pub mod Slots
+pub mod Whole

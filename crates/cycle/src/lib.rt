@@ -230,3 +230,15 @@ fn run(
     }
     qs
 }
+
+// A whole cycle of the plan of a row: how many messages arrive, with the row of events at the front of `out`.
+pub fn play(row: &[u16], table: &[u8], from: &[u16], out: &mut [u16]) -> usize
+    requires { ⌜ MayPlay (now row) (length (now out)) ⌝ }
+    ensures { λ r. ⌜ Played (now (row .entry)) (now (table .entry)) (now (from .entry)) (now (out .entry)) (now (out .exit)) r ⌝ }
+{
+    let n = view::messages(row);
+    let timeout = view::timeout(row);
+    let ps = start_all(row, n);
+    let qs = run(ps, n, timeout, row, table, from, out);
+    count_home(qs, n)
+}
