@@ -1,5 +1,5 @@
 -- What a plan's parts are in its row: links, messages, places and second paths, each by its number.
-use Prim.Native.Nat.{ℕ, zero, suc, _+_, _*_, _≤_, _<_}
+use Prim.Native.Nat.{ℕ, zero, suc, _+_, _-_, _*_, _≤_, _<_}
 use mathlib.Core.Path.{_≡_, refl, sym, _∙_, ap}
 use mathlib.Core.List.{List, [], _∷_}
 use native.Mathlib.Numerals.{add-one}
@@ -41,6 +41,22 @@ module _ (row : List ℕ) where
   places-at d i zero p h = absurd (omega arith)
   places-at d i (suc n) zero h = refl
   places-at d i (suc n) (suc p) h = places-at d (i + placeSize row i) n p (omega arith)
+
+  -- a loop at place k of n: the places left
+  pub places-all : (i n : ℕ) → placesAt row i (n - 0) ≡ placesAt row i n
+  places-all i n = ap (placesAt row i) (omega arith)
+
+  pub places-more : (i n k : ℕ) → k < n → placesAt row i (n - k) ≡ placeAt row i ∷ placesAt row (i + placeSize row i) (n - (k + 1))
+  unfolding placesAt
+  places-more i n k h =
+      let f : n - k ≡ suc (n - (k + 1)) = omega arith in
+      rw f
+
+  pub places-none : (i n k : ℕ) → n ≤ k → placesAt row i (n - k) ≡ []
+  unfolding placesAt
+  places-none i n k h =
+      let f : n - k ≡ zero = omega arith in
+      rw f
 
   -- messages of a plan
   messages-length : (i n : ℕ) → length (messagesAt row i n) ≡ n
