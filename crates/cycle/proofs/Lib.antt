@@ -6,3 +6,5 @@ pub mod Acting
 pub mod Start
 pub mod Slots
 pub mod Whole
+pub mod Agree
+pub mod Replay

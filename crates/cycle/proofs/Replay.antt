@@ -1,0 +1,1 @@
+-- The replay of a good row: its answers, one law for each.
