@@ -3,7 +3,7 @@ use Prim.Native.Nat.{ℕ, zero, suc, _+_, _-_, _*_, _≤_, _<_}
 use mathlib.Core.Path.{_≡_, refl, sym, _∙_, ap}
 use mathlib.Core.Bool.{Bool, true, false, cond}
 use mathlib.Core.List.{List, [], _∷_, _++_, map}
-use native.Mathlib.Nat.{mul-comm, mul-assoc}
+use native.Mathlib.Nat.{mul-comm, mul-assoc, mul-le-mul}
 use native.Mathlib.Omega.{arith}
 use lib.ListN.{length, drop, length-map}
 use lib.Dec.{leb, eqb}
@@ -160,3 +160,11 @@ pub record One (a b : Answer) (r s : List ℕ) : Type 0 where
 pub replayed-one : (row cuts buffer : List ℕ) (a b : Answer) (r s : List ℕ) → Replayed row cuts buffer a r → Replayed row cuts buffer b s → One a b r s
 replayed-one row cuts buffer a b r s p q =
     record { answer = outcome-one a b (p .answers ∙ sym (q .answers)); buffer = p .leaves ∙ sym (q .leaves) }
+
+-- a good row takes few numbers
+pub few-numbers : (row : List ℕ) → Judged row → (t n : ℕ) → t ≡ timeoutOf row → n ≡ messageCount row → t * (2 * n) ≤ 64 * 64
+few-numbers row j t n e f =
+    let l = judged-lies row j in
+    let a : t ≤ 64 = omega (arith, l .timeout) in
+    let b : 2 * n ≤ 64 = omega (arith, l .messages) in
+    mul-le-mul a b
