@@ -3,14 +3,14 @@
 use Prim.Native.Nat.{ℕ, zero, suc, _+_, _*_, _≤_, _<_}
 use mathlib.Core.Path.{_≡_, refl, sym, _∙_, ap, fun-ext}
 use mathlib.Core.Bool.{Bool, true, false, not, cond, _&&_, _||_}
-use mathlib.Core.List.{List, [], _∷_, _++_}
+use mathlib.Core.List.{List, _++_}
 use native.Mathlib.Omega.{arith}
-use lib.ListN.{length, getD, List·getD-eq-default}
+use lib.ListN.{length, List·getD-eq-default}
 use lib.Dec.{ltb, leb, eqb}
-use borrow.Author.Tests.{lt-ltb, le-ltb, lt-leb, ne-eqb, ltb-true, ltb-false, not-false}
+use borrow.Author.Tests.{lt-leb, ne-eqb, ltb-true, ltb-false, not-false}
 use Rattle.scope.specs.Lowest.{lowest, some}
-use Rattle.scope.specs.Outcome.{Outcome, gives, refused}
-use Rattle.scope.specs.Plan.{Plan, Place, at, placesAt, placeSize, placeCount, afterPlaces, messageCount, planOf, pathOf}
+use Rattle.scope.specs.Outcome.{gives, refused}
+use Rattle.scope.specs.Plan.{Plan, at, placesAt, placeSize, placeCount, afterPlaces, messageCount, planOf, pathOf}
 use Rattle.scope.specs.SecondPath.{messageIndex}
 use Rattle.scope.specs.Good.{holds}
 use Rattle.scope.specs.Cuts.{pairs, cutLink, cutSlot, badPair, falls, checkCuts, isCut}

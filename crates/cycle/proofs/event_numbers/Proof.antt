@@ -1,30 +1,22 @@
+-- `cycle::event_numbers` meets its contract: 2 × t × M is small for a good row. Assumes nothing.
 use native.Mathlib.Omega.{arith}
 use Rattle.cycle.proofs.Replay.{few-numbers}
 use borrow.Author.Needs.{needs}
 use Rattle.cycle.proofs.event_numbers.Statement.{statement}
 use Rattle.cycle.proofs.event_numbers.Tie as tie
-use Rattle.cycle.proofs.event_numbers.Reads as reads
-use Rattle.cycle.proofs.event_numbers.Lts as lts
-use Rattle.view.proofs.messages.Reads as messages-reads
-use Rattle.view.proofs.timeout.Reads as timeout-reads
 
--- src/lib.rt:254:5
 timeout-requires : tie.Need-timeout-requires
 timeout-requires c κs = search needs
 
--- src/lib.rt:254:31
 messages-requires : tie.Need-messages-requires
 messages-requires c κs = search needs
 
--- src/lib.rt:254:27
 mul-result : tie.Need-mul-result
 mul-result c = search needs
 
--- src/lib.rt:254:5
 mul-result-2 : tie.Need-mul-result-2
 mul-result-2 c = omega (arith, few-numbers (c .before .before .before .args .row .now) (c .before .before .before .pre) _ _ (c .before .timeout .ensures .is) (c .messages .ensures .is))
 
--- src/lib.rt:250:1
 returns : tie.Need-returns
 returns c = rw (← c .before .timeout .ensures .is, ← c .messages .ensures .is)
 

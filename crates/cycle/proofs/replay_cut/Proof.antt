@@ -1,53 +1,38 @@
+-- `cycle::replay_cut` meets its contract: refusal 13, or what `play` gives over a right table and right first cuts. Assumes nothing.
 use mathlib.Core.Path.{refl}
 use native.Mathlib.Omega.{arith}
 use Rattle.cycle.proofs.Replay.{judged-lies, judged-may, replay-short, replay-gives}
 use borrow.Author.Needs.{needs}
 use Rattle.cycle.proofs.replay_cut.Statement.{statement}
 use Rattle.cycle.proofs.replay_cut.Tie as tie
-use Rattle.cycle.proofs.replay_cut.Reads as reads
-use Rattle.cycle.proofs.replay_cut.Lts as lts
-use Rattle.cuts.proofs.cut_from.Reads as cut-from-reads
-use Rattle.cycle.proofs.event_numbers.Reads as event-numbers-reads
-use Rattle.cycle.proofs.play.Reads as play-reads
-use Rattle.table.proofs.fill_table.Reads as fill-table-reads
 
--- src/lib.rt:262:9
 event-numbers-requires : tie.Need-event-numbers-requires
 event-numbers-requires c κs = c .before .before .before .pre .judged
 
--- src/lib.rt:264:9
 returns : tie.Need-returns
 returns c = replay-short (c .before .before .before .before .before .args .row .now) (c .before .before .before .before .before .args .cuts .now) (c .before .before .before .before .before .args .out .now) (c .before .before .before .before .before .pre) _ (c .before .event-numbers .ensures) (c .if1 .taken) _ refl
 
--- src/lib.rt:270:28
 slice-aggregate-fill-table : tie.Need-slice-aggregate-fill-table
 slice-aggregate-fill-table c = search needs
 
--- src/lib.rt:270:5
 fill-table-requires : tie.Need-fill-table-requires
 fill-table-requires c κs = (refl, judged-lies (c .before .before .before .before .before .before .args .row .now) (c .before .before .before .before .before .before .pre .judged) .messages)
 
--- src/lib.rt:271:16
 cut-from-requires : tie.Need-cut-from-requires
 cut-from-requires c κs = search needs
 
--- src/lib.rt:272:27
 slice-aggregate-play : tie.Need-slice-aggregate-play
 slice-aggregate-play c = search needs
 
--- src/lib.rt:272:35
 slice-aggregate-play-2 : tie.Need-slice-aggregate-play-2
 slice-aggregate-play-2 c = search needs
 
--- src/lib.rt:272:9
 play-requires : tie.Need-play-requires
 play-requires c κs = judged-may (c .before .before .before .before .before .before .before .before .before .before .before .before .args .row .now) _ (c .before .before .before .before .before .before .before .before .before .before .before .before .pre .judged) (omega (arith, c .before .before .before .before .before .before .before .before .event-numbers .ensures, c .before .before .before .before .before .before .before .if1 .left))
 
--- src/lib.rt:258:1
 same-length : tie.Need-same-length
 same-length c = search needs
 
--- src/lib.rt:258:1
 returns-2 : tie.Need-returns-2
 returns-2 c =
     replay-gives (c .before .before .before .before .before .before .before .before .before .before .before .before .before .before .before .args .row .now) (c .before .before .before .before .before .before .before .before .before .before .before .before .before .before .before .args .cuts .now) (c .before .before .before .before .before .before .before .before .before .before .before .before .before .before .before .args .out .now) (c .before .before .before .before .before .before .before .before .before .before .before .before .before .before .before .pre) _ (c .before .before .before .before .before .before .before .before .before .before .before .event-numbers .ensures) (c .before .before .before .before .before .before .before .before .before .before .if1 .left) _ _ _ _
