@@ -1,8 +1,8 @@
--- `flow::next_place` meets its contract, by the test of its branch. Assumes nothing.
+-- `grammar::next_place` meets its contract, by the test of its branch. Assumes nothing.
 use borrow.Author.Tests.{eq-eqb, ne-eqb}
 use borrow.Author.Needs.{needs}
-use Rattle.flow.proofs.next_place.Statement.{statement}
-use Rattle.flow.proofs.next_place.Tie as tie
+use Rattle.grammar.proofs.next_place.Statement.{statement}
+use Rattle.grammar.proofs.next_place.Tie as tie
 
 next-message-requires : tie.Need-next-message-requires
 next-message-requires c κs = search needs

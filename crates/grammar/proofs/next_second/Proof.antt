@@ -1,8 +1,8 @@
--- `flow::next_second` meets its contract, by the test of its branch. Assumes nothing.
+-- `grammar::next_second` meets its contract, by the test of its branch. Assumes nothing.
 use borrow.Author.Tests.{eq-eqb, ne-eqb}
 use borrow.Author.Needs.{needs}
-use Rattle.flow.proofs.next_second.Statement.{statement}
-use Rattle.flow.proofs.next_second.Tie as tie
+use Rattle.grammar.proofs.next_second.Statement.{statement}
+use Rattle.grammar.proofs.next_second.Tie as tie
 
 next-place-requires : tie.Need-next-place-requires
 next-place-requires c κs = search needs

@@ -1,8 +1,8 @@
--- `flow::step` meets its contract: the slot stays, and `following` says what comes next. Assumes nothing.
+-- `grammar::step` meets its contract: the slot stays, and `following` says what comes next. Assumes nothing.
 use mathlib.Core.Path.{ap}
 use borrow.Author.Needs.{needs}
-use Rattle.flow.proofs.step.Statement.{statement}
-use Rattle.flow.proofs.step.Tie as tie
+use Rattle.grammar.proofs.step.Statement.{statement}
+use Rattle.grammar.proofs.step.Tie as tie
 
 following-requires : tie.Need-following-requires
 following-requires c κs = search needs

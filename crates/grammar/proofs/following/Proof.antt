@@ -1,7 +1,7 @@
--- `flow::following` meets its contract, arm by arm. Assumes nothing.
+-- `grammar::following` meets its contract, arm by arm. Assumes nothing.
 use borrow.Author.Needs.{needs}
-use Rattle.flow.proofs.following.Statement.{statement}
-use Rattle.flow.proofs.following.Tie as tie
+use Rattle.grammar.proofs.following.Statement.{statement}
+use Rattle.grammar.proofs.following.Tie as tie
 
 enum-told : tie.Need-enum-told
 enum-told c = search needs

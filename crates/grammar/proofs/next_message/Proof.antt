@@ -1,8 +1,8 @@
--- `flow::next_message` meets its contract, by the test of its branch. Assumes nothing.
+-- `grammar::next_message` meets its contract, by the test of its branch. Assumes nothing.
 use borrow.Author.Tests.{eq-eqb, ne-eqb}
 use borrow.Author.Needs.{needs}
-use Rattle.flow.proofs.next_message.Statement.{statement}
-use Rattle.flow.proofs.next_message.Tie as tie
+use Rattle.grammar.proofs.next_message.Statement.{statement}
+use Rattle.grammar.proofs.next_message.Tie as tie
 
 sub-t4 : tie.Need-sub-t4
 sub-t4 c = search needs

@@ -1,8 +1,8 @@
--- `flow::next_link` meets its contract, by the test of its branch. Assumes nothing.
+-- `grammar::next_link` meets its contract, by the test of its branch. Assumes nothing.
 use borrow.Author.Tests.{eq-eqb, ne-eqb}
 use borrow.Author.Needs.{needs}
-use Rattle.flow.proofs.next_link.Statement.{statement}
-use Rattle.flow.proofs.next_link.Tie as tie
+use Rattle.grammar.proofs.next_link.Statement.{statement}
+use Rattle.grammar.proofs.next_link.Tie as tie
 
 sub-t5 : tie.Need-sub-t5
 sub-t5 c = search needs
