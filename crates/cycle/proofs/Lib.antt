@@ -7,4 +7,3 @@ pub mod Start
 pub mod Slots
 pub mod Whole
 pub mod Agree
-pub mod Replay

@@ -1,6 +1,4 @@
 // One cycle: every message in every slot, from the first positions to the timeout.
-use scope::Answer;
-use scope::Refusal;
 use step::Event;
 use step::Moved;
 use step::Position;
@@ -13,7 +11,7 @@ ghost use mathlib.Core.Bool.{cond};
 ghost use mathlib.Core.List.{List, map};
 ghost use lib.ListN.{length, take, drop, set};
 ghost use lib.Dec.{eqb};
-ghost use Rattle.scope.specs.Plan.{messagesAt, firstMessage, messageCount, timeoutOf};
+ghost use Rattle.scope.specs.Plan.{messagesAt, firstMessage};
 ghost use Rattle.scope.specs.Slot.{onFirst, turn, tries};
 ghost use Rattle.scope.specs.Cycle.{byNumber, foremost, moves, slot, nexts, numbers, positions, events, arrived};
 ghost use Rattle.cuts.specs.From.{downOf};
@@ -22,7 +20,6 @@ ghost use Rattle.step.specs.Where.{positionOf, endOf, Leads, Acts};
 ghost use Rattle.cycle.specs.Stand.{positionsOf, Stand, MayStart, Become};
 ghost use Rattle.cycle.specs.Slot.{ownerOf, moveOf, MayAct, MayMove, Done};
 ghost use Rattle.cycle.specs.Play.{endsWith, tells, MayRun, Ran, MayPlay, Played};
-ghost use Rattle.cycle.specs.Replay.{Judged, Checked, Replayed};
 
 // All messages turn that must.
 fn turn_all(ps: [Position; 32], n: usize, row: &[u16], from: &[u16], slot: Slot) -> [Position; 32]
@@ -244,43 +241,4 @@ pub fn play(row: &[u16], table: &[u8], from: &[u16], out: &mut [u16]) -> usize
     let ps = start_all(row, n);
     let qs = run(ps, n, timeout, row, table, from, out);
     count_home(qs, n)
-}
-
-// How many numbers the row of events takes.
-fn event_numbers(row: &[u16]) -> usize
-    requires { ⌜ Judged (now row) ⌝ }
-    ensures { λ r. ⌜ r ≡ timeoutOf (now (row .entry)) * (2 * messageCount (now (row .entry))) ⌝ }
-{
-    view::timeout(row) * (2 * view::messages(row))
-}
-
-// The replay of a good row under a good cut list.
-fn replay_cut(row: &[u16], cuts: &[u16], out: &mut [u16]) -> Answer
-    requires { ⌜ Checked (now row) (now cuts) ⌝ }
-    ensures { λ r. ⌜ Replayed (now (row .entry)) (now (cuts .entry)) (now (out .entry)) r (now (out .exit)) ⌝ }
-{
-    let needed = event_numbers(row);
-    if out.len() < needed {
-        return Answer::Refused(Refusal {
-            no: 13,
-            place: needed,
-        });
-    }
-    let mut table = [0u8; 4096];
-    table::fill_table(row, &mut table);
-    let from = cuts::cut_from(cuts);
-    let count = play(row, &table, &from, out);
-    Answer::Gives(count)
-}
-
-// The replay of a good row: refusal 12, 13, or the arrivals with the row of events at the front of `out`.
-pub fn replay_good(row: &[u16], cuts: &[u16], out: &mut [u16]) -> Answer
-    requires { ⌜ Judged (now row) ⌝ }
-    ensures { λ r. ⌜ Replayed (now (row .entry)) (now (cuts .entry)) (now (out .entry)) r (now (out .exit)) ⌝ }
-{
-    let checked = cuts::check(row, cuts);
-    match checked {
-        Answer::Refused(refusal) => Answer::Refused(refusal),
-        Answer::Gives(_) => replay_cut(row, cuts, out),
-    }
 }

@@ -1,16 +1,18 @@
--- `cycle::replay_cut` meets its contract: refusal 13, or what `play` gives over a right table and right first cuts. Assumes nothing.
+-- `replays::replay_cut` meets its contract: refusal 13, or what `play` gives over a right table and right first cuts. Assumes nothing.
 use mathlib.Core.Path.{refl}
 use native.Mathlib.Omega.{arith}
-use Rattle.cycle.proofs.Replay.{judged-lies, judged-may, replay-short, replay-gives}
+use Rattle.replays.proofs.Ways.{judged-lies, judged-may, replay-short, replay-gives}
 use borrow.Author.Needs.{needs}
-use Rattle.cycle.proofs.replay_cut.Statement.{statement}
-use Rattle.cycle.proofs.replay_cut.Tie as tie
+use Rattle.replays.proofs.replay_cut.Statement.{statement}
+use Rattle.replays.proofs.replay_cut.Tie as tie
 
 event-numbers-requires : tie.Need-event-numbers-requires
 event-numbers-requires c κs = c .before .before .before .pre .judged
 
 returns : tie.Need-returns
-returns c = replay-short (c .before .before .before .before .before .args .row .now) (c .before .before .before .before .before .args .cuts .now) (c .before .before .before .before .before .args .out .now) (c .before .before .before .before .before .pre) _ (c .before .event-numbers .ensures) (c .if1 .taken) _ refl
+returns c =
+    let a = c .before .before .before .before .before .args in
+    replay-short (a .row .now) (a .cuts .now) (a .events .now) (c .before .before .before .before .before .pre) _ (c .before .event-numbers .ensures) (c .if1 .taken)
 
 slice-aggregate-fill-table : tie.Need-slice-aggregate-fill-table
 slice-aggregate-fill-table c = search needs
@@ -35,8 +37,9 @@ same-length c = search needs
 
 returns-2 : tie.Need-returns-2
 returns-2 c =
-    replay-gives (c .before .before .before .before .before .before .before .before .before .before .before .before .before .before .before .args .row .now) (c .before .before .before .before .before .before .before .before .before .before .before .before .before .before .before .args .cuts .now) (c .before .before .before .before .before .before .before .before .before .before .before .before .before .before .before .args .out .now) (c .before .before .before .before .before .before .before .before .before .before .before .before .before .before .before .pre) _ (c .before .before .before .before .before .before .before .before .before .before .before .event-numbers .ensures) (c .before .before .before .before .before .before .before .before .before .before .if1 .left) _ _ _ _
-    (c .before .before .before .before .before .before .before .before .fill-table .ensures) (c .before .before .before .before .before .before .cut-from .ensures) (c .before .before .play .ensures) _ refl
+    let a = c .before .before .before .before .before .before .before .before .before .before .before .before .before .before .before .args in
+    replay-gives (a .row .now) (a .cuts .now) (a .events .now) (c .before .before .before .before .before .before .before .before .before .before .before .before .before .before .before .pre) _ (c .before .before .before .before .before .before .before .before .before .before .before .event-numbers .ensures) (c .before .before .before .before .before .before .before .before .before .before .if1 .left) _ _ _ _ (c .before .before .before .before .before .before .before .before .fill-table .ensures)
+    (c .before .before .before .before .before .before .cut-from .ensures) (c .before .before .play .ensures)
 
 pub replay-cut-spec : {M : Type 1} → statement M
 replay-cut-spec =

@@ -1,9 +1,9 @@
--- `cycle::event_numbers` meets its contract: 2 × t × M is small for a good row. Assumes nothing.
+-- `replays::event_numbers` meets its contract: 2 × t × M is small for a good row. Assumes nothing.
 use native.Mathlib.Omega.{arith}
-use Rattle.cycle.proofs.Replay.{few-numbers}
+use Rattle.replays.proofs.Ways.{few-numbers}
 use borrow.Author.Needs.{needs}
-use Rattle.cycle.proofs.event_numbers.Statement.{statement}
-use Rattle.cycle.proofs.event_numbers.Tie as tie
+use Rattle.replays.proofs.event_numbers.Statement.{statement}
+use Rattle.replays.proofs.event_numbers.Tie as tie
 
 timeout-requires : tie.Need-timeout-requires
 timeout-requires c κs = search needs
