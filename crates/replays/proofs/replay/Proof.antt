@@ -1,3 +1,6 @@
+-- `replays::replay` meets its contract: refusals 1 to 10, or what `replay_good` gives. Assumes nothing.
+use Rattle.plan.proofs.Ways.{gave, refused-as}
+use Rattle.replays.proofs.Ways.{replay-bad}
 use borrow.Author.Needs.{needs}
 use Rattle.replays.proofs.replay.Statement.{statement}
 use Rattle.replays.proofs.replay.Tie as tie
@@ -20,11 +23,13 @@ enum-told c = search needs
 
 -- src/lib.rt:58:29
 replay-good-requires : tie.Need-replay-good-requires
-replay-good-requires c κs = ?
+replay-good-requires c κs = record { count = _; good = gave _ (c .before .enum-told .given .1) (c .before .before .before .judge .ensures) }
 
 -- src/lib.rt:52:1
 returns : tie.Need-returns
-returns c = ?
+returns c =
+    let a = c .before .before .before .before .before .before .before .args in
+    replay-bad (a .row .now) (a .cuts .now) (a .events .now) _ (refused-as _ (c .before .judged .given .1) (c .before .before .before .judge .ensures))
 
 -- src/lib.rt:52:1
 same-length : tie.Need-same-length
