@@ -3,3 +3,4 @@ pub mod Lines
 pub mod Round
 pub mod Pigeons
 pub mod Enough
+pub mod Replay

@@ -1,10 +1,10 @@
 -- Laws of the cuts of a text: the end, a line, a line of another form; and how a loop writes them.
 use Prim.Native.Nat.{ℕ, zero, suc, _+_, _-_, _*_, _/_, _≤_, _<_}
-use mathlib.Core.Path.{_≡_, refl, _∙_, ap}
+use mathlib.Core.Path.{_≡_, refl, sym, _∙_, ap}
 use mathlib.Core.Bool.{Bool, true, false, cond}
 use mathlib.Core.List.{List, [], _∷_, _++_}
 use native.Mathlib.Omega.{arith}
-use lib.ListN.{length, set}
+use lib.ListN.{length, set, drop}
 use lib.Dec.{ltb}
 use borrow.Author.Tests.{lt-ltb, le-ltb}
 use Rattle.scope.specs.Lines.{isCutLine, cutsFrom, numberAt, slotIndex, linkIndex, feedIndex}
@@ -82,3 +82,9 @@ cuts-done {text} {entry} {exit} {r} p =
       count = e;
       buffer = p .buffer ∙ laid-front entry (cutsFrom (length entry / 2) text 0) (omega arith) ∙ rw (← e);
     }
+
+-- two outcomes that the statement allows are equal
+pub cuts-only : {text entry exit exit′ : List ℕ} {r r′ : ℕ} → Cuts text entry exit r → Cuts text entry exit′ r′ → (r ≡ r′) × (exit ≡ exit′)
+cuts-only {text} {entry} p q =
+    let e = p .count ∙ sym (q .count) in
+    (e, p .buffer ∙ ap (λ (n : ℕ). cutsFrom (length entry / 2) text 0 ++ drop n entry) e ∙ sym (q .buffer))

@@ -1,13 +1,12 @@
 -- A listing has room in `ROOM` bytes: at most 2,048 events of at most 18 bytes each, the header and the last line.
 use Prim.Native.Nat.{ℕ, zero, suc, _+_, _*_, _/_, _%_, _≤_, _<_}
-use mathlib.Core.Path.{_≡_, ap}
 use mathlib.Core.List.{List, _++_}
 use native.Mathlib.Omega.{arith}
 use native.Mathlib.Nat.{mul-le-mul, mod-lt, div-lt-iff-lt-mul}
 use lib.ListN.{length, getD, length-append}
 use Rattle.scope.specs.Outcome.{Outcome, gives, refused}
 use Rattle.scope.specs.Plan.{Plan}
-use Rattle.scope.specs.Lines.{decimal, header, eventLine, eventLines, arrivedLine, refusedLine, listing}
+use Rattle.scope.specs.Lines.{header, eventLine, eventLines, arrivedLine, listing}
 use Rattle.text.proofs.Decimal.{decimal-all, decimal-most}
 
 -- slots below 64, messages below 32, and numbers of 16 bits

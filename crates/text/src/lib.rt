@@ -1,6 +1,6 @@
 // Text into lent bytes: a byte, a word and a number in decimal, from an index on. Each function lays its text over the buffer as
 // far as the buffer goes and gives the index after the text, so a caller learns how many bytes a text has even where there is no
-// room for it. It leans on `decimal` of document 01 (specs/Lines of `scope`) alone.
+// room for it. Each asks that this index can be told in 64 bits (`Told`). It leans on `decimal` of document 01 (specs/Lines of `scope`) alone.
 ghost use mathlib.Core.List.{[], _∷_, _++_};
 ghost use Rattle.text.specs.Text.{Puts, Told};
 ghost use Rattle.scope.specs.Lines.{decimal};
