@@ -1,0 +1,137 @@
+// Spare slots of a second path: a(e), b(m, e), D and the slack, of `scope`'s Spare. Counting is by total reads of the row, so only
+// `slack` itself asks whether the row is good. It leans on `view` for where things stand.
+ghost use mathlib.Core.Path.{_≡_};
+ghost use Prim.Native.Nat.{_+_, _*_, _<_, _≤_, _^_};
+ghost use mathlib.Core.Bool.{cond};
+ghost use lib.Dec.{eqb};
+ghost use Rattle.scope.specs.Plan.{at, numbersAt, placesAt, secondAt, messageAt, messageCount, planOf};
+ghost use Rattle.scope.specs.Good.{has};
+ghost use Rattle.scope.specs.Cycle.{byNumber};
+ghost use Rattle.scope.specs.Spare.{entriesOf, entries, hasSecondThrough, lowerThrough, delay};
+ghost use Rattle.view.specs.View.{Is};
+
+// Whether link e stands among so many numbers from an index on.
+fn has(row: &[u16], e: usize, i: usize, n: usize) -> bool
+    requires { ⌜ (i < 2 ^ 62) × (n ≤ 65536) ⌝ }
+    ensures { λ r. ⌜ r ≡ has e (numbersAt (now (row .entry)) i n) ⌝ }
+{
+    let mut k = 0;
+    while k < n {
+        if view::number(row, i + k) == e {
+            return true;
+        }
+        k += 1;
+    }
+    false
+}
+
+// Whether the place at an index has a second path through link e.
+fn place_through(row: &[u16], e: usize, i: usize) -> bool
+    requires { ⌜ i < 2 ^ 61 ⌝ }
+    ensures { λ r. ⌜ r ≡ has e (secondAt (now (row .entry)) i) ⌝ }
+{
+    if view::number(row, i + 2) == 1 {
+        has(row, e, i + 4, view::number(row, i + 3) + 1)
+    } else {
+        false
+    }
+}
+
+// Whether one of so many places from an index on has a second path through link e.
+fn through(row: &[u16], e: usize, i: usize, n: usize) -> bool
+    requires { ⌜ (i < 2 ^ 60) × (n ≤ 65536) ⌝ }
+    ensures { λ r. ⌜ r ≡ hasSecondThrough e (placesAt (now (row .entry)) i n) ⌝ }
+{
+    let mut at = i;
+    let mut k = 0;
+    while k < n {
+        if place_through(row, e, at) {
+            return true;
+        }
+        at = at + view::place_size(row, at);
+        k += 1;
+    }
+    false
+}
+
+// 1 if the place at an index is on link e, 0 if it is not.
+fn on_link(row: &[u16], e: usize, i: usize) -> usize
+    ensures { λ r. ⌜ Is (cond (eqb (at (now (row .entry)) i) e) 1 0) 1 r ⌝ }
+{
+    if view::number(row, i) == e { 1 } else { 0 }
+}
+
+// How many of so many places from an index on are on link e.
+fn entries_of(row: &[u16], e: usize, i: usize, n: usize) -> usize
+    requires { ⌜ (i < 2 ^ 60) × (n ≤ 65536) ⌝ }
+    ensures { λ r. ⌜ Is (entriesOf e (placesAt (now (row .entry)) i n)) n r ⌝ }
+{
+    let mut sum: usize = 0;
+    let mut at = i;
+    let mut k = 0;
+    while k < n {
+        sum = sum + on_link(row, e, at);
+        at = at + view::place_size(row, at);
+        k += 1;
+    }
+    sum
+}
+
+// a(e): how many entries the whole table has on link e.
+fn entries(row: &[u16], e: usize) -> usize
+    ensures { λ r. ⌜ Is (entries e (planOf (now (row .entry)) .messages)) 4294967296 r ⌝ }
+{
+    let n = view::messages(row);
+    let mut sum: usize = 0;
+    let mut at = view::message_index(row, 0);
+    let mut k = 0;
+    while k < n {
+        sum = sum + entries_of(row, e, at + 1, view::place_count(row, at));
+        at = view::after_message(row, at);
+        k += 1;
+    }
+    sum
+}
+
+// 1 if the message at an index has a second path through link e, 0 if it has none.
+fn message_through(row: &[u16], e: usize, i: usize) -> usize
+    requires { ⌜ i < 2 ^ 59 ⌝ }
+    ensures { λ r. ⌜ Is (cond (hasSecondThrough e (messageAt (now (row .entry)) i)) 1 0) 1 r ⌝ }
+{
+    if through(row, e, i + 1, view::place_count(row, i)) {
+        1
+    } else {
+        0
+    }
+}
+
+// b(m, e): how many messages lower than m have a second path through link e.
+fn lower_through(row: &[u16], m: usize, e: usize) -> usize
+    requires { ⌜ m ≤ messageCount (now row) ⌝ }
+    ensures { λ r. ⌜ Is (lowerThrough byNumber m e 0 (planOf (now (row .entry)) .messages)) m r ⌝ }
+{
+    let mut sum: usize = 0;
+    let mut at = view::message_index(row, 0);
+    let mut j = 0;
+    while j < m {
+        sum = sum + message_through(row, e, at);
+        at = view::after_message(row, at);
+        j += 1;
+    }
+    sum
+}
+
+// D: the sum, over the links of a second path at an index, of 1 + a(e) + b(m, e).
+fn delay(row: &[u16], m: usize, i: usize, n: usize) -> usize
+    requires { ⌜ (i < 2 ^ 60) × ((n ≤ 65536) × (m ≤ messageCount (now row))) ⌝ }
+    ensures { λ r. ⌜ Is (delay byNumber (planOf (now (row .entry)) .messages) m (numbersAt (now (row .entry)) i n)) (n * 4295032833) r ⌝ }
+{
+    let mut sum: usize = 0;
+    let mut k = 0;
+    while k < n {
+        let e = view::number(row, i + k);
+        sum = sum + 1 + entries(row, e) + lower_through(row, m, e);
+        k += 1;
+    }
+    sum
+}
