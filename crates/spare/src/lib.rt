@@ -4,6 +4,7 @@ ghost use mathlib.Core.Path.{_≡_};
 ghost use Prim.Native.Nat.{_+_, _*_, _<_, _≤_, _^_};
 ghost use mathlib.Core.Bool.{cond};
 ghost use lib.Dec.{eqb};
+ghost use lib.IntN.{subℕ};
 ghost use Rattle.scope.specs.Plan.{at, numbersAt, placesAt, secondAt, messageAt, messageCount, planOf};
 ghost use Rattle.scope.specs.Good.{has};
 ghost use Rattle.scope.specs.Cycle.{byNumber};
@@ -134,4 +135,12 @@ fn delay(row: &[u16], m: usize, i: usize, n: usize) -> usize
         k += 1;
     }
     sum
+}
+
+// t less what is used, below, at or above zero.
+fn less(t: usize, used: usize) -> i32
+    requires { ⌜ (t < 2 ^ 30) × (used < 2 ^ 30) ⌝ }
+    ensures { λ r. ⌜ r ≡ subℕ t used ⌝ }
+{
+    (t as i32) - (used as i32)
 }
