@@ -1,13 +1,13 @@
 -- `flow::fill` meets its contract. The loop's invariant: what is read so far and what is left give the whole row and the whole answer;
 -- what can follow falls with each field. Assumes nothing.
-use Prim.Native.Nat.{ℕ, _+_, _*_, _≤_, _<_}
-use mathlib.Core.Path.{_≡_, refl, sym, _∙_, ap}
+use Prim.Native.Nat.{_+_, _<_}
+use mathlib.Core.Path.{_≡_, refl, sym, _∙_}
 use native.Mathlib.Omega.{arith}
 use lib.ListN.{length, length-set}
 use Rattle.scope.specs.Fields.{width}
 use Rattle.scope.specs.Bits.{bits}
 use Rattle.bits.proofs.Laws.{length-bits}
-use Rattle.grammar.proofs.Most.{numbers, wide, fewer, falls, width-most, number-small}
+use Rattle.grammar.proofs.Most.{numbers, fewer, falls, width-most, number-small}
 use Rattle.flow.proofs.Walk.{bits-end, bits-short, fields-end, fields-short}
 use Rattle.flow.proofs.Filling.{OnFile, turns, starts, goes-on, gives-row}
 use borrow.Author.Needs.{needs}

@@ -1,5 +1,4 @@
 -- `flow::pack` meets its contract: the fields, and then zero bits to the end of the part. Assumes nothing.
-use Prim.Native.Nat.{_+_, _*_, _≤_, _<_}
 use mathlib.Core.Path.{_≡_, _∙_}
 use lib.Pow.{pow-pos}
 use native.Mathlib.Omega.{arith}
