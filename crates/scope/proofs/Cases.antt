@@ -1,7 +1,7 @@
--- The table of document 01's cases marked P holds, each row by computing.
-use Prim.Native.Nat.{ℕ}
+-- The table of document 01's cases marked P holds, and so does our own, each row by computing.
 use mathlib.Core.Path.{_≡_, refl}
 use mathlib.Core.List.{List, [], _∷_}
+use lib.Dec.{lit<, lit≤}
 use Rattle.scope.specs.Lowest.{seek}
 use Rattle.scope.specs.Bits.{bitsOf, bits, numberFrom, bytesOf}
 use Rattle.scope.specs.File.{walkBits, fieldsOf, zeros, endsAt, walkFile, rowOf, packed, fileOf}
@@ -10,11 +10,44 @@ use Rattle.scope.specs.Plan.{numbersAt, linksAt, placesAt, afterPlaces, 
 use Rattle.scope.specs.Good.{has, different, areLinks, joins, visited, slotsRise, holds, taken, goodSeconds, rules}
 use Rattle.scope.specs.Cuts.{checkCuts, isCut}
 use Rattle.scope.specs.Cycle.{foremost, tableOf, moves, slot, numbers, positions, events, arrived, arrivals, eventRow}
+use Rattle.scope.specs.Verdict.{FirstFailing, earlier}
 use Rattle.scope.specs.Spare.{entriesOf, entries, hasSecondThrough, lowerThrough, delay}
 use Rattle.scope.specs.Questions.{judge, readFile, writeFile, replay, maySpare, slack}
-use Rattle.scope.specs.Cases.{kindsOf, table, All}
+use Rattle.scope.specs.Cases.{kindsOf, table, ownTable, All, rowA, rowLate, rowOrder}
+use Rattle.scope.proofs.First.{every, spared, before-one, before-two}
 
-cases : All table
+-- "A: cuts (0,0), (0,2): .. this is the list for k 2, l 1"
+first-of-A : FirstFailing (planOf rowA) 2 1 (0 ∷ 0 ∷ 0 ∷ 2 ∷ [])
+unfolding every spared earlier seek isCut foremost tableOf moves slot positions arrived arrivals numbersAt linksAt placesAt afterPlaces messagesAt afterMessages planOf holds
+first-of-A =
+    record {
+      good = refl;
+      few = lit≤ tt;
+      fails = lit< tt;
+      first = before-two (planOf rowA) 1 4 4 refl refl (lit≤ tt) 0 0 0 2 refl refl;
+    }
+
+first-of-late : FirstFailing (planOf rowLate) 1 2 (2 ∷ 0 ∷ [])
+unfolding every spared earlier seek isCut foremost tableOf moves slot positions arrived arrivals numbersAt linksAt placesAt afterPlaces messagesAt afterMessages planOf holds
+first-of-late =
+    record {
+      good = refl;
+      few = lit≤ tt;
+      fails = lit< tt;
+      first = before-one (planOf rowLate) 2 3 3 refl refl (lit≤ tt) 2 0 refl;
+    }
+
+first-of-order : FirstFailing (planOf rowOrder) 1 3 (0 ∷ 3 ∷ [])
+unfolding every spared earlier seek isCut foremost tableOf moves slot positions arrived arrivals numbersAt linksAt placesAt afterPlaces messagesAt afterMessages planOf holds
+first-of-order =
+    record {
+      good = refl;
+      few = lit≤ tt;
+      fails = lit< tt;
+      first = before-one (planOf rowOrder) 3 4 3 refl refl (lit≤ tt) 0 3 refl;
+    }
+
+pub cases : All table
 unfolding seek bitsOf bits numberFrom bytesOf walkBits fieldsOf zeros endsAt walkFile rowOf packed fileOf walkFrom walkRow numbersAt linksAt placesAt afterPlaces messagesAt afterMessages planOf has different areLinks joins visited slotsRise holds taken goodSeconds rules checkCuts isCut foremost tableOf moves slot numbers positions events arrived arrivals eventRow entriesOf entries hasSecondThrough lowerThrough delay judge readFile writeFile replay maySpare slack kindsOf
 cases = (
   (refl, refl, refl, refl),
@@ -27,20 +60,29 @@ cases = (
         (
           (refl, refl),
           (
-            (refl, refl, refl),
+            (refl, refl),
             (
               (refl, refl),
               (
                 (refl, refl),
                 (
-                  (refl, refl, refl),
+                  (refl, refl),
                   (
                     (refl, refl),
                     (
-                      (refl, refl, refl),
+                      (refl, refl),
                       (
-                        (refl, refl, refl),
-                        tt,
+                        (refl, refl),
+                        (
+                          (refl, refl),
+                          (
+                            (refl, refl),
+                            (
+                              first-of-A,
+                              tt,
+                            ),
+                          ),
+                        ),
                       ),
                     ),
                   ),
@@ -53,3 +95,7 @@ cases = (
     ),
   ),
 )
+
+pub own-cases : All ownTable
+unfolding seek bitsOf bits numberFrom bytesOf walkBits fieldsOf zeros endsAt walkFile rowOf packed fileOf walkFrom walkRow numbersAt linksAt placesAt afterPlaces messagesAt afterMessages planOf has different areLinks joins visited slotsRise holds taken goodSeconds rules checkCuts isCut foremost tableOf moves slot numbers positions events arrived arrivals eventRow entriesOf entries hasSecondThrough lowerThrough delay judge readFile writeFile replay maySpare slack kindsOf
+own-cases = (first-of-late, (first-of-order, ((refl, refl), ((refl, refl), (refl, ((refl, refl), tt))))))

@@ -1,2 +1,6 @@
+pub mod Bools
 pub mod Lowest
+pub mod Cuts
+pub mod Order
+pub mod First
 pub mod Cases

@@ -1,16 +1,17 @@
 -- "Examples": the cases that document 01 marks P, as rows of one table. What it says of a row is `Holds`, and proofs/Cases.antt proves the table.
-use Prim.Native.Nat.{ℕ, zero, suc, _*_}
+use Prim.Native.Nat.{ℕ, zero, suc, _-_, _*_}
 use mathlib.Core.Path.{_≡_}
-use mathlib.Core.Bool.{cond}
+use mathlib.Core.Bool.{Bool, true, false, _&&_}
 use mathlib.Core.List.{List, [], _∷_}
 use lib.ListN.{length, getD, drop}
 use lib.IntN.{ℤ, pos, negsuc}
 use lib.Dec.{eqb}
-use Rattle.scope.specs.Lowest.{lowest}
 use Rattle.scope.specs.Outcome.{Outcome, gives, refused}
 use Rattle.scope.specs.File.{rowOf, fileOf}
 use Rattle.scope.specs.Plan.{planOf}
-use Rattle.scope.specs.Cycle.{arrivals, eventRow}
+use Rattle.scope.specs.Cuts.{isCut}
+use Rattle.scope.specs.Slot.{onSecond, atTarget}
+use Rattle.scope.specs.Cycle.{byNumber, tableOf, start, positions, events, eventRow}
 use Rattle.scope.specs.Verdict.{FirstFailing}
 use Rattle.scope.specs.Questions.{readFile, writeFile, replay, slack, maySpare}
 
@@ -37,14 +38,47 @@ rowA =
     1 ∷ 0 ∷ 0 ∷ 1 ∷ 1 ∷ 2 ∷ 3 ∷ 1 ∷ 1 ∷ 0 ∷
     1 ∷ 2 ∷ 0 ∷ 1 ∷ 1 ∷ 0 ∷ 1 ∷ 3 ∷ 1 ∷ 0 ∷ []
 
--- the kinds of message m in a row of events of so many messages: every other number, message by message
+-- Plans of our own, where the cases marked P let a wrong rule of "Plausible and wrong" through (docs/DECISIONS.md).
+
+-- plan B with message 1 in slot 2 and t = 3: no cut before the cycle does harm, and one in slot 2 does
+abbrev pub rowLate : List ℕ
+rowLate = 1 ∷ 2 ∷ 2 ∷ 1 ∷ 2 ∷ 0 ∷ 1 ∷ 0 ∷ 2 ∷ 2 ∷ 1 ∷ 0 ∷ 0 ∷ 0 ∷ 1 ∷ 1 ∷ 1 ∷ 2 ∷ 0 ∷ 0 ∷ 2 ∷ 1 ∷ 1 ∷ 1 ∷ 2 ∷ []
+
+-- the same with a link 3 from 1 to 0 and a message 2 on it in slot 0: a cut in slot 0 of link 3, and one in slot 2 of link 0, each lose one
+abbrev pub rowOrder : List ℕ
+rowOrder =
+    1 ∷ 2 ∷ 3 ∷ 2 ∷ 2 ∷ 0 ∷ 1 ∷ 0 ∷ 2 ∷ 2 ∷ 1 ∷ 1 ∷ 0 ∷ 0 ∷ 0 ∷ 0 ∷ 1 ∷ 1 ∷ 1 ∷ 2 ∷ 0 ∷ 0 ∷ 2 ∷ 1 ∷ 1 ∷ 1 ∷ 2 ∷ 0 ∷ 3 ∷ 0 ∷ 0 ∷ []
+
+-- links 0→1, 1→3, 0→2, 2→1; one message: links 0, 1 in slots 0, 2, second path 2, 3, 1 from place 0, which meets its own entry on link 1
+abbrev pub rowOwn : List ℕ
+rowOwn = 1 ∷ 3 ∷ 3 ∷ 0 ∷ 3 ∷ 0 ∷ 1 ∷ 1 ∷ 3 ∷ 0 ∷ 2 ∷ 2 ∷ 1 ∷ 1 ∷ 0 ∷ 0 ∷ 1 ∷ 2 ∷ 2 ∷ 3 ∷ 1 ∷ 1 ∷ 2 ∷ 0 ∷ []
+
+-- links 0→1, 1→2, 0→3, 3→2, 1→3 and t = 8; message 0 has two second paths through link 3, and message 1 has one
+abbrev pub rowTwice : List ℕ
+rowTwice =
+    1 ∷ 3 ∷ 4 ∷ 1 ∷ 7 ∷
+    0 ∷ 1 ∷ 1 ∷ 2 ∷ 0 ∷ 3 ∷ 3 ∷ 2 ∷ 1 ∷ 3 ∷
+    1 ∷ 0 ∷ 0 ∷ 1 ∷ 1 ∷ 2 ∷ 3 ∷ 1 ∷ 1 ∷ 1 ∷ 1 ∷ 4 ∷ 3 ∷
+    1 ∷ 0 ∷ 1 ∷ 1 ∷ 1 ∷ 2 ∷ 3 ∷ 1 ∷ 2 ∷ 0 ∷ []
+
+-- link 0 is down in slot 0 and whole again from slot 1 on: no cut list does this, and a message once turned stays turned
+abbrev pub brief : ℕ → ℕ → Bool
+brief i e = eqb i 0 && eqb e 0
+
+-- the kinds of message m in so many slots of a row of events: every other number, message by message
 unfoldable pub kindsOf : ℕ → ℕ → ℕ → List ℕ → List ℕ
 kindsOf messages m zero row = []
 kindsOf messages m (suc slots) row = getD row (m * 2) 0 ∷ kindsOf messages m slots (drop (messages * 2) row)
 
--- the time at which a message arrives, from its kinds: the first slot in which it is "at its target already"
-abbrev pub arrivesAt : List ℕ → ℕ
-arrivesAt kinds = lowest (λ i. eqb (getD kinds i 0) 0) (length kinds)
+abbrev pub kindsUnder : (ℕ → ℕ → Bool) → List ℕ → ℕ → List ℕ
+kindsUnder down row m =
+    kindsOf (length (planOf row .messages)) m (planOf row .timeout)
+    (events byNumber down (tableOf (planOf row)) 0 (planOf row .timeout) (start (planOf row)))
+
+-- message m is at its target at a time
+abbrev pub thereAt : List ℕ → List ℕ → ℕ → ℕ → Bool
+thereAt row cuts m time =
+    atTarget (getD (positions byNumber (isCut cuts) (tableOf (planOf row)) 0 time (start (planOf row))) m (onSecond (0 ∷ [])))
 
 -- a row of the table: a question with its answer
 pub data Case : Type 0 where
@@ -54,8 +88,12 @@ pub data Case : Type 0 where
   same : List ℕ → List ℕ → Case
   -- a row, a cut list, the arrivals and the events
   plays : List ℕ → List ℕ → ℕ → List ℕ → Case
-  -- a row, a cut list, the arrivals, and one message of the two with its kinds in the four slots and the time at which it arrives
-  follows : List ℕ → List ℕ → ℕ → ℕ → List ℕ → ℕ → Case
+  -- a row, a cut list, the arrivals, and one message with its kinds, slot by slot
+  follows : List ℕ → List ℕ → ℕ → ℕ → List ℕ → Case
+  -- a row, a cut list, a message, and the time at which it arrives
+  arrives : List ℕ → List ℕ → ℕ → ℕ → Case
+  -- a row, what is down in which slot, and one message with its kinds
+  comesAndGoes : List ℕ → (ℕ → ℕ → Bool) → ℕ → List ℕ → Case
   -- a row, a message, a place, and the slack
   spares : List ℕ → ℕ → ℕ → ℤ → Case
   -- a row, k, l, and the list that the verdict answers
@@ -67,11 +105,14 @@ Holds (same file row) =
     (rowOf file ≡ row) × (fileOf row ≡ file) × (readFile file (length row) ≡ gives (length row)) × (writeFile row (length file) ≡ gives (length file))
 Holds (plays row cuts n events) =
     (replay row cuts (length events) ≡ gives n) × (eventRow (planOf row) cuts ≡ events)
-Holds (follows row cuts n m kinds time) =
-    (replay row cuts 16 ≡ gives n) × (kindsOf 2 m 4 (eventRow (planOf row) cuts) ≡ kinds) × (arrivesAt kinds ≡ time)
+Holds (follows row cuts n m kinds) =
+    (replay row cuts 16 ≡ gives n) × (kindsUnder (isCut cuts) row m ≡ kinds)
+Holds (arrives row cuts m time) = (thereAt row cuts m (time - 1) ≡ false) × (thereAt row cuts m time ≡ true)
+Holds (comesAndGoes row down m kinds) = kindsUnder down row m ≡ kinds
 Holds (spares row m p z) = (maySpare row m p ≡ gives 0) × (slack row m p ≡ z)
 Holds (fails row k l cuts) = FirstFailing (planOf row) k l cuts
 
+-- the cases marked P
 abbrev pub table : List Case
 table =
     same fileB rowB ∷
@@ -80,14 +121,28 @@ table =
     reads (fileWith 0x20 0x00) 25 (refused 1 0) ∷
     plays rowB (0 ∷ 0 ∷ []) 2
     (3 ∷ 1 ∷ 5 ∷ 0 ∷ 3 ∷ 2 ∷ 3 ∷ 1 ∷ 0 ∷ 0 ∷ 3 ∷ 2 ∷ 0 ∷ 0 ∷ 0 ∷ 0 ∷ []) ∷
-    follows rowB (1 ∷ 0 ∷ []) 2 1 (1 ∷ 3 ∷ 3 ∷ 0 ∷ []) 3 ∷
+    follows rowB (1 ∷ 0 ∷ []) 2 1 (1 ∷ 3 ∷ 3 ∷ 0 ∷ []) ∷
     spares rowB 0 0 (pos 2) ∷
     spares rowB 1 0 (negsuc 0) ∷
-    follows rowB (0 ∷ 0 ∷ []) 2 1 (5 ∷ 3 ∷ 3 ∷ 0 ∷ []) 3 ∷
+    arrives rowB (0 ∷ 0 ∷ []) 1 3 ∷
     plays rowA [] 2
     (2 ∷ 0 ∷ 2 ∷ 2 ∷ 2 ∷ 1 ∷ 2 ∷ 3 ∷ 0 ∷ 0 ∷ 0 ∷ 0 ∷ 0 ∷ 0 ∷ 0 ∷ 0 ∷ []) ∷
-    follows rowA (0 ∷ 0 ∷ []) 2 0 (4 ∷ 3 ∷ 3 ∷ 0 ∷ []) 3 ∷
-    follows rowA (1 ∷ 1 ∷ []) 1 0 (2 ∷ 6 ∷ 6 ∷ 6 ∷ []) 4 ∷
+    follows rowA (0 ∷ 0 ∷ []) 2 0 (4 ∷ 3 ∷ 3 ∷ 0 ∷ []) ∷
+    arrives rowA (0 ∷ 0 ∷ []) 0 3 ∷
+    follows rowA (1 ∷ 1 ∷ []) 1 0 (2 ∷ 6 ∷ 6 ∷ 6 ∷ []) ∷
+    follows rowA (0 ∷ 0 ∷ 0 ∷ 2 ∷ []) 0 0 (7 ∷ 7 ∷ 7 ∷ 7 ∷ []) ∷
+    fails rowA 2 1 (0 ∷ 0 ∷ 0 ∷ 2 ∷ []) ∷
+    []
+
+-- the cases of our own
+abbrev pub ownTable : List Case
+ownTable =
+    fails rowLate 1 2 (2 ∷ 0 ∷ []) ∷
+    fails rowOrder 1 3 (0 ∷ 3 ∷ []) ∷
+    follows rowOwn (0 ∷ 0 ∷ []) 1 0 (3 ∷ 3 ∷ 4 ∷ 3 ∷ []) ∷
+    spares rowOwn 0 0 (pos 0) ∷
+    comesAndGoes rowB brief 1 (5 ∷ 3 ∷ 3 ∷ 0 ∷ []) ∷
+    spares rowTwice 1 0 (pos 3) ∷
     []
 
 -- every row of a table holds

@@ -9,7 +9,7 @@ use Rattle.scope.specs.Cuts.{pairs, isCutList}
 use Rattle.scope.specs.Cycle.{arrivals}
 
 -- "the plan is resistant exactly if every cut list of at most k pairs gives at least l arrivals"
-pub Resistant : Plan → ℕ → ℕ → Type 0
+unfoldable pub Resistant : Plan → ℕ → ℕ → Type 0
 Resistant plan k l = (cuts : List ℕ) → isCutList plan cuts ≡ true → pairs cuts ≤ k → l ≤ arrivals plan cuts
 
 -- "the order of its numbers from the left"

@@ -5,7 +5,21 @@ ghost use Prim.Native.Nat.{_<_, _≤_, _^_};
 ghost use lib.ListN.{length};
 ghost use Rattle.scope.specs.Plan.{planOf, messageCount};
 ghost use Rattle.scope.specs.Cycle.{tableOf};
+ghost use Rattle.view.specs.View.{Is};
 ghost use Rattle.table.specs.Table.{Table, Entered, entryAt, marked};
+
+// The entry of a slot and a link: the message that holds them plus one, or 0.
+pub fn entry(table: &[u8], slot: usize, link: usize) -> usize
+    requires { ⌜ (slot < 65536) × (link < 65536) ⌝ }
+    ensures { λ r. ⌜ Is (entryAt (now (table .entry)) slot link) 255 r ⌝ }
+{
+    let k = slot * 64 + link;
+    if k < table.len() {
+        table[k] as usize
+    } else {
+        0
+    }
+}
 
 // Puts w at a slot and a link, unless they are held already or the table has no such slot or link.
 fn mark(table: &mut [u8], link: usize, slot: usize, w: u8)

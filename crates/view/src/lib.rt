@@ -3,10 +3,14 @@
 //
 // A place takes at most 65540 numbers, and there are at most 65536 places and messages, whatever the row: so every index stays far
 // below the largest `usize`, and each contract says how far.
+ghost use mathlib.Core.Path.{_≡_};
 ghost use Prim.Native.Nat.{_+_, _*_, _<_, _≤_, _^_};
+ghost use lib.ListN.{length};
+ghost use Rattle.scope.specs.Outcome.{gives};
+ghost use Rattle.scope.specs.Row.{walkRow};
 ghost use Rattle.scope.specs.Plan.{placeSize, afterPlaces, afterMessage, vertexCount, linkCount, messageCount, timeoutOf, placeCount};
 ghost use Rattle.scope.specs.SecondPath.{messageIndex, placeIndex};
-ghost use Rattle.view.specs.View.{Number, Is};
+ghost use Rattle.view.specs.View.{Number, Is, secondPart};
 
 // The number at an index of a row, 0 past its end.
 pub fn number(row: &[u16], i: usize) -> usize
@@ -101,4 +105,25 @@ pub fn place_index(row: &[u16], m: usize, p: usize) -> usize
     ensures { λ r. ⌜ Is (placeIndex (now (row .entry)) m p) (131078 + m * 4295229441 + p * 65540) r ⌝ }
 {
     after_places(row, message_index(row, m) + 1, p)
+}
+
+// The second path of message m from place p, as a part of the row: length 0 where there is no such message, place or second path.
+pub fn second_path_part(row: &[u16], m: usize, p: usize) -> &[u16]
+    requires { ⌜ walkRow (now row) ≡ gives (length (now row)) ⌝ }
+    ensures { λ r. ⌜ now r ≡ secondPart (now (row .entry)) m p ⌝ }
+{
+    if messages(row) <= m {
+        return &row[..0];
+    }
+    let i = message_index(row, m);
+    if place_count(row, i) <= p {
+        return &row[..0];
+    }
+    let at = after_places(row, i + 1, p);
+    if number(row, at + 2) != 1 {
+        return &row[..0];
+    }
+    let a = at + 4;
+    let b = a + number(row, at + 3) + 1;
+    &row[a..b]
 }
