@@ -1,15 +1,26 @@
-// Spare slots of a second path: a(e), b(m, e), D and the slack, of `scope`'s Spare. Counting is by total reads of the row, so only
-// `slack` itself asks whether the row is good. It leans on `view` for where things stand.
+// Spare slots of a second path: a(e), b(m, e), D and the slack, of `scope`'s Spare. `slack` takes anything, and refuses what is bad by
+// document 01's numbers; proofs/ has that the slack lies between -1,535 and 63, and what 0 or more means for the replay. It leans on
+// `view` for where things stand, on `plan` for what a good row is, and on `laws` for the replay. Counting is by total reads of the row.
+use scope::Answer;
+use scope::Refusal;
 ghost use mathlib.Core.Path.{_≡_};
 ghost use Prim.Native.Nat.{_+_, _*_, _<_, _≤_, _^_};
 ghost use mathlib.Core.Bool.{cond};
 ghost use lib.Dec.{eqb};
 ghost use lib.IntN.{subℕ};
-ghost use Rattle.scope.specs.Plan.{at, numbersAt, placesAt, secondAt, messageAt, messageCount, planOf};
+ghost use Rattle.scope.specs.Plan.{at, numbersAt, placesAt, secondAt, secondStart, secondCount, messageAt, messageCount, planOf};
 ghost use Rattle.scope.specs.Good.{has};
 ghost use Rattle.scope.specs.Cycle.{byNumber};
 ghost use Rattle.scope.specs.Spare.{entriesOf, entries, hasSecondThrough, lowerThrough, delay};
 ghost use Rattle.view.specs.View.{Is};
+ghost use Rattle.plan.specs.Answers.{GoodRow};
+ghost use Rattle.spare.specs.Slack.{Slacks};
+
+// An answer that is a slack, below, at or above zero.
+pub enum Spare {
+    Slots(i32),
+    Refused(Refusal),
+}
 
 // Whether link e stands among so many numbers from an index on.
 fn has(row: &[u16], e: usize, i: usize, n: usize) -> bool
@@ -143,4 +154,42 @@ fn less(t: usize, used: usize) -> i32
     ensures { λ r. ⌜ r ≡ subℕ t used ⌝ }
 {
     (t as i32) - (used as i32)
+}
+
+// The slot of the place at an index, and D of its second path for message m: what of the timeout is used.
+fn used(row: &[u16], m: usize, i: usize) -> usize
+    requires { ⌜ (i < 2 ^ 59) × (m ≤ messageCount (now row)) ⌝ }
+    ensures { λ r. ⌜ r ≡ at (now (row .entry)) (i + 1) + delay byNumber (planOf (now (row .entry)) .messages) m (numbersAt (now (row .entry)) (secondStart i) (secondCount (now (row .entry)) i)) ⌝ }
+{
+    view::number(row, i + 1) + delay(row, m, i + 4, view::number(row, i + 3) + 1)
+}
+
+// The slack of the second path of message m from place p, of a row that is known to be good.
+pub fn slack_of_good(row: &[u16], m: usize, p: usize) -> Spare
+    requires { ⌜ GoodRow (now row) ⌝ }
+    ensures { λ r. ⌜ Slacks (now (row .entry)) m p r ⌝ }
+{
+    if view::messages(row) <= m {
+        return Spare::Refused(Refusal { no: 11, place: 0 });
+    }
+    let i = view::message_index(row, m);
+    if view::place_count(row, i) <= p {
+        return Spare::Refused(Refusal { no: 11, place: 0 });
+    }
+    let at = view::after_places(row, i + 1, p);
+    if view::number(row, at + 2) != 1 {
+        return Spare::Refused(Refusal { no: 11, place: 0 });
+    }
+    Spare::Slots(less(view::timeout(row), used(row, m, at)))
+}
+
+// The slack of the second path of message m from place p: timeout less slot less D, or refusal 1 to 10, 11.
+pub fn slack(row: &[u16], m: usize, p: usize) -> Spare
+    ensures { λ r. ⌜ Slacks (now (row .entry)) m p r ⌝ }
+{
+    let judged = plan::judge(row);
+    match judged {
+        Answer::Gives(_) => slack_of_good(row, m, p),
+        Answer::Refused(r) => Spare::Refused(r),
+    }
 }
