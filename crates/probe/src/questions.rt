@@ -4,6 +4,7 @@
 ghost use Prim.Native.Nat.{_<_};
 use scope::Answer;
 use scope::Refusal;
+use spare::Spare;
 use words::begins;
 use words::put;
 use words::put_number;
@@ -135,6 +136,75 @@ fn second(line: &[u8], given: &mut [u16], out: &mut [u8], at: usize) -> usize {
     put(out, last, b"\n")
 }
 
+// How many numbers the events of a row's cycle are.
+fn events(row: &[u16]) -> usize {
+    view::timeout(row) * (2 * view::messages(row))
+}
+
+fn replay_row(
+    row: &[u16],
+    cuts: &[u16],
+    room: usize,
+    lent: &mut [u16],
+    out: &mut [u8],
+    at: usize,
+) -> usize
+    requires { ⌜ room < 65536 ⌝ }
+{
+    let all = room + MARGIN;
+    if lent.len() < all {
+        return unknown(out, at);
+    }
+    words::fill_16(&mut lent[0..all]);
+    let answer = replays::replay(row, cuts, &mut lent[0..room]);
+    told(answer, events(row), &lent[0..all], out, at)
+}
+
+// The numbers of a replay: ROOM C c... ROW...
+fn replay_given(given: &[u16], lent: &mut [u16], out: &mut [u8], at: usize) -> usize {
+    let room = view::number(given, 0);
+    let split = view::number(given, 1) + 2;
+    let n = given.len();
+    if n < split {
+        return unknown(out, at);
+    }
+    replay_row(&given[split..n], &given[2..split], room, lent, out, at)
+}
+
+// `replay ROOM C c... ROW...`
+fn replay(line: &[u8], given: &mut [u16], lent: &mut [u16], out: &mut [u8], at: usize) -> usize {
+    let n = words::numbers(line, 6, given);
+    if n < 2 {
+        return unknown(out, at);
+    }
+    replay_given(&given[0..n], lent, out, at)
+}
+
+fn told_slack(spare: Spare, out: &mut [u8], at: usize) -> usize {
+    match spare {
+        Spare::Slots(slots) => {
+            let first = put(out, at, b"ok ");
+            let last = words::put_signed(out, first, slots);
+            put(out, last, b"\n")
+        }
+        Spare::Refused(r) => {
+            let last = refused(out, at, r);
+            put(out, last, b"\n")
+        }
+    }
+}
+
+// `slack MESSAGE PLACE ROW...`
+fn slack(line: &[u8], given: &mut [u16], out: &mut [u8], at: usize) -> usize {
+    let n = words::numbers(line, 5, given);
+    if n < 2 {
+        return unknown(out, at);
+    }
+    let m = view::number(given, 0);
+    let p = view::number(given, 1);
+    told_slack(spare::slack(&given[2..n], m, p), out, at)
+}
+
 pub fn answer(
     line: &[u8],
     given: &mut [u16],
@@ -148,6 +218,12 @@ pub fn answer(
     }
     if begins(line, b"write") {
         return write(line, given, file, out, at);
+    }
+    if begins(line, b"replay") {
+        return replay(line, given, lent, out, at);
+    }
+    if begins(line, b"slack") {
+        return slack(line, given, out, at);
     }
     if begins(line, b"second") {
         return second(line, given, out, at);

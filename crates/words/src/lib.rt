@@ -1,6 +1,7 @@
 // Words of a line, for the probe: numbers and bytes read from a line, words, numbers and bytes written into a buffer, and buffers
 // filled and compared with their filling. What is promised is safety, an end, and that each index and count lies within its line or
-// buffer; what a test program says is compared, not proved. It leans on `text` for what is written and on `view` for reading a row.
+// buffer; what a test program says is compared, not proved. It leans on `text` and `verdict_lines`
+// for what is written and on `view` for reading a row.
 ghost use Prim.Native.Nat.{_+_, _≤_, _<_};
 ghost use lib.ListN.{length};
 ghost use Rattle.words.specs.Within.{Reached, Small};
@@ -203,6 +204,12 @@ pub fn put(out: &mut [u8], at: usize, word: &[u8]) -> usize {
 pub fn put_number(out: &mut [u8], at: usize, n: usize) -> usize {
     let from = least(at, out.len());
     text::put_decimal(out, from, n)
+}
+
+// A number that may be below zero, likewise.
+pub fn put_signed(out: &mut [u8], at: usize, z: i32) -> usize {
+    let from = least(at, out.len());
+    verdict_lines::put_signed(out, from, z)
 }
 
 // A space and a number.
