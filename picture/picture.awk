@@ -9,6 +9,7 @@
 BEGIN {
     MOST_SLOTS = 64
     MOST_MESSAGES = 32
+    MOST_LINKS = 64
     NUMBER = "(0|[1-9][0-9]?)"
     EVENT = "^" NUMBER " " NUMBER " [0-7] " NUMBER "$"
     LAST = "^arrived " NUMBER " of " NUMBER "$"
@@ -109,6 +110,7 @@ function take(k, n,    before) {
         no_listing("line " NR ": message " message " was at its target already")
     if (k != 0 && second(before) && !second(k))
         no_listing("line " NR ": message " message " was on its second path already")
+    if (n >= MOST_LINKS) no_listing("line " NR " has a number above " (MOST_LINKS - 1))
     kind[slot, message] = k
     number[slot, message] = n
 }
