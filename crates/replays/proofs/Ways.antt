@@ -87,12 +87,11 @@ module _ (row cuts entry : List ℕ) (good : Checked row cuts) (needed : ℕ) (n
 
   -- the arrivals, with the row of events
   module _ (h : needed ≤ length entry) (table from exit : List ℕ) (count : ℕ) (t : Table (tableOf (planOf row)) table) (f : Tells cuts 64 from)
-    (p : Played row table from entry exit count) where
+      (p : Played row table from entry exit count) where
     same : (j : ℕ) → j < 0 + timeoutOf row → (downOf from j ≡ isCut cuts j) × (ownerOf table j ≡ tableOf (planOf row) j)
     same j g =
         let l = judged-lies row (good .judged) in
-        let k : j < 64 = omega (arith, l .timeout) in
-        (
+        let k : j < 64 = omega (arith, l .timeout) in (
           down-same (planOf row) cuts (good .count) (good .good) from f (omega (arith, link-count row, l .links)) j (omega arith),
           owner-same row l table t j k,
         )
@@ -115,7 +114,7 @@ module _ (row cuts entry : List ℕ) (good : Checked row cuts) (needed : ℕ) (n
     replay-gives =
         let l : length (eventRow (planOf row) cuts) ≡ needed = row-length row cuts ∙ sym n in
         let o : replay row cuts (length entry) ≡ gives (arrivals (planOf row) cuts) =
-                rw (good .judged .good, good .good, l, le-leb needed (length entry) h) in
+        rw (good .judged .good, good .good, l, le-leb needed (length entry) h) in
         record {
           answer = ap gives ends ∙ sym o;
           buffer = p .events ∙ ap (λ u. u ++ drop (length u) entry) tells-row ∙ after-gives _ _ (eventRow (planOf row) cuts) entry o;

@@ -31,3 +31,7 @@ module _ (a b : ℕ) (h : a < 2 ^ 30) (k : b < 2 ^ 30) where
 
   pub less-is : toZ w32 (ofZ w32 (toZ w32 a -ℤ toZ w32 b)) ≡ subℕ a b
   less-is = toZ-ofZ less-fits ∙ same
+
+  -- and it comes back from 32 bits
+  pub sub-back : (z : ℤ) → z ≡ subℕ a b → toZ w32 (ofZ w32 z) ≡ subℕ a b
+  sub-back z e = ap (λ (y : ℤ). toZ w32 (ofZ w32 y)) e ∙ toZ-ofZ (record { sfits = sub-small a b h k })

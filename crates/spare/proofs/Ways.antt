@@ -6,6 +6,8 @@ use mathlib.Core.Bool.{true, false}
 use mathlib.Core.List.{List}
 use lib.ListN.{length}
 use lib.IntN.{ℤ, pos, subℕ}
+use mir.Syntax.{w32}
+use mir.Val.{toZ, ofZ}
 use borrow.Author.Tests.{eq-eqb, ne-eqb}
 use Rattle.scope.specs.declared.Refusal.{Refusal}
 use Rattle.scope.specs.Outcome.{Outcome, gives, refused}
@@ -20,6 +22,7 @@ use Rattle.spare.specs.declared.Spare.{Spare}
 use Rattle.spare.specs.declared.Spare.the-variants.{Slots, Refused}
 use Rattle.spare.specs.Slack.{Slacks, said, value, unlessRefused}
 use Rattle.spare.proofs.There.{There, no-message, no-place, no-second, has-second, slot-is, second-is}
+use Rattle.spare.proofs.Signed.{sub-back}
 use Rattle.spare.proofs.Bounds.{small}
 
 -- an answer is known by its number, place and value
@@ -105,9 +108,10 @@ module _ (row : List ℕ) (m p : ℕ) where
           let e : planOf row .timeout ≡ timeoutOf row = timeout-is row in
           (omega (arith, s .timeout), omega (arith, used-is, s .slot, s .timeout, s .most))
 
-      pub spares : (z : ℤ) → z ≡ subℕ t u → Slacks row m p (Slots z)
+      -- the slack z, laid in 32 bits
+      pub spares : (z : ℤ) → z ≡ subℕ t u → Slacks row m p (Slots (toZ w32 (ofZ w32 z)))
       unfolding slack
       spares z is =
           let e : maySpare row m p ≡ gives 0 = may (has-second row m p there) in
-          let f : z ≡ slack row m p = is ∙ ap₂ subℕ (time ∙ sym (timeout-is row)) used-is in
+          let f : toZ w32 (ofZ w32 z) ≡ slack row m p = sub-back t u (fits .0) (fits .1) z is ∙ ap₂ subℕ (time ∙ sym (timeout-is row)) used-is in
           record { answer = sym e; value = f ∙ sym (ap (λ (o : Outcome). unlessRefused o (slack row m p)) e) }

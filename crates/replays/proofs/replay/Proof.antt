@@ -4,38 +4,27 @@ use Rattle.replays.proofs.Ways.{replay-bad}
 use borrow.Author.Needs.{needs}
 use Rattle.replays.proofs.replay.Statement.{statement}
 use Rattle.replays.proofs.replay.Tie as tie
-use Rattle.replays.proofs.replay.Reads as reads
-use Rattle.replays.proofs.replay.Lts as lts
-use Rattle.plan.proofs.judge.Reads as judge-reads
-use Rattle.replays.proofs.replay_good.Reads as replay-good-reads
 
--- src/lib.rt:55:9
 judge-requires : tie.Need-judge-requires
 judge-requires c κs = search needs
 
--- src/lib.rt:57:25
 enum-known-judged : tie.Need-enum-known-judged
 enum-known-judged c = search needs
 
--- src/lib.rt:58:52
 enum-told : tie.Need-enum-told
 enum-told c = search needs
 
--- src/lib.rt:58:29
 replay-good-requires : tie.Need-replay-good-requires
 replay-good-requires c κs = record { count = _; good = gave _ (c .before .enum-told .given .1) (c .before .before .before .judge .ensures) }
 
--- src/lib.rt:52:1
 returns : tie.Need-returns
 returns c =
     let a = c .before .before .before .before .before .before .before .args in
     replay-bad (a .row .now) (a .cuts .now) (a .events .now) _ (refused-as _ (c .before .judged .given .1) (c .before .before .before .judge .ensures))
 
--- src/lib.rt:52:1
 same-length : tie.Need-same-length
 same-length c = search needs
 
--- src/lib.rt:52:1
 returns-2 : tie.Need-returns-2
 returns-2 c = search needs
 
