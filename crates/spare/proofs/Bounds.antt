@@ -2,7 +2,7 @@
 -- another, and at most 16 links on a second path.
 use Prim.Native.Nat.{ℕ, zero, suc, _+_, _-_, _*_, _≤_, _<_}
 use native.Mathlib.Omega.{arith}
-use mathlib.Core.Path.{_≡_, refl, sym, _∙_, ap}
+use mathlib.Core.Path.{_≡_, refl, sym, _∙_, ap, subst}
 use mathlib.Core.Bool.{Bool, true, false, cond, _&&_}
 use mathlib.Core.List.{List, [], _∷_}
 use lib.ListN.{length, getD}
@@ -25,7 +25,8 @@ use Rattle.view.proofs.Parts.{numbers-length, places-length, path-at, timeout-i
 use Rattle.plan.specs.Answers.{GoodRow}
 use Rattle.plan.proofs.Outcomes.{then-back}
 use Rattle.plan.proofs.Ways.{good-row}
-use Rattle.spare.specs.Slack.{Between, SlackLies}
+use Rattle.spare.specs.declared.Spare.the-variants.{Slots}
+use Rattle.spare.specs.Slack.{Slacks, unlessRefused, Between, SlackLies, AnswerLies}
 use Rattle.spare.proofs.Held.{entries-few}
 use Rattle.spare.proofs.There.{There, there, slot-is, second-is}
 
@@ -91,8 +92,8 @@ between : (t s d : ℕ) → t ≤ 64 → s < t → 1 ≤ d → d ≤ 1536 → Be
 between t s d time slot some most = by (ltb t (s + d)) refl
   where
     by : (b : Bool) → ltb t (s + d) ≡ b → Between (cond b (negsuc (s + d - suc t)) (pos (t - (s + d))))
-    by true h = record { low = record { le = le→leb (s + d - suc t) 1534 (omega arith) }; high = record { le = tt } }
-    by false h = record { low = record { le = tt }; high = record { le = le→leb (t - (s + d)) 63 (omega (arith, ltb-false t (s + d) h)) } }
+    by true h = record { low = record { le = le→leb (s + d - suc t) _ (omega arith) }; high = record { le = tt } }
+    by false h = record { low = record { le = tt }; high = record { le = le→leb (t - (s + d)) _ (omega (arith, ltb-false t (s + d) h)) } }
 
 -- what a slack that is not refused says of its row
 pub record Asked (row : List ℕ) (m p : ℕ) : Type 0 where
@@ -110,6 +111,16 @@ asked row m p h =
     by true e f = let z : _≡_ {A = ℕ} 0 1 = cc in absurd (omega arith)
     by false e f = e
 
+-- a slack that is answered is the slack asked for
+pub record Answered (row : List ℕ) (m p : ℕ) (z : ℤ) : Type 0 where
+  pub may : maySpare row m p ≡ gives 0
+  pub is : slack row m p ≡ z
+
+pub answered : (row : List ℕ) (m p : ℕ) (z : ℤ) → Slacks row m p (Slots z) → Answered row m p z
+answered row m p z r =
+    let may : maySpare row m p ≡ gives 0 = sym (r .answer) in
+    record { may = may; is = sym (r .value ∙ ap (λ (o : Outcome). unlessRefused o (slack row m p)) may) }
+
 pub slack-lies : SlackLies
 unfolding slack
 slack-lies row m p h =
@@ -117,3 +128,8 @@ slack-lies row m p h =
     let s = small row m p (a .good) (a .second) in
     between (planOf row .timeout) (placeOf (planOf row) m p .slot) (delay byNumber (planOf row .messages) m (placeOf (planOf row) m p .second))
     (s .timeout) (s .slot) (s .some) (s .most)
+
+pub answer-lies : AnswerLies
+answer-lies row m p z r =
+    let a = answered row m p z r in
+    subst Between (a .is) (slack-lies row m p (a .may))

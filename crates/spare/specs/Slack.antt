@@ -35,3 +35,7 @@ pub record Between (z : ℤ) : Type 0 where
 
 abbrev pub SlackLies : Type 0
 SlackLies = (row : List ℕ) (m p : ℕ) → maySpare row m p ≡ gives 0 → Between (slack row m p)
+
+-- so an answer that is a slack lies there
+abbrev pub AnswerLies : Type 0
+AnswerLies = (row : List ℕ) (m p : ℕ) (z : ℤ) → Slacks row m p (Slots z) → Between z
