@@ -1,2 +1,5 @@
 pub mod Some
 pub mod Pairs
+pub mod Prefix
+pub mod Before
+pub mod Weigh
