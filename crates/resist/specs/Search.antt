@@ -15,11 +15,12 @@ code s e = s * 64 + e
 abbrev pub codeAt : List ℕ → ℕ → ℕ
 codeAt cuts j = code (cutSlot cuts j) (cutLink cuts j)
 
--- d pairs are chosen, and the next one has code `lo` at least
+-- d pairs are chosen, and the next one has code `lo` or a higher one
 pub record Chosen (plan : Plan) (pre : List ℕ) (d lo : ℕ) : Type 0 where
   pub long : length pre ≡ 2 * d
   pub good : isCutList plan pre ≡ true
-  pub next : (j : ℕ) → j + 1 ≡ d → codeAt pre j < lo
+  pub none : d ≡ 0 → lo ≡ 0
+  pub next : (j : ℕ) → j + 1 ≡ d → codeAt pre j + 1 ≡ lo
 
 module _ (plan : Plan) (l : ℕ) (pre : List ℕ) where
   -- every list of n pairs more leaves l arrivals
