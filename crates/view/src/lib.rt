@@ -1,10 +1,129 @@
 // Looking at a row: the number at an index, and where messages, places and second paths stand. Every read is total, 0 past the
 // end, so no function here asks that a row is good. It leans on specs/ of `scope` (Plan, SecondPath) alone.
-ghost use Rattle.view.specs.View.{Number};
+//
+// A place takes at most 65540 numbers, and there are at most 65536 places and messages, whatever the row: so every index stays far
+// below the largest `usize`, and each contract says how far.
+ghost use mathlib.Core.Path.{_≡_};
+ghost use Prim.Native.Nat.{_+_, _*_, _<_, _≤_, _^_};
+ghost use lib.ListN.{length};
+ghost use Rattle.scope.specs.Outcome.{gives};
+ghost use Rattle.scope.specs.Row.{walkRow};
+ghost use Rattle.scope.specs.Plan.{placeSize, afterPlaces, afterMessage, vertexCount, linkCount, messageCount, timeoutOf, placeCount};
+ghost use Rattle.scope.specs.SecondPath.{messageIndex, placeIndex};
+ghost use Rattle.view.specs.View.{Number, Is, secondPart};
 
 // The number at an index of a row, 0 past its end.
 pub fn number(row: &[u16], i: usize) -> usize
     ensures { λ r. ⌜ Number (now (row .entry)) i r ⌝ }
 {
     if i < row.len() { row[i] as usize } else { 0 }
+}
+
+// V, E, M and t: the row has each less one.
+pub fn vertices(row: &[u16]) -> usize
+    ensures { λ r. ⌜ Is (vertexCount (now (row .entry))) 65536 r ⌝ }
+{
+    number(row, 1) + 1
+}
+
+pub fn links(row: &[u16]) -> usize
+    ensures { λ r. ⌜ Is (linkCount (now (row .entry))) 65536 r ⌝ }
+{
+    number(row, 2) + 1
+}
+
+pub fn messages(row: &[u16]) -> usize
+    ensures { λ r. ⌜ Is (messageCount (now (row .entry))) 65536 r ⌝ }
+{
+    number(row, 3) + 1
+}
+
+pub fn timeout(row: &[u16]) -> usize
+    ensures { λ r. ⌜ Is (timeoutOf (now (row .entry))) 65536 r ⌝ }
+{
+    number(row, 4) + 1
+}
+
+// How many places the message at an index has.
+pub fn place_count(row: &[u16], i: usize) -> usize
+    ensures { λ r. ⌜ Is (placeCount (now (row .entry)) i) 65536 r ⌝ }
+{
+    number(row, i) + 1
+}
+
+// How many numbers the place at an index takes.
+pub fn place_size(row: &[u16], i: usize) -> usize
+    requires { ⌜ i < 2 ^ 62 ⌝ }
+    ensures { λ r. ⌜ Is (placeSize (now (row .entry)) i) 65540 r ⌝ }
+{
+    if number(row, i + 2) == 1 {
+        number(row, i + 3) + 5
+    } else {
+        3
+    }
+}
+
+// The index after so many places.
+pub fn after_places(row: &[u16], i: usize, n: usize) -> usize
+    requires { ⌜ (i < 2 ^ 61) × (n ≤ 65536) ⌝ }
+    ensures { λ r. ⌜ Is (afterPlaces (now (row .entry)) i n) (i + n * 65540) r ⌝ }
+{
+    let mut at = i;
+    let mut k = 0;
+    while k < n {
+        at = at + place_size(row, at);
+        k += 1;
+    }
+    at
+}
+
+// The index after the message at an index.
+pub fn after_message(row: &[u16], i: usize) -> usize
+    requires { ⌜ i < 2 ^ 60 ⌝ }
+    ensures { λ r. ⌜ Is (afterMessage (now (row .entry)) i) (i + 4295229441) r ⌝ }
+{
+    after_places(row, i + 1, place_count(row, i))
+}
+
+// Where message m stands.
+pub fn message_index(row: &[u16], m: usize) -> usize
+    requires { ⌜ m ≤ 65536 ⌝ }
+    ensures { λ r. ⌜ Is (messageIndex (now (row .entry)) m) (131077 + m * 4295229441) r ⌝ }
+{
+    let mut at = links(row) * 2 + 5;
+    let mut k = 0;
+    while k < m {
+        at = after_message(row, at);
+        k += 1;
+    }
+    at
+}
+
+// Where place p of message m stands.
+pub fn place_index(row: &[u16], m: usize, p: usize) -> usize
+    requires { ⌜ (m ≤ 65536) × (p ≤ 65536) ⌝ }
+    ensures { λ r. ⌜ Is (placeIndex (now (row .entry)) m p) (131078 + m * 4295229441 + p * 65540) r ⌝ }
+{
+    after_places(row, message_index(row, m) + 1, p)
+}
+
+// The second path of message m from place p, as a part of the row: length 0 where there is no such message, place or second path.
+pub fn second_path_part(row: &[u16], m: usize, p: usize) -> &[u16]
+    requires { ⌜ walkRow (now row) ≡ gives (length (now row)) ⌝ }
+    ensures { λ r. ⌜ now r ≡ secondPart (now (row .entry)) m p ⌝ }
+{
+    if messages(row) <= m {
+        return &row[..0];
+    }
+    let i = message_index(row, m);
+    if place_count(row, i) <= p {
+        return &row[..0];
+    }
+    let at = after_places(row, i + 1, p);
+    if number(row, at + 2) != 1 {
+        return &row[..0];
+    }
+    let a = at + 4;
+    let b = a + number(row, at + 3) + 1;
+    &row[a..b]
 }

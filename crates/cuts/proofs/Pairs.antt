@@ -1,0 +1,86 @@
+-- Laws of bad pairs: one for each way out of a test.
+use Prim.Native.Nat.{ℕ, zero, suc, _+_, _-_, _*_, _≤_, _<_}
+use mathlib.Core.Path.{_≡_, refl, sym, _∙_, ap}
+use mathlib.Core.Bool.{Bool, true, false, not, cond, _&&_, _||_, and-false, or-true}
+use mathlib.Core.List.{List}
+use native.Mathlib.Omega.{arith}
+use lib.ListN.{length}
+use lib.Dec.{ltb, leb, eqb}
+use borrow.Author.Tests.{lt-ltb, le-ltb, le-leb, lt-leb, eq-eqb, ne-eqb, leb-true, leb-false}
+use Rattle.scope.specs.Lowest.{lowest, some}
+use Rattle.scope.specs.Outcome.{Outcome, gives, refused}
+use Rattle.scope.specs.Plan.{linkCount, timeoutOf, planOf}
+use Rattle.scope.specs.Cuts.{cutSlot, cutLink, pairs, falls, badPair, checkCuts}
+use Rattle.scope.proofs.Lowest.{seek-same}
+use Rattle.view.proofs.Parts.{link-count, timeout-is}
+use Rattle.cuts.specs.Pairs.{isTwice, isBad}
+
+leb-not : (a b : ℕ) → leb a b ≡ not (ltb b a)
+leb-not a b = by (leb a b) refl
+  where
+    by : (t : Bool) → leb a b ≡ t → leb a b ≡ not (ltb b a)
+    by true e = e ∙ ap not (sym (le-ltb b a (leb-true a b e)))
+    by false e = e ∙ ap not (sym (lt-ltb b a (leb-false a b e)))
+
+module _ (cuts : List ℕ) (i : ℕ) where
+  pub falls-first : i ≡ 0 → false ≡ falls cuts i
+  falls-first h = rw (le-ltb 0 i (omega arith))
+
+  pub falls-rises : (a c : ℕ) → a ≡ cutSlot cuts (i - 1) → c ≡ cutSlot cuts i → a < c → false ≡ falls cuts i
+  falls-rises a c p q h = rw (← p, ← q, lt-ltb a c h) (sym (and-false (ltb 0 i)))
+
+  pub falls-slot : (a c : ℕ) → (i ≡ 0 → ⊥) → a ≡ cutSlot cuts (i - 1) → c ≡ cutSlot cuts i → c < a → true ≡ falls cuts i
+  falls-slot a c n p q h =
+      let z : 0 < i = omega (arith, n) in
+      rw (← p, ← q, lt-ltb 0 i z, le-ltb a c (omega arith), ne-eqb a c (λ e. omega arith))
+
+  pub falls-link : (a b c d : ℕ) → (i ≡ 0 → ⊥) → a ≡ cutSlot cuts (i - 1) → c ≡ cutSlot cuts i → c ≤ a → a ≤ c →
+      b ≡ cutLink cuts (i - 1) → d ≡ cutLink cuts i → leb d b ≡ falls cuts i
+  falls-link a b c d n p q h g r s =
+      let z : 0 < i = omega (arith, n) in
+      rw (← p, ← q, ← r, ← s, lt-ltb 0 i z, le-ltb a c h, eq-eqb a c (omega arith)) (leb-not d b)
+
+  -- pair j names the link of pair i, or it does not
+  pub names : (j x l : ℕ) → x ≡ cutLink cuts j → l ≡ cutLink cuts i → x ≡ l → eqb (cutLink cuts j) (cutLink cuts i) ≡ true
+  names j x l p q e = eq-eqb (cutLink cuts j) (cutLink cuts i) (sym p ∙ e ∙ q)
+
+  pub names-not : (j x l : ℕ) → x ≡ cutLink cuts j → l ≡ cutLink cuts i → (x ≡ l → ⊥) → eqb (cutLink cuts j) (cutLink cuts i) ≡ false
+  names-not j x l p q n = ne-eqb (cutLink cuts j) (cutLink cuts i) (λ e. n (p ∙ e ∙ sym q))
+
+  -- a bad pair, by the first rule that it breaks
+  module _ (t n : ℕ) where
+    pub bad-odd : length cuts ≡ 2 * i + 1 → true ≡ isBad t n cuts i
+    bad-odd h = rw (eq-eqb (length cuts) (2 * i + 1) h)
+
+    pub bad-slot : (s : ℕ) → s ≡ cutSlot cuts i → t ≤ s → true ≡ isBad t n cuts i
+    bad-slot s p h = simp (sym p, le-ltb s t h, or-true)
+
+    pub bad-link : (l : ℕ) → l ≡ cutLink cuts i → n ≤ l → true ≡ isBad t n cuts i
+    bad-link l q h = simp (sym q, le-ltb l n h, or-true)
+
+    pub bad-falls : (b : Bool) → b ≡ falls cuts i → b ≡ true → true ≡ isBad t n cuts i
+    bad-falls b p h = rw (sym p ∙ h) (rw or-true)
+
+    pub bad-twice : (s l : ℕ) (f b : Bool) → (length cuts ≡ 2 * i + 1 → ⊥) → s ≡ cutSlot cuts i → s < t → l ≡ cutLink cuts i → l < n →
+        f ≡ falls cuts i → f ≡ false → b ≡ isTwice cuts i → b ≡ isBad t n cuts i
+    bad-twice s l f b o p h q g r z e =
+        let u : ltb (cutSlot cuts i) t ≡ true = rw (← p) (lt-ltb s t h) in
+        let v : ltb (cutLink cuts i) n ≡ true = rw (← q) (lt-ltb l n g) in
+        rw (sym r ∙ z, ne-eqb (length cuts) (2 * i + 1) o, u, v) e
+
+-- the first bad pair of a plan, and the answer with it
+module _ (row cuts : List ℕ) (n i t e : ℕ) (p : n ≡ pairs cuts) (q : t ≡ timeoutOf row) (r : e ≡ linkCount row)
+    (s : i ≡ lowest (isBad t e cuts) (pairs cuts)) where
+  bad-is : (j : ℕ) → badPair (planOf row) cuts j ≡ isBad t e cuts j
+  bad-is j = rw (q, r, ← timeout-is row, ← link-count row)
+
+  first-is : lowest (badPair (planOf row) cuts) (pairs cuts) ≡ i
+  first-is = seek-same (badPair (planOf row) cuts) (isBad t e cuts) (pairs cuts) 0 (λ j h g. bad-is j) ∙ sym s
+
+  pub check-some : i < n → refused 12 i ≡ checkCuts (planOf row) cuts
+  unfolding checkCuts
+  check-some h = rw (first-is, ← p, lt-ltb i n h)
+
+  pub check-none : n ≤ i → gives n ≡ checkCuts (planOf row) cuts
+  unfolding checkCuts
+  check-none h = rw (first-is, ← p, le-ltb i n h)

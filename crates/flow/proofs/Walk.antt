@@ -1,0 +1,120 @@
+-- One law for each way that a loop over the fields can go: over a row, and over the bits of a file. What is left gives the whole answer.
+use Prim.Native.Nat.{ℕ, zero, suc, _+_, _-_, _*_, _^_, _≤_, _<_}
+use mathlib.Core.Path.{_≡_, refl, sym, _∙_, ap}
+use mathlib.Core.Bool.{Bool, true, false, cond}
+use mathlib.Core.List.{List, [], _∷_, _++_}
+use native.Mathlib.Numerals.{add-one}
+use native.Mathlib.Omega.{arith}
+use lib.ListN.{length, getD, take, drop, drop-of-length-le}
+use lib.Seq.{drop-cons}
+use lib.Dec.{ltb, leb, eqb}
+use borrow.Author.Tests.{lt-ltb, le-ltb, le-leb, lt-leb, eq-eqb, ne-eqb}
+use Rattle.scope.specs.declared.Fields.{Fields}
+use Rattle.scope.specs.Outcome.{Outcome, gives, refused}
+use Rattle.scope.specs.Fields.{width, step, opening, edition}
+use Rattle.scope.specs.Row.{walkFrom, walkRow}
+use Rattle.scope.specs.Bits.{bitsOf, bits, fieldAt}
+use Rattle.scope.specs.File.{walkBits, fieldsOf, packed}
+
+-- a row, from index i on
+module _ (row : List ℕ) (s : Fields) (i : ℕ) where
+  pub from-end : length row ≤ i → width s ≡ 0 → walkFrom s i (drop i row) ≡ gives i
+  unfolding walkFrom
+  from-end l w = rw (drop-of-length-le row l, eq-eqb (width s) 0 w)
+
+  pub from-short : length row ≤ i → (width s ≡ 0 → ⊥) → walkFrom s i (drop i row) ≡ refused 2 i
+  unfolding walkFrom
+  from-short l w = rw (drop-of-length-le row l, ne-eqb (width s) 0 w)
+
+  pub from-more : i < length row → width s ≡ 0 → walkFrom s i (drop i row) ≡ refused 4 i
+  unfolding walkFrom
+  from-more l w = rw (drop-cons row i 0 l, eq-eqb (width s) 0 w)
+
+  pub from-large : i < length row → (width s ≡ 0 → ⊥) → 2 ^ width s ≤ getD row i 0 → walkFrom s i (drop i row) ≡ refused 3 i
+  unfolding walkFrom
+  from-large l w v = rw (drop-cons row i 0 l, ne-eqb (width s) 0 w, le-ltb (getD row i 0) (2 ^ width s) v)
+
+  pub from-step : i < length row → (width s ≡ 0 → ⊥) → getD row i 0 < 2 ^ width s →
+      walkFrom s i (drop i row) ≡ walkFrom (step s (getD row i 0)) (i + 1) (drop (i + 1) row)
+  unfolding walkFrom
+  from-step l w v =
+      rw (drop-cons row i 0 l, ne-eqb (width s) 0 w, lt-ltb (getD row i 0) (2 ^ width s) v)
+      (ap (λ (n : ℕ). walkFrom (step s (getD row i 0)) (i + 1) (drop n row)) (sym (add-one i)))
+
+-- a row's first number
+pub row-none : (row : List ℕ) → length row ≡ 0 → walkRow row ≡ refused 2 0
+unfolding walkRow
+row-none [] l = refl
+row-none (v ∷ row) l = absurd (omega arith)
+
+pub row-edition : (row : List ℕ) → 0 < length row → (getD row 0 0 ≡ edition → ⊥) → walkRow row ≡ refused 1 0
+unfolding walkRow
+row-edition [] l h = absurd (omega arith)
+row-edition (v ∷ row) l h = rw (ne-eqb v 1 h)
+
+pub row-opens : (row : List ℕ) → 0 < length row → getD row 0 0 ≡ edition → walkRow row ≡ walkFrom opening 1 (drop 1 row)
+unfolding walkRow
+row-opens [] l h = absurd (omega arith)
+row-opens (v ∷ row) l h = rw (eq-eqb v 1 h)
+
+-- the bits of a file, from bit p on, with n turns at most
+module _ (bs : List ℕ) (s : Fields) (p n : ℕ) where
+  pub bits-end : width s ≡ 0 → walkBits n s p bs ≡ gives p
+  unfolding walkBits
+  bits-end w = by n
+    where
+      by : (n : ℕ) → walkBits n s p bs ≡ gives p
+      by zero = rw (eq-eqb (width s) 0 w)
+      by (suc n) = rw (eq-eqb (width s) 0 w)
+
+  pub bits-short : (width s ≡ 0 → ⊥) → length bs < p + width s → walkBits n s p bs ≡ refused 2 p
+  unfolding walkBits
+  bits-short w l = by n
+    where
+      by : (n : ℕ) → walkBits n s p bs ≡ refused 2 p
+      by zero = rw (ne-eqb (width s) 0 w)
+      by (suc n) = rw (ne-eqb (width s) 0 w, lt-leb (p + width s) (length bs) l)
+
+  pub bits-step : (width s ≡ 0 → ⊥) → p + width s ≤ length bs →
+      walkBits (suc n) s p bs ≡ walkBits n (step s (fieldAt bs p (width s))) (p + width s) bs
+  unfolding walkBits
+  bits-step w l = rw (ne-eqb (width s) 0 w, le-leb (p + width s) (length bs) l)
+
+  pub fields-end : width s ≡ 0 → fieldsOf n s p bs ≡ []
+  unfolding fieldsOf
+  fields-end w = by n
+    where
+      by : (n : ℕ) → fieldsOf n s p bs ≡ []
+      by zero = refl
+      by (suc n) = rw (eq-eqb (width s) 0 w)
+
+  pub fields-short : (width s ≡ 0 → ⊥) → length bs < p + width s → fieldsOf n s p bs ≡ []
+  unfolding fieldsOf
+  fields-short w l = by n
+    where
+      by : (n : ℕ) → fieldsOf n s p bs ≡ []
+      by zero = refl
+      by (suc n) = rw (ne-eqb (width s) 0 w, lt-leb (p + width s) (length bs) l)
+
+  pub fields-step : (width s ≡ 0 → ⊥) → p + width s ≤ length bs →
+      fieldsOf (suc n) s p bs ≡ fieldAt bs p (width s) ∷ fieldsOf n (step s (fieldAt bs p (width s))) (p + width s) bs
+  unfolding fieldsOf
+  fields-step w l = rw (ne-eqb (width s) 0 w, le-leb (p + width s) (length bs) l)
+
+-- a walk over a row stands at index i: what is left gives the whole answer
+pub record OnRow (row : List ℕ) (s : Fields) (i : ℕ) : Type 0 where
+  pub same : walkFrom s i (drop i row) ≡ walkRow row
+  pub narrow : s .slot ≤ 16
+
+pub on-first : (row : List ℕ) (v : ℕ) (s : Fields) → (length row ≡ 0 → ⊥) → v ≡ getD row 0 0 → v ≡ edition → s ≡ opening → OnRow row s 1
+on-first row v s l read is start = record { same = rw start (sym (row-opens row (omega arith) (sym read ∙ is))); narrow = rw start (omega arith) }
+
+pub on-step : (row : List ℕ) (s t : Fields) (i w v m : ℕ) → OnRow row s i → i < length row → w ≡ width s → (w ≡ 0 → ⊥) → v ≡ getD row i 0 →
+    m ≡ 2 ^ w → v < m → t ≡ step s v → OnRow row t (i + 1)
+on-step row s t i w v m h l wide some read power small next =
+    let nonzero : width s ≡ 0 → ⊥ = λ z. some (wide ∙ z) in
+    let fits : getD row i 0 < 2 ^ width s = rw (← read, ← wide, ← power) small in
+    record {
+      same = rw (next, read) (sym (from-step row s i l nonzero fits) ∙ h .same);
+      narrow = rw next (h .narrow);
+    }

@@ -1,0 +1,77 @@
+use native.Mathlib.Omega.{arith}
+use Rattle.step.proofs.Steps.{first-stays, first-waits, first-crosses}
+use borrow.Author.Needs.{needs}
+use Rattle.step.proofs.Position.act_first.Statement.{statement}
+use Rattle.step.proofs.Position.act_first.Tie as tie
+use Rattle.step.proofs.Position.act_first.Reads as reads
+use Rattle.step.proofs.Position.act_first.Lts as lts
+use Rattle.step.proofs.Position.past_place.Reads as past-place-reads
+use Rattle.view.proofs.number.Reads as number-reads
+
+-- src/lib.rt:190:18
+cast-at : tie.Need-cast-at
+cast-at c = search needs
+
+-- src/lib.rt:191:20
+number-requires : tie.Need-number-requires
+number-requires c κs = search needs
+
+-- src/lib.rt:191:20
+cast-link : tie.Need-cast-link
+cast-link c = search needs
+
+-- src/lib.rt:195:31
+add-number : tie.Need-add-number
+add-number c = search needs
+
+-- src/lib.rt:195:19
+number-requires-2 : tie.Need-number-requires-2
+number-requires-2 c κs = search needs
+
+-- src/lib.rt:196:17
+past-place-requires : tie.Need-past-place-requires
+past-place-requires c κs = search needs
+
+-- src/lib.rt:186:5
+returns : tie.Need-returns
+returns c =
+    record {
+      is =
+          first-stays (c .before .before .before .before .args .row .now) (c .before .before .before .before .args .self .at) (c .before .before .before .before .args .self .left) (c .before .before .before .before .args .self .turned) (c .before .before .before .before .pre .0) (c .before .before .before .before .pre .1) (c .before .before .before .before .args .slot .0) _
+          (c .before .number .ensures .is) (c .before .before .before .before .args .down) (c .if1 .taken);
+      within = omega arith;
+    }
+
+-- src/lib.rt:186:5
+returns-2 : tie.Need-returns-2
+returns-2 c =
+    record {
+      is =
+          first-crosses (c .before .before .before .before .before .before .before .before .args .row .now) (c .before .before .before .before .before .before .before .before .args .self .at) (c .before .before .before .before .before .before .before .before .args .self .left) (c .before .before .before .before .before .before .before .before .args .self .turned) (c .before .before .before .before .before .before .before .before .pre .0) (c .before .before .before .before .before .before .before .before .pre .1) (c .before .before .before .before .before .before .before .before .args .slot .0) _
+          (c .before .before .before .before .before .number .ensures .is) (c .before .before .before .before .before .before .before .before .args .down) (c .before .before .before .before .if1 .left) _ (c .before .before .before .number2 .ensures .is) (c .before .if2 .taken) _ (c .past-place .ensures .is);
+      within = c .past-place .ensures .within;
+    }
+
+-- src/lib.rt:186:5
+returns-3 : tie.Need-returns-3
+returns-3 c =
+    record {
+      is =
+          first-waits (c .before .before .before .before .before .before .before .args .row .now) (c .before .before .before .before .before .before .before .args .self .at) (c .before .before .before .before .before .before .before .args .self .left) (c .before .before .before .before .before .before .before .args .self .turned) (c .before .before .before .before .before .before .before .pre .0) (c .before .before .before .before .before .before .before .pre .1) (c .before .before .before .before .before .before .before .args .slot .0) _
+          (c .before .before .before .before .number .ensures .is) (c .before .before .before .before .before .before .before .args .down) (c .before .before .before .if1 .left) _ (c .before .before .number2 .ensures .is) (c .if2 .left);
+      within = omega arith;
+    }
+
+pub act-first-spec : {M : Type 1} → statement M
+act-first-spec =
+    tie.close
+    (tie.spec
+    cast-at
+    number-requires
+    cast-link
+    add-number
+    number-requires-2
+    past-place-requires
+    returns
+    returns-2
+    returns-3)

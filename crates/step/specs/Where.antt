@@ -1,0 +1,37 @@
+-- What a position in a row says: the places or links that are left to it, and where they end.
+use Prim.Native.Nat.{ℕ, _+_, _≤_, _<_}
+use mathlib.Core.Path.{_≡_}
+use mathlib.Core.Bool.{Bool, cond}
+use mathlib.Core.List.{List}
+use Rattle.scope.specs.Plan.{numbersAt, placesAt, afterPlaces}
+use Rattle.scope.specs.Slot as S
+use Rattle.step.specs.declared.Position.{Position}
+use Rattle.step.specs.declared.Moved.{Moved}
+use Rattle.step.specs.Events.{eventOf}
+
+-- what is left from index i on: n links of a second path for a message that has turned, n places of its first path else
+abbrev pub leftAt : List ℕ → Bool → ℕ → ℕ → S.Position
+leftAt row turned i n = cond turned (S.onSecond (numbersAt row i n)) (S.onFirst (placesAt row i n))
+
+abbrev pub positionOf : List ℕ → Position → S.Position
+positionOf row p = leftAt row (p .turned) (p .at) (p .left)
+
+abbrev pub movedOf : List ℕ → Moved → S.Moved
+movedOf row m = record { next = positionOf row (m .next); event = eventOf (m .event) }
+
+-- the index after all that is left
+abbrev pub endAt : List ℕ → Bool → ℕ → ℕ → ℕ
+endAt row turned i n = cond turned (i + n) (afterPlaces row i n)
+
+abbrev pub endOf : List ℕ → Position → ℕ
+endOf row p = endAt row (p .turned) (p .at) (p .left)
+
+-- r is the position `next`, and does not go beyond p's end
+pub record Leads (row : List ℕ) (p : Position) (next : S.Position) (r : Position) : Type 0 where
+  pub is : positionOf row r ≡ next
+  pub within : endOf row r ≤ endOf row p
+
+-- r is what a message at p does, and its next position does not go beyond p's end
+pub record Acts (row : List ℕ) (p : Position) (does : S.Moved) (r : Moved) : Type 0 where
+  pub is : movedOf row r ≡ does
+  pub within : endOf row (r .next) ≤ endOf row p

@@ -1,0 +1,50 @@
+-- `table::clear` meets its contract. The invariant: the bytes passed are 0. Assumes nothing.
+use Prim.Native.Nat.{ℕ, _-_, _<_}
+use mathlib.Core.Path.{_≡_}
+use native.Mathlib.Omega.{arith}
+use borrow.Author.Needs.{needs}
+use lib.ListN.{length, getD, length-set}
+use Rattle.table.proofs.Laws as law
+use Rattle.table.proofs.clear.Statement.{statement}
+use Rattle.table.proofs.clear.Tie as tie
+
+abbrev Inv-loop : tie.InvT-loop
+Inv-loop table₀ k₀ table k = (length table ≡ 4096) × ((j : ℕ) → j < k → getD table j 0 ≡ 0)
+
+abbrev μ-loop : tie.MeasureT-loop
+μ-loop table₀ k₀ table k = 4096 - k
+
+loop-holds : tie.Need-loop-holds Inv-loop μ-loop
+loop-holds c = (omega arith, λ j h. omega arith)
+
+slice-write-table : tie.Need-slice-write-table Inv-loop μ-loop
+slice-write-table c = search needs
+
+add-k : tie.Need-add-k Inv-loop μ-loop
+add-k c = search needs
+
+loop-less : tie.Need-loop-less Inv-loop μ-loop
+loop-less c = search needs
+
+loop-again : tie.Need-loop-again Inv-loop μ-loop
+loop-again c = (simp length-set (omega arith), law.zeros-next (c .before .loop .table) (c .before .loop .k) (omega arith) (c .before .loop .inv .1))
+
+same-length : tie.Need-same-length Inv-loop μ-loop
+same-length c = search needs
+
+returns : tie.Need-returns Inv-loop μ-loop
+returns c = law.zeros-done (c .before .loop .table) (c .before .loop .k) (c .before .loop .inv .0) (c .loop-test .left) (c .before .loop .inv .1)
+
+pub clear-spec : {M : Type 1} → statement M
+clear-spec =
+    tie.close
+    (tie.spec
+    Inv-loop
+    μ-loop
+    loop-holds
+    slice-write-table
+    add-k
+    loop-less
+    loop-again
+    same-length
+    returns)

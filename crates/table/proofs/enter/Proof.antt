@@ -1,0 +1,84 @@
+-- `table::enter` meets its contract. The invariant `Entering`: the places left, put into the table as it is, make what is asked. Assumes nothing.
+use Prim.Native.Nat.{_-_}
+use native.Mathlib.Omega.{arith}
+use borrow.Author.Needs.{needs}
+use Rattle.table.proofs.Laws as law
+use Rattle.table.proofs.Laws.{Entering}
+use Rattle.table.proofs.enter.Statement.{statement}
+use Rattle.table.proofs.enter.Tie as tie
+
+abbrev Inv-loop : tie.InvT-loop
+Inv-loop row i w table₀ n at₀ k₀ table at k = Entering row i w table₀ n at k table
+
+abbrev μ-loop : tie.MeasureT-loop
+μ-loop row i w table₀ n at₀ k₀ table at k = n - k
+
+place-count-requires : tie.Need-place-count-requires Inv-loop μ-loop
+place-count-requires c κs = search needs
+
+add-at : tie.Need-add-at Inv-loop μ-loop
+add-at c = search needs
+
+loop-holds : tie.Need-loop-holds Inv-loop μ-loop
+loop-holds c = let a = c .before .before .before .args in
+    law.entering-first (a .row .now) (a .i) (a .w) (a .table .now) (c .place-count .result) (c .place-count .ensures .is) (omega arith)
+
+number-requires : tie.Need-number-requires Inv-loop μ-loop
+number-requires c κs = search needs
+
+add-number : tie.Need-add-number Inv-loop μ-loop
+add-number c = search needs
+
+number-requires-2 : tie.Need-number-requires-2 Inv-loop μ-loop
+number-requires-2 c κs = search needs
+
+mark-requires : tie.Need-mark-requires Inv-loop μ-loop
+mark-requires c κs = search needs
+
+place-size-requires : tie.Need-place-size-requires Inv-loop μ-loop
+place-size-requires c κs = search needs
+
+add-at-2 : tie.Need-add-at-2 Inv-loop μ-loop
+add-at-2 c = search needs
+
+add-k : tie.Need-add-k Inv-loop μ-loop
+add-k c = search needs
+
+loop-less : tie.Need-loop-less Inv-loop μ-loop
+loop-less c = search needs
+
+loop-again : tie.Need-loop-again Inv-loop μ-loop
+loop-again c = let a = c .before .before .before .before .before .before .before .before .before .before .before .before .args in
+    let l = c .before .before .before .before .before .before .before .before .loop in
+    law.entering-next (a .row .now) (a .i) (a .w) (a .table .now) (c .before .before .before .before .before .before .before .before .before .place-count .result) (l .at) (l .k) (l .table)
+    (c .before .before .before .before .before .before .number .result) (c .before .before .before .before .before .number2 .result) (c .place-size .result) (c .before .before .before .mark .last .0) (l .inv) (c .before .before .before .before .before .before .before .loop-test .taken) (c .before .before .before .before .before .before .before .before .before .before .before .before .pre .2)
+    (c .before .before .before .before .before .before .number .ensures .is) (c .before .before .before .before .before .number2 .ensures .is) (c .before .before .before .mark .ensures) (c .place-size .ensures .is) (c .place-size .ensures .small)
+
+same-length : tie.Need-same-length Inv-loop μ-loop
+same-length c = search needs
+
+returns : tie.Need-returns Inv-loop μ-loop
+returns c = let a = c .before .before .before .before .before .args in
+    let l = c .before .loop in
+    law.entering-done (a .row .now) (a .i) (a .w) (a .table .now) (c .before .before .place-count .result) (l .at) (l .k) (l .table) (l .inv) (c .loop-test .left) (c .before .before .place-count .ensures .small)
+
+pub enter-spec : {M : Type 1} → statement M
+enter-spec =
+    tie.close
+    (tie.spec
+    Inv-loop
+    μ-loop
+    place-count-requires
+    add-at
+    loop-holds
+    number-requires
+    add-number
+    number-requires-2
+    mark-requires
+    place-size-requires
+    add-at-2
+    add-k
+    loop-less
+    loop-again
+    same-length
+    returns)

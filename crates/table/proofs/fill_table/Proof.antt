@@ -1,0 +1,76 @@
+-- `table::fill_table` meets its contract. The invariant `Below`: the table holds the messages passed. Assumes nothing.
+use Prim.Native.Nat.{_-_, _≤_, _<_}
+use mathlib.Core.Path.{_≡_}
+use native.Mathlib.Omega.{arith}
+use borrow.Author.Needs.{needs}
+use Rattle.scope.specs.Plan.{messageCount}
+use Rattle.table.specs.Table.{Below}
+use Rattle.table.proofs.Laws as law
+use Rattle.table.proofs.fill_table.Statement.{statement}
+use Rattle.table.proofs.fill_table.Tie as tie
+
+abbrev Inv-loop : tie.InvT-loop
+Inv-loop row table₀ n at₀ m₀ table at m = Below row m at table × (m ≤ n)
+
+abbrev μ-loop : tie.MeasureT-loop
+μ-loop row table₀ n at₀ m₀ table at m = n - m
+
+clear-requires : tie.Need-clear-requires Inv-loop μ-loop
+clear-requires c κs = search needs
+
+messages-requires : tie.Need-messages-requires Inv-loop μ-loop
+messages-requires c κs = search needs
+
+message-index-requires : tie.Need-message-index-requires Inv-loop μ-loop
+message-index-requires c κs = search needs
+
+loop-holds : tie.Need-loop-holds Inv-loop μ-loop
+loop-holds c = let row = c .before .before .before .before .before .before .before .before .args .row .now in
+    (law.below-first row (c .message-index .result) (c .before .before .before .before .clear .last .0) (c .message-index .ensures) (c .before .before .before .before .clear .ensures), omega arith)
+
+add-w : tie.Need-add-w Inv-loop μ-loop
+add-w c = search needs
+
+cast-w : tie.Need-cast-w Inv-loop μ-loop
+cast-w c = search needs
+
+enter-requires : tie.Need-enter-requires Inv-loop μ-loop
+enter-requires c κs = search needs
+
+add-m : tie.Need-add-m Inv-loop μ-loop
+add-m c = search needs
+
+loop-less : tie.Need-loop-less Inv-loop μ-loop
+loop-less c = search needs
+
+loop-again : tie.Need-loop-again Inv-loop μ-loop
+loop-again c = let l = c .before .before .before .before .before .loop in
+    let h : l .m < messageCount (c .before .before .before .before .before .before .before .before .before .before .before .before .before .before .args .row .now) = omega (arith, c .before .before .before .before .before .before .before .messages .ensures .is, c .before .before .before .before .loop-test .taken) in
+    (law.below-next (c .before .before .before .before .before .before .before .before .before .before .before .before .before .before .args .row .now) (l .m) (l .at) (c .before .before .enter .result) (l .table) (c .before .before .enter .last .1 .1 .1 .0) h (l .inv .0) (c .before .before .enter .ensures), omega arith)
+
+same-length : tie.Need-same-length Inv-loop μ-loop
+same-length c = search needs
+
+returns : tie.Need-returns Inv-loop μ-loop
+returns c = let l = c .before .loop in
+    let e : l .m ≡ messageCount (c .before .before .before .before .before .before .before .before .before .before .args .row .now) = omega (arith, c .before .before .before .messages .ensures .is, c .loop-test .left, l .inv .1) in
+    law.below-all (c .before .before .before .before .before .before .before .before .before .before .args .row .now) (l .m) (l .at) (l .table) e (l .inv .0)
+
+pub fill-table-spec : {M : Type 1} → statement M
+fill-table-spec =
+    tie.close
+    (tie.spec
+    Inv-loop
+    μ-loop
+    clear-requires
+    messages-requires
+    message-index-requires
+    loop-holds
+    add-w
+    cast-w
+    enter-requires
+    add-m
+    loop-less
+    loop-again
+    same-length
+    returns)

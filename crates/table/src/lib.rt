@@ -1,0 +1,86 @@
+// The table of a plan as 4096 bytes: which message holds a link in a slot. `fill_table` makes the whole of it, as `tableOf` of
+// document 01 says; `enter` puts one message. It leans on `view` and on specs/ of `scope` (Plan, Good, Cycle).
+ghost use mathlib.Core.Path.{_≡_};
+ghost use Prim.Native.Nat.{_<_, _≤_, _^_};
+ghost use lib.ListN.{length};
+ghost use Rattle.scope.specs.Plan.{planOf, messageCount};
+ghost use Rattle.scope.specs.Cycle.{tableOf};
+ghost use Rattle.view.specs.View.{Is};
+ghost use Rattle.table.specs.Table.{Table, Entered, entryAt, marked};
+
+// The entry of a slot and a link: the message that holds them plus one, or 0.
+pub fn entry(table: &[u8], slot: usize, link: usize) -> usize
+    requires { ⌜ (slot < 65536) × (link < 65536) ⌝ }
+    ensures { λ r. ⌜ Is (entryAt (now (table .entry)) slot link) 255 r ⌝ }
+{
+    let k = slot * 64 + link;
+    if k < table.len() {
+        table[k] as usize
+    } else {
+        0
+    }
+}
+
+// Puts w at a slot and a link, unless they are held already or the table has no such slot or link.
+fn mark(table: &mut [u8], link: usize, slot: usize, w: u8)
+    requires { ⌜ length (now table) ≡ 4096 ⌝ }
+    ensures { λ r. ⌜ Table (λ i e. marked w link slot i e (entryAt (now (table .entry)) i e)) (now (table .exit)) ⌝ }
+{
+    if 64 <= link {
+        return;
+    }
+    if 64 <= slot {
+        return;
+    }
+    let k = slot * 64 + link;
+    if table[k] != 0 {
+        return;
+    }
+    table[k] = w;
+}
+
+// Puts the message at an index as w, and gives the index after it.
+pub fn enter(row: &[u16], i: usize, w: u8, table: &mut [u8]) -> usize
+    requires { ⌜ (i < 2 ^ 60) × (length (now table) ≡ 4096) × (0 < w) ⌝ }
+    ensures { λ r. ⌜ Entered (now (row .entry)) i w (now (table .entry)) (now (table .exit)) r ⌝ }
+{
+    let n = view::place_count(row, i);
+    let mut at = i + 1;
+    let mut k = 0;
+    while k < n {
+        let link = view::number(row, at);
+        let slot = view::number(row, at + 1);
+        mark(table, link, slot, w);
+        at = at + view::place_size(row, at);
+        k += 1;
+    }
+    at
+}
+
+// The table of no message.
+pub fn clear(table: &mut [u8])
+    requires { ⌜ length (now table) ≡ 4096 ⌝ }
+    ensures { λ r. ⌜ Table (λ i e. 0) (now (table .exit)) ⌝ }
+{
+    let mut k = 0;
+    while k < 4096 {
+        table[k] = 0;
+        k += 1;
+    }
+}
+
+// The whole table of a row.
+pub fn fill_table(row: &[u16], table: &mut [u8])
+    requires { ⌜ (length (now table) ≡ 4096) × (messageCount (now row) ≤ 32) ⌝ }
+    ensures { λ r. ⌜ Table (tableOf (planOf (now (row .entry)))) (now (table .exit)) ⌝ }
+{
+    clear(table);
+    let n = view::messages(row);
+    let mut at = view::message_index(row, 0);
+    let mut m = 0;
+    while m < n {
+        let w = (m + 1) as u8;
+        at = enter(row, at, w, table);
+        m += 1;
+    }
+}

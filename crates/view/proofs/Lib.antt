@@ -1,0 +1,4 @@
+pub mod Index
+pub mod Parts
+pub mod Walked
+pub mod Second
