@@ -1,3 +1,4 @@
 pub mod Sums
 pub mod Bound
 pub mod Touch
+pub mod Weights
