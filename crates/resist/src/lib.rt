@@ -1,1 +1,104 @@
-// The verdict: whether every cut list of at most k pairs leaves at least l arrivals, and if not, the first list that does not.
+// The verdict: whether every cut list of at most k pairs leaves at least l arrivals, and if not, the first list that does not. Lists
+// are tried in the demanded order, fewest pairs first; a list is played from its last pair on, and lists that a bound shows to leave
+// enough are passed over. It leans on `onward` for the play, on `touch` for the bound, and on the theorems of `laws`.
+use step::Position;
+ghost use Prim.Native.Nat.{ℕ, _+_, _-_, _*_, _<_, _≤_};
+ghost use mathlib.Core.Path.{_≡_};
+ghost use mathlib.Core.Bool.{false};
+ghost use lib.ListN.{length};
+ghost use Rattle.scope.specs.Lowest.{seek};
+ghost use Rattle.resist.specs.Hunt.{withPair, passes, MaySeek, MaySeekIn, Sought, SoughtIn};
+
+// What is asked of a plan: its timeout, links and messages, the least number of arrivals, and what a list must weigh to leave fewer.
+pub struct Asked {
+    pub timeout: usize,
+    pub links: usize,
+    pub messages: usize,
+    pub least: usize,
+    pub need: usize,
+}
+
+// The pairs picked so far: how many, the place from which the next one is to be picked, what they weigh, their numbers, and the first
+// slot in which each link is cut.
+pub struct Picked {
+    pub count: usize,
+    pub slot: usize,
+    pub link: usize,
+    pub weight: usize,
+    pub numbers: [u16; 6],
+    pub from: [u16; 64],
+}
+
+// A list that fails, with its arrivals; or none.
+pub struct Found {
+    pub found: bool,
+    pub arrivals: usize,
+    pub numbers: [u16; 6],
+}
+
+fn nothing() -> Found
+    ensures { λ r. ⌜ (r .found ≡ false) × (length (r .numbers) ≡ 6) ⌝ }
+{
+    Found {
+        found: false,
+        arrivals: 0,
+        numbers: [0u16; 6],
+    }
+}
+
+// One pair more.
+fn pick(p: Picked, s: usize, e: usize, w: usize) -> Picked
+    requires { ⌜ (p .count < 3) × (s < 64) × (e < 64) × (p .weight ≤ 65536) × (w < 256) ⌝ }
+    ensures { λ r. ⌜ r ≡ withPair p s e w ⌝ }
+{
+    let at = 2 * p.count;
+    let mut q = p;
+    q.count = p.count + 1;
+    q.slot = s;
+    q.link = e + 1;
+    q.weight = p.weight + w;
+    q.numbers[at] = s as u16;
+    q.numbers[at + 1] = e as u16;
+    q.from[e] = s as u16;
+    q
+}
+
+// A link is not cut already, and heavy enough.
+fn may(from: &[u16], weights: &[u8], base: usize, floor: usize, e: usize) -> bool
+    requires { ⌜ (e < length (now from)) × (base + e < length (now weights)) ⌝ }
+    ensures { λ r. ⌜ r ≡ passes (now (from .entry)) (now (weights .entry)) base floor e ⌝ }
+{
+    if from[e] != 65535 {
+        return false;
+    }
+    floor <= weights[base + e] as usize
+}
+
+// The first link from e on that may be tried, or how many links there are.
+fn next_link(
+    from: &[u16],
+    weights: &[u8],
+    base: usize,
+    floor: usize,
+    e: usize,
+    links: usize,
+) -> usize
+    requires { ⌜ (e ≤ links) × (links ≤ length (now from)) × (base + links ≤ length (now weights)) ⌝ }
+    ensures { λ r. ⌜ r ≡ seek (passes (now (from .entry)) (now (weights .entry)) base floor) (links - e) e ⌝ }
+{
+    let mut i = e;
+    while i < links {
+        if may(from, weights, base, floor, i) {
+            return i;
+        }
+        i += 1;
+    }
+    i
+}
+
+// What a pair must weigh at least if others weigh `rest`.
+fn lacking(need: usize, rest: usize) -> usize
+    ensures { λ r. ⌜ r ≡ need - rest ⌝ }
+{
+    if rest < need { need - rest } else { 0 }
+}

@@ -1,0 +1,96 @@
+-- The search in the code's own terms: what is asked, the pairs picked so far, and what was found.
+use Prim.Native.Nat.{ℕ, _+_, _-_, _*_, _≤_, _<_}
+use mathlib.Core.Path.{_≡_}
+use mathlib.Core.Bool.{Bool, true, false, _&&_}
+use mathlib.Core.List.{List}
+use lib.ListN.{length, getD, take, set}
+use lib.Dec.{leb, eqb}
+use Rattle.scope.specs.Plan.{planOf}
+use Rattle.scope.specs.Cuts.{isCut}
+use Rattle.scope.specs.Cycle.{byNumber, tableOf, start, positions, arrivals}
+use Rattle.cuts.specs.From.{Tells}
+use Rattle.step.specs.declared.Position.{Position}
+use Rattle.cycle.specs.Stand.{Become}
+use Rattle.cycle.specs.Slot.{ownerOf}
+use Rattle.touch.specs.Bound.{harm, weightIn, Bound}
+use Rattle.resist.specs.declared.Asked.{Asked}
+use Rattle.resist.specs.declared.Picked.{Picked}
+use Rattle.resist.specs.declared.Found.{Found}
+use Rattle.resist.specs.Search.{code, Chosen, AllLeave, FirstOf, Leave, FirstFrom}
+
+-- the pairs picked, as a list
+abbrev pub cutsOf : Picked → List ℕ
+cutsOf p = take (2 * p .count) (p .numbers)
+
+-- with one pair more
+abbrev pub withPair : Picked → ℕ → ℕ → ℕ → Picked
+withPair p s e w =
+    record {
+      count = p .count + 1;
+      slot = s;
+      link = e + 1;
+      weight = p .weight + w;
+      numbers = set (set (p .numbers) (2 * p .count) s) (2 * p .count + 1) e;
+      from = set (p .from) e s;
+    }
+
+-- a link that is not cut already, and heavy enough in a slot
+abbrev pub passes : List ℕ → List ℕ → ℕ → ℕ → ℕ → Bool
+passes from weights base floor e = eqb (getD from e 0) 65535 && leb floor (getD weights (base + e) 0)
+
+-- what is asked of the plan of a row, with its tables
+pub record Ready (row table weights most : List ℕ) (a : Asked) : Type 0 where
+  pub timeout : a .timeout ≡ planOf row .timeout
+  pub short : a .timeout ≤ 64
+  pub links : a .links ≡ length (planOf row .links)
+  pub few : a .links ≤ 64
+  pub owner : (i e : ℕ) → i < 64 → ownerOf table i e ≡ tableOf (planOf row) i e
+  pub heavy : length weights ≡ 4096
+  pub tops : length most ≡ 64
+  pub bound : Bound (planOf row) (a .least) (a .need) weights most
+
+-- the pairs picked are a cut list, and the rest of what is kept of them is right
+pub record Holding (row weights : List ℕ) (a : Asked) (p : Picked) : Type 0 where
+  pub long : length (p .numbers) ≡ 6
+  pub slot : p .slot ≤ a .timeout
+  pub link : p .link ≤ a .links
+  pub chosen : Chosen (planOf row) (cutsOf p) (p .count) (code (p .slot) (p .link))
+  pub tells : Tells (cutsOf p) 64 (p .from)
+  pub weight : p .weight ≡ harm (weightIn weights) (cutsOf p) (p .count)
+  pub light : p .weight ≤ p .count * 255
+
+-- the messages stand where they do at time s under a cut list
+abbrev pub StandAt : List ℕ → ℕ → List ℕ → ℕ → List Position → Type 0
+StandAt row n cuts s ps = Become row n (positions byNumber (isCut cuts) (tableOf (planOf row)) 0 s (start (planOf row))) ps
+
+-- n pairs more may be sought
+pub record MaySeek (row table weights most : List ℕ) (a : Asked) (ps : List Position) (p : Picked) (n : ℕ) : Type 0 where
+  pub ready : Ready row table weights most a
+  pub holding : Holding row weights a p
+  pub stand : StandAt row (a .messages) (cutsOf p) (p .slot) ps
+  pub few : p .count + n ≤ 3
+
+-- in one slot, from a link on
+pub record MaySeekIn (row table weights most : List ℕ) (a : Asked) (ps : List Position) (p : Picked) (n s e : ℕ) : Type 0 where
+  pub ready : Ready row table weights most a
+  pub holding : Holding row weights a p
+  pub stand : StandAt row (a .messages) (cutsOf p) s ps
+  pub few : p .count + n ≤ 3
+  pub some : 0 < n
+  pub early : s < a .timeout
+  pub link : e ≤ a .links
+  pub later : code (p .slot) (p .link) ≤ code s e
+
+-- what was found of all lists with n pairs more
+pub record Sought (row : List ℕ) (l : ℕ) (p : Picked) (n : ℕ) (r : Found) : Type 0 where
+  pub long : length (r .numbers) ≡ 6
+  pub none : r .found ≡ false → AllLeave (planOf row) l (cutsOf p) n
+  pub some : r .found ≡ true → FirstOf (planOf row) l (cutsOf p) n (take (2 * (p .count + n)) (r .numbers))
+  pub left : r .found ≡ true → r .arrivals ≡ arrivals (planOf row) (take (2 * (p .count + n)) (r .numbers))
+
+-- and of those whose next pair is in one slot
+pub record SoughtIn (row : List ℕ) (l : ℕ) (p : Picked) (n s e : ℕ) (r : Found) : Type 0 where
+  pub long : length (r .numbers) ≡ 6
+  pub none : r .found ≡ false → Leave (planOf row) l (cutsOf p) (n - 1) (code s e) (code (s + 1) 0)
+  pub some : r .found ≡ true → FirstFrom (planOf row) l (cutsOf p) (n - 1) (code s e) (take (2 * (p .count + n)) (r .numbers))
+  pub left : r .found ≡ true → r .arrivals ≡ arrivals (planOf row) (take (2 * (p .count + n)) (r .numbers))
