@@ -5,3 +5,5 @@ pub mod Before
 pub mod Weigh
 pub mod Steps
 pub mod Answer
+pub mod Playing
+pub mod Picking

@@ -38,42 +38,64 @@ withPair p s e w =
 abbrev pub passes : List ℕ → List ℕ → ℕ → ℕ → ℕ → Bool
 passes from weights base floor e = eqb (getD from e 0) 65535 && leb floor (getD weights (base + e) 0)
 
--- what is asked of the plan of a row, with its tables
-pub record Ready (row table weights most : List ℕ) (a : Asked) : Type 0 where
+-- what is asked of the plan of a row, with its table
+pub record Playable (row table : List ℕ) (a : Asked) : Type 0 where
   pub timeout : a .timeout ≡ planOf row .timeout
   pub short : a .timeout ≤ 64
   pub links : a .links ≡ length (planOf row .links)
   pub few : a .links ≤ 64
   pub owner : (i e : ℕ) → i < 64 → ownerOf table i e ≡ tableOf (planOf row) i e
+
+-- and with a bound
+pub record Ready (row table weights most : List ℕ) (a : Asked) : Type 0 where
+  pub play : Playable row table a
   pub heavy : length weights ≡ 4096
   pub tops : length most ≡ 64
   pub bound : Bound (planOf row) (a .least) (a .need) weights most
 
--- the pairs picked are a cut list, and the rest of what is kept of them is right
-pub record Holding (row weights : List ℕ) (a : Asked) (p : Picked) : Type 0 where
+-- the pairs picked are a cut list, which its numbers and `from` tell
+pub record Holding (row : List ℕ) (a : Asked) (p : Picked) : Type 0 where
   pub long : length (p .numbers) ≡ 6
   pub slot : p .slot ≤ a .timeout
   pub link : p .link ≤ a .links
   pub chosen : Chosen (planOf row) (cutsOf p) (p .count) (code (p .slot) (p .link))
   pub tells : Tells (cutsOf p) 64 (p .from)
-  pub weight : p .weight ≡ harm (weightIn weights) (cutsOf p) (p .count)
+
+-- what they weigh
+pub record Weighed (weights : List ℕ) (p : Picked) : Type 0 where
+  pub is : p .weight ≡ harm (weightIn weights) (cutsOf p) (p .count)
   pub light : p .weight ≤ p .count * 255
 
 -- the messages stand where they do at time s under a cut list
 abbrev pub StandAt : List ℕ → ℕ → List ℕ → ℕ → List Position → Type 0
 StandAt row n cuts s ps = Become row n (positions byNumber (isCut cuts) (tableOf (planOf row)) 0 s (start (planOf row))) ps
 
+-- a list may be played to the end, and one slot on
+pub record MaySettle (row table : List ℕ) (a : Asked) (ps : List Position) (p : Picked) : Type 0 where
+  pub play : Playable row table a
+  pub holding : Holding row a p
+  pub stand : StandAt row (a .messages) (cutsOf p) (p .slot) ps
+  pub few : p .count ≤ 3
+
+pub record MayAdvance (row table : List ℕ) (a : Asked) (ps : List Position) (p : Picked) (s : ℕ) : Type 0 where
+  pub play : Playable row table a
+  pub holding : Holding row a p
+  pub stand : StandAt row (a .messages) (cutsOf p) s ps
+  pub early : s < a .timeout
+
 -- n pairs more may be sought
 pub record MaySeek (row table weights most : List ℕ) (a : Asked) (ps : List Position) (p : Picked) (n : ℕ) : Type 0 where
   pub ready : Ready row table weights most a
-  pub holding : Holding row weights a p
+  pub holding : Holding row a p
+  pub weighed : Weighed weights p
   pub stand : StandAt row (a .messages) (cutsOf p) (p .slot) ps
   pub few : p .count + n ≤ 3
 
 -- in one slot, from a link on
 pub record MaySeekIn (row table weights most : List ℕ) (a : Asked) (ps : List Position) (p : Picked) (n s e : ℕ) : Type 0 where
   pub ready : Ready row table weights most a
-  pub holding : Holding row weights a p
+  pub holding : Holding row a p
+  pub weighed : Weighed weights p
   pub stand : StandAt row (a .messages) (cutsOf p) s ps
   pub few : p .count + n ≤ 3
   pub some : 0 < n

@@ -7,7 +7,7 @@ ghost use mathlib.Core.Path.{_≡_};
 ghost use mathlib.Core.Bool.{false};
 ghost use lib.ListN.{length};
 ghost use Rattle.scope.specs.Lowest.{seek};
-ghost use Rattle.resist.specs.Hunt.{withPair, passes, MaySeek, MaySeekIn, Sought, SoughtIn};
+ghost use Rattle.resist.specs.Hunt.{cutsOf, withPair, passes, StandAt, MaySettle, MayAdvance, MaySeek, MaySeekIn, Sought, SoughtIn};
 
 // What is asked of a plan: its timeout, links and messages, the least number of arrivals, and what a list must weigh to leave fewer.
 pub struct Asked {
@@ -101,4 +101,39 @@ fn lacking(need: usize, rest: usize) -> usize
     ensures { λ r. ⌜ r ≡ need - rest ⌝ }
 {
     if rest < need { need - rest } else { 0 }
+}
+
+// The list picked, played from its last pair on.
+fn settle(row: &[u16], table: &[u8], a: Asked, ps: [Position; 32], p: Picked) -> Found
+    requires { ⌜ MaySettle (now row) (now table) a ps p ⌝ }
+    ensures { λ r. ⌜ Sought (now (row .entry)) (a .least) p 0 r ⌝ }
+{
+    let from = p.from;
+    let arrivals = onward::finish(ps, a.messages, row, table, &from, p.slot, a.timeout);
+    if arrivals < a.least {
+        let numbers = p.numbers;
+        Found {
+            found: true,
+            arrivals,
+            numbers,
+        }
+    } else {
+        nothing()
+    }
+}
+
+// The positions one slot on, under the list picked.
+fn advance(
+    row: &[u16],
+    table: &[u8],
+    a: Asked,
+    ps: [Position; 32],
+    p: Picked,
+    s: usize,
+) -> [Position; 32]
+    requires { ⌜ MayAdvance (now row) (now table) a ps p s ⌝ }
+    ensures { λ r. ⌜ StandAt (now (row .entry)) (a .messages) (cutsOf p) (s + 1) r ⌝ }
+{
+    let from = p.from;
+    onward::next(ps, a.messages, row, table, &from, s)
 }

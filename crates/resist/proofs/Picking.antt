@@ -1,0 +1,2 @@
+-- One pair more.
+use Prim.Native.Nat.{ℕ}
