@@ -7,3 +7,4 @@ pub mod Steps
 pub mod Answer
 pub mod Playing
 pub mod Picking
+pub mod Levels

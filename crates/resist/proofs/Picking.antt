@@ -98,7 +98,12 @@ module _ (row table : List ℕ) (a : Asked) (p : Picked) (y : Playable row table
             (omega (arith, y .few)) whole j (omega (arith, h .chosen .long))));
         tells =
             rw cuts-more (tells-more (cutsOf p) (p .from) (p .count) s e (h .chosen .long) (h .tells) (omega (arith, y .few)) whole);
+        first = λ x l. first x l (eqb x e) refl;
       }
+    where
+      first : (x : ℕ) → x < 64 → (b : Bool) → eqb x e ≡ b → getD (set (p .from) e s) x 0 ≤ 65535
+      first x l true q = rw (eqb-true x e q, getD-set-same (p .from) e s 0 (omega (arith, h .tells .long, y .few))) (omega (arith, y .short))
+      first x l false q = rw (getD-set-other (p .from) e x s 0 (eqb-false x e q)) (h .first x l)
 
   pub weighed-more : (weights : List ℕ) → Weighed weights p → w ≡ weightIn weights s e → w < 256 → Weighed weights (withPair p s e w)
   weighed-more weights d here small =

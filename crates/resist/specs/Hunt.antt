@@ -60,6 +60,7 @@ pub record Holding (row : List ℕ) (a : Asked) (p : Picked) : Type 0 where
   pub link : p .link ≤ a .links
   pub chosen : Chosen (planOf row) (cutsOf p) (p .count) (code (p .slot) (p .link))
   pub tells : Tells (cutsOf p) 64 (p .from)
+  pub first : (e : ℕ) → e < 64 → getD (p .from) e 0 ≤ 65535
 
 -- what they weigh
 pub record Weighed (weights : List ℕ) (p : Picked) : Type 0 where

@@ -103,6 +103,14 @@ fn lacking(need: usize, rest: usize) -> usize
     if rest < need { need - rest } else { 0 }
 }
 
+// What n pairs more can weigh, with those picked.
+fn heaviest(weight: usize, n: usize, top: usize) -> usize
+    requires { ⌜ (weight ≤ 65536) × (n ≤ 3) × (top < 256) ⌝ }
+    ensures { λ r. ⌜ r ≡ weight + n * top ⌝ }
+{
+    weight + n * top
+}
+
 // The list picked, played from its last pair on.
 fn settle(row: &[u16], table: &[u8], a: Asked, ps: [Position; 32], p: Picked) -> Found
     requires { ⌜ MaySettle (now row) (now table) a ps p ⌝ }
@@ -136,4 +144,75 @@ fn advance(
 {
     let from = p.from;
     onward::next(ps, a.messages, row, table, &from, s)
+}
+
+// All lists that go on with a pair of slot s, from link e on, and have n pairs more.
+fn in_slot(
+    row: &[u16],
+    table: &[u8],
+    weights: &[u8],
+    most: &[u8],
+    a: Asked,
+    ps: [Position; 32],
+    p: Picked,
+    n: usize,
+    s: usize,
+    e: usize,
+) -> Found
+    requires { ⌜ MaySeekIn (now row) (now table) (now weights) (now most) a ps p n s e ⌝ }
+    ensures { λ r. ⌜ SoughtIn (now (row .entry)) (a .least) p n s e r ⌝ }
+{
+    let from = p.from;
+    let links = a.links;
+    let base = s * 64;
+    let top = most[s] as usize;
+    let floor = lacking(a.need, heaviest(p.weight, n - 1, top));
+    let mut i = next_link(&from, weights, base, floor, e, links);
+    while i < links {
+        let w = weights[base + i] as usize;
+        let q = pick(p, s, i, w);
+        let r = level(row, table, weights, most, a, ps, q, n - 1);
+        if r.found {
+            return r;
+        }
+        i = next_link(&from, weights, base, floor, i + 1, links);
+    }
+    nothing()
+}
+
+// All lists with n pairs more.
+fn level(
+    row: &[u16],
+    table: &[u8],
+    weights: &[u8],
+    most: &[u8],
+    a: Asked,
+    ps: [Position; 32],
+    p: Picked,
+    n: usize,
+) -> Found
+    requires { ⌜ MaySeek (now row) (now table) (now weights) (now most) a ps p n ⌝ }
+    ensures { λ r. ⌜ Sought (now (row .entry)) (a .least) p n r ⌝ }
+{
+    if n == 0 {
+        return settle(row, table, a, ps, p);
+    }
+    let mut qs = ps;
+    let mut s = p.slot;
+    let mut e = p.link;
+    while s < a.timeout {
+        let top = most[s] as usize;
+        if heaviest(p.weight, n, top) < a.need {
+            return nothing();
+        }
+        let r = in_slot(row, table, weights, most, a, qs, p, n, s, e);
+        if r.found {
+            return r;
+        }
+        let rs = advance(row, table, a, qs, p, s);
+        qs = rs;
+        s += 1;
+        e = 0;
+    }
+    nothing()
 }

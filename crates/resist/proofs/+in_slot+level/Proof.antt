@@ -1,0 +1,754 @@
+use Prim.Native.Nat.{ℕ, _<_}
+use borrow.Fn.Kinds.{In}
+use borrow.Fn.PlainCycle.{Measures, is, falls, and}
+use Rattle.resist.proofs.in_slot.Reads as in-slot
+use Rattle.resist.proofs.in_slot.Kinds as in-slot-kinds
+use Rattle.resist.proofs.+in_slot+level.Lts-in_slot as in-slot-lts
+use Rattle.resist.proofs.level.Reads as level
+use Rattle.resist.proofs.level.Kinds as level-kinds
+use Rattle.resist.proofs.+in_slot+level.Lts-level as level-lts
+use Rattle.resist.proofs.advance.Reads as advance-reads
+use Rattle.resist.proofs.heaviest.Reads as heaviest-reads
+use Rattle.resist.proofs.lacking.Reads as lacking-reads
+use Rattle.resist.proofs.next_link.Reads as next-link-reads
+use Rattle.resist.proofs.nothing.Reads as nothing-reads
+use Rattle.resist.proofs.pick.Reads as pick-reads
+use Rattle.resist.proofs.settle.Reads as settle-reads
+use Rattle.resist.proofs.+in_slot+level.{statement}
+use Rattle.resist.proofs.+in_slot+level.Tie.{close}
+
+abbrev μ-in-slot : Measures 4 in-slot-kinds.ps ℕ
+μ-in-slot κs a = ?
+
+abbrev μ-level : Measures 4 level-kinds.ps ℕ
+μ-level κs a = ?
+
+abbrev in-slot-at : ℕ → In 4 in-slot-kinds.ps
+in-slot-at t = and 4 in-slot-kinds.ps (is 4 in-slot-kinds.ps μ-in-slot t) in-slot.Pre
+
+abbrev in-slot-below : ℕ → In 4 in-slot-kinds.ps
+in-slot-below t = and 4 in-slot-kinds.ps (falls 4 in-slot-kinds.ps _<_ μ-in-slot t) in-slot.Pre
+
+abbrev level-at : ℕ → In 4 level-kinds.ps
+level-at t = and 4 level-kinds.ps (is 4 level-kinds.ps μ-level t) level.Pre
+
+abbrev level-below : ℕ → In 4 level-kinds.ps
+level-below t = and 4 level-kinds.ps (falls 4 level-kinds.ps _<_ μ-level t) level.Pre
+
+abbrev in-slot-Inv-loop : in-slot-lts.InvT-loop
+in-slot-Inv-loop row table weights most a ps p n s e from links base top floor i₀ i = ?
+
+abbrev in-slot-μ-loop : in-slot-lts.MeasureT-loop
+in-slot-μ-loop row table weights most a ps p n s e from links base top floor i₀ i = ?
+
+-- src/lib.rt:167:16
+in-slot-mul-base : (t : ℕ) → in-slot-lts.Need-mul-base (
+  heaviest-reads.Asked,
+  heaviest-reads.Learnt,
+  lacking-reads.Asked,
+  lacking-reads.Learnt,
+  next-link-reads.Asked,
+  next-link-reads.Learnt,
+  pick-reads.Asked,
+  pick-reads.Learnt,
+  level-below t,
+  level.Post,
+  nothing-reads.Asked,
+  nothing-reads.Learnt,
+) (in-slot-at t) in-slot.Post in-slot-Inv-loop in-slot-μ-loop
+in-slot-mul-base t c = ?
+
+-- src/lib.rt:168:15
+in-slot-shared-slice-read-top : (t : ℕ) → in-slot-lts.Need-shared-slice-read-top (
+  heaviest-reads.Asked,
+  heaviest-reads.Learnt,
+  lacking-reads.Asked,
+  lacking-reads.Learnt,
+  next-link-reads.Asked,
+  next-link-reads.Learnt,
+  pick-reads.Asked,
+  pick-reads.Learnt,
+  level-below t,
+  level.Post,
+  nothing-reads.Asked,
+  nothing-reads.Learnt,
+) (in-slot-at t) in-slot.Post in-slot-Inv-loop in-slot-μ-loop
+in-slot-shared-slice-read-top t c = ?
+
+-- src/lib.rt:168:15
+in-slot-cast-top : (t : ℕ) → in-slot-lts.Need-cast-top (
+  heaviest-reads.Asked,
+  heaviest-reads.Learnt,
+  lacking-reads.Asked,
+  lacking-reads.Learnt,
+  next-link-reads.Asked,
+  next-link-reads.Learnt,
+  pick-reads.Asked,
+  pick-reads.Learnt,
+  level-below t,
+  level.Post,
+  nothing-reads.Asked,
+  nothing-reads.Learnt,
+) (in-slot-at t) in-slot.Post in-slot-Inv-loop in-slot-μ-loop
+in-slot-cast-top t c = ?
+
+-- src/lib.rt:169:52
+in-slot-sub-heaviest : (t : ℕ) → in-slot-lts.Need-sub-heaviest (
+  heaviest-reads.Asked,
+  heaviest-reads.Learnt,
+  lacking-reads.Asked,
+  lacking-reads.Learnt,
+  next-link-reads.Asked,
+  next-link-reads.Learnt,
+  pick-reads.Asked,
+  pick-reads.Learnt,
+  level-below t,
+  level.Post,
+  nothing-reads.Asked,
+  nothing-reads.Learnt,
+) (in-slot-at t) in-slot.Post in-slot-Inv-loop in-slot-μ-loop
+in-slot-sub-heaviest t c = ?
+
+-- src/lib.rt:169:33
+in-slot-heaviest-requires : (t : ℕ) → in-slot-lts.Need-heaviest-requires (
+  heaviest-reads.Asked,
+  heaviest-reads.Learnt,
+  lacking-reads.Asked,
+  lacking-reads.Learnt,
+  next-link-reads.Asked,
+  next-link-reads.Learnt,
+  pick-reads.Asked,
+  pick-reads.Learnt,
+  level-below t,
+  level.Post,
+  nothing-reads.Asked,
+  nothing-reads.Learnt,
+) (in-slot-at t) in-slot.Post in-slot-Inv-loop in-slot-μ-loop
+in-slot-heaviest-requires t c κs = ?
+
+-- src/lib.rt:169:9
+in-slot-lacking-requires : (t : ℕ) → in-slot-lts.Need-lacking-requires (
+  heaviest-reads.Asked,
+  heaviest-reads.Learnt,
+  lacking-reads.Asked,
+  lacking-reads.Learnt,
+  next-link-reads.Asked,
+  next-link-reads.Learnt,
+  pick-reads.Asked,
+  pick-reads.Learnt,
+  level-below t,
+  level.Post,
+  nothing-reads.Asked,
+  nothing-reads.Learnt,
+) (in-slot-at t) in-slot.Post in-slot-Inv-loop in-slot-μ-loop
+in-slot-lacking-requires t c κs = ?
+
+-- src/lib.rt:170:27
+in-slot-slice-aggregate-next-link : (t : ℕ) → in-slot-lts.Need-slice-aggregate-next-link (
+  heaviest-reads.Asked,
+  heaviest-reads.Learnt,
+  lacking-reads.Asked,
+  lacking-reads.Learnt,
+  next-link-reads.Asked,
+  next-link-reads.Learnt,
+  pick-reads.Asked,
+  pick-reads.Learnt,
+  level-below t,
+  level.Post,
+  nothing-reads.Asked,
+  nothing-reads.Learnt,
+) (in-slot-at t) in-slot.Post in-slot-Inv-loop in-slot-μ-loop
+in-slot-slice-aggregate-next-link t c = ?
+
+-- src/lib.rt:170:9
+in-slot-next-link-requires : (t : ℕ) → in-slot-lts.Need-next-link-requires (
+  heaviest-reads.Asked,
+  heaviest-reads.Learnt,
+  lacking-reads.Asked,
+  lacking-reads.Learnt,
+  next-link-reads.Asked,
+  next-link-reads.Learnt,
+  pick-reads.Asked,
+  pick-reads.Learnt,
+  level-below t,
+  level.Post,
+  nothing-reads.Asked,
+  nothing-reads.Learnt,
+) (in-slot-at t) in-slot.Post in-slot-Inv-loop in-slot-μ-loop
+in-slot-next-link-requires t c κs = ?
+
+-- src/lib.rt:171:5
+in-slot-loop-holds : (t : ℕ) → in-slot-lts.Need-loop-holds (
+  heaviest-reads.Asked,
+  heaviest-reads.Learnt,
+  lacking-reads.Asked,
+  lacking-reads.Learnt,
+  next-link-reads.Asked,
+  next-link-reads.Learnt,
+  pick-reads.Asked,
+  pick-reads.Learnt,
+  level-below t,
+  level.Post,
+  nothing-reads.Asked,
+  nothing-reads.Learnt,
+) (in-slot-at t) in-slot.Post in-slot-Inv-loop in-slot-μ-loop
+in-slot-loop-holds t c = ?
+
+-- src/lib.rt:172:25
+in-slot-add-w : (t : ℕ) → in-slot-lts.Need-add-w (
+  heaviest-reads.Asked,
+  heaviest-reads.Learnt,
+  lacking-reads.Asked,
+  lacking-reads.Learnt,
+  next-link-reads.Asked,
+  next-link-reads.Learnt,
+  pick-reads.Asked,
+  pick-reads.Learnt,
+  level-below t,
+  level.Post,
+  nothing-reads.Asked,
+  nothing-reads.Learnt,
+) (in-slot-at t) in-slot.Post in-slot-Inv-loop in-slot-μ-loop
+in-slot-add-w t c = ?
+
+-- src/lib.rt:172:17
+in-slot-shared-slice-read-w : (t : ℕ) → in-slot-lts.Need-shared-slice-read-w (
+  heaviest-reads.Asked,
+  heaviest-reads.Learnt,
+  lacking-reads.Asked,
+  lacking-reads.Learnt,
+  next-link-reads.Asked,
+  next-link-reads.Learnt,
+  pick-reads.Asked,
+  pick-reads.Learnt,
+  level-below t,
+  level.Post,
+  nothing-reads.Asked,
+  nothing-reads.Learnt,
+) (in-slot-at t) in-slot.Post in-slot-Inv-loop in-slot-μ-loop
+in-slot-shared-slice-read-w t c = ?
+
+-- src/lib.rt:172:17
+in-slot-cast-w : (t : ℕ) → in-slot-lts.Need-cast-w (
+  heaviest-reads.Asked,
+  heaviest-reads.Learnt,
+  lacking-reads.Asked,
+  lacking-reads.Learnt,
+  next-link-reads.Asked,
+  next-link-reads.Learnt,
+  pick-reads.Asked,
+  pick-reads.Learnt,
+  level-below t,
+  level.Post,
+  nothing-reads.Asked,
+  nothing-reads.Learnt,
+) (in-slot-at t) in-slot.Post in-slot-Inv-loop in-slot-μ-loop
+in-slot-cast-w t c = ?
+
+-- src/lib.rt:173:13
+in-slot-pick-requires : (t : ℕ) → in-slot-lts.Need-pick-requires (
+  heaviest-reads.Asked,
+  heaviest-reads.Learnt,
+  lacking-reads.Asked,
+  lacking-reads.Learnt,
+  next-link-reads.Asked,
+  next-link-reads.Learnt,
+  pick-reads.Asked,
+  pick-reads.Learnt,
+  level-below t,
+  level.Post,
+  nothing-reads.Asked,
+  nothing-reads.Learnt,
+) (in-slot-at t) in-slot.Post in-slot-Inv-loop in-slot-μ-loop
+in-slot-pick-requires t c κs = ?
+
+-- src/lib.rt:174:60
+in-slot-sub-level : (t : ℕ) → in-slot-lts.Need-sub-level (
+  heaviest-reads.Asked,
+  heaviest-reads.Learnt,
+  lacking-reads.Asked,
+  lacking-reads.Learnt,
+  next-link-reads.Asked,
+  next-link-reads.Learnt,
+  pick-reads.Asked,
+  pick-reads.Learnt,
+  level-below t,
+  level.Post,
+  nothing-reads.Asked,
+  nothing-reads.Learnt,
+) (in-slot-at t) in-slot.Post in-slot-Inv-loop in-slot-μ-loop
+in-slot-sub-level t c = ?
+
+-- src/lib.rt:174:13
+in-slot-level-requires : (t : ℕ) → in-slot-lts.Need-level-requires (
+  heaviest-reads.Asked,
+  heaviest-reads.Learnt,
+  lacking-reads.Asked,
+  lacking-reads.Learnt,
+  next-link-reads.Asked,
+  next-link-reads.Learnt,
+  pick-reads.Asked,
+  pick-reads.Learnt,
+  level-below t,
+  level.Post,
+  nothing-reads.Asked,
+  nothing-reads.Learnt,
+) (in-slot-at t) in-slot.Post in-slot-Inv-loop in-slot-μ-loop
+in-slot-level-requires t c κs = ?
+
+-- src/lib.rt:176:13
+in-slot-returns : (t : ℕ) → in-slot-lts.Need-returns (
+  heaviest-reads.Asked,
+  heaviest-reads.Learnt,
+  lacking-reads.Asked,
+  lacking-reads.Learnt,
+  next-link-reads.Asked,
+  next-link-reads.Learnt,
+  pick-reads.Asked,
+  pick-reads.Learnt,
+  level-below t,
+  level.Post,
+  nothing-reads.Asked,
+  nothing-reads.Learnt,
+) (in-slot-at t) in-slot.Post in-slot-Inv-loop in-slot-μ-loop
+in-slot-returns t c = ?
+
+-- src/lib.rt:178:23
+in-slot-slice-aggregate-next-link-2 : (t : ℕ) → in-slot-lts.Need-slice-aggregate-next-link-2 (
+  heaviest-reads.Asked,
+  heaviest-reads.Learnt,
+  lacking-reads.Asked,
+  lacking-reads.Learnt,
+  next-link-reads.Asked,
+  next-link-reads.Learnt,
+  pick-reads.Asked,
+  pick-reads.Learnt,
+  level-below t,
+  level.Post,
+  nothing-reads.Asked,
+  nothing-reads.Learnt,
+) (in-slot-at t) in-slot.Post in-slot-Inv-loop in-slot-μ-loop
+in-slot-slice-aggregate-next-link-2 t c = ?
+
+-- src/lib.rt:178:52
+in-slot-add-next-link : (t : ℕ) → in-slot-lts.Need-add-next-link (
+  heaviest-reads.Asked,
+  heaviest-reads.Learnt,
+  lacking-reads.Asked,
+  lacking-reads.Learnt,
+  next-link-reads.Asked,
+  next-link-reads.Learnt,
+  pick-reads.Asked,
+  pick-reads.Learnt,
+  level-below t,
+  level.Post,
+  nothing-reads.Asked,
+  nothing-reads.Learnt,
+) (in-slot-at t) in-slot.Post in-slot-Inv-loop in-slot-μ-loop
+in-slot-add-next-link t c = ?
+
+-- src/lib.rt:178:9
+in-slot-next-link-requires-2 : (t : ℕ) → in-slot-lts.Need-next-link-requires-2 (
+  heaviest-reads.Asked,
+  heaviest-reads.Learnt,
+  lacking-reads.Asked,
+  lacking-reads.Learnt,
+  next-link-reads.Asked,
+  next-link-reads.Learnt,
+  pick-reads.Asked,
+  pick-reads.Learnt,
+  level-below t,
+  level.Post,
+  nothing-reads.Asked,
+  nothing-reads.Learnt,
+) (in-slot-at t) in-slot.Post in-slot-Inv-loop in-slot-μ-loop
+in-slot-next-link-requires-2 t c κs = ?
+
+-- src/lib.rt:171:5
+in-slot-loop-less : (t : ℕ) → in-slot-lts.Need-loop-less (
+  heaviest-reads.Asked,
+  heaviest-reads.Learnt,
+  lacking-reads.Asked,
+  lacking-reads.Learnt,
+  next-link-reads.Asked,
+  next-link-reads.Learnt,
+  pick-reads.Asked,
+  pick-reads.Learnt,
+  level-below t,
+  level.Post,
+  nothing-reads.Asked,
+  nothing-reads.Learnt,
+) (in-slot-at t) in-slot.Post in-slot-Inv-loop in-slot-μ-loop
+in-slot-loop-less t c = ?
+
+-- src/lib.rt:171:5
+in-slot-loop-again : (t : ℕ) → in-slot-lts.Need-loop-again (
+  heaviest-reads.Asked,
+  heaviest-reads.Learnt,
+  lacking-reads.Asked,
+  lacking-reads.Learnt,
+  next-link-reads.Asked,
+  next-link-reads.Learnt,
+  pick-reads.Asked,
+  pick-reads.Learnt,
+  level-below t,
+  level.Post,
+  nothing-reads.Asked,
+  nothing-reads.Learnt,
+) (in-slot-at t) in-slot.Post in-slot-Inv-loop in-slot-μ-loop
+in-slot-loop-again t c = ?
+
+-- src/lib.rt:180:5
+in-slot-nothing-requires : (t : ℕ) → in-slot-lts.Need-nothing-requires (
+  heaviest-reads.Asked,
+  heaviest-reads.Learnt,
+  lacking-reads.Asked,
+  lacking-reads.Learnt,
+  next-link-reads.Asked,
+  next-link-reads.Learnt,
+  pick-reads.Asked,
+  pick-reads.Learnt,
+  level-below t,
+  level.Post,
+  nothing-reads.Asked,
+  nothing-reads.Learnt,
+) (in-slot-at t) in-slot.Post in-slot-Inv-loop in-slot-μ-loop
+in-slot-nothing-requires t c κs = ?
+
+-- src/lib.rt:150:1
+in-slot-returns-2 : (t : ℕ) → in-slot-lts.Need-returns-2 (
+  heaviest-reads.Asked,
+  heaviest-reads.Learnt,
+  lacking-reads.Asked,
+  lacking-reads.Learnt,
+  next-link-reads.Asked,
+  next-link-reads.Learnt,
+  pick-reads.Asked,
+  pick-reads.Learnt,
+  level-below t,
+  level.Post,
+  nothing-reads.Asked,
+  nothing-reads.Learnt,
+) (in-slot-at t) in-slot.Post in-slot-Inv-loop in-slot-μ-loop
+in-slot-returns-2 t c = ?
+
+abbrev level-Inv-loop : level-lts.InvT-loop
+level-Inv-loop row table weights most a p n qs₀ s₀ e₀ qs s e = ?
+
+abbrev level-μ-loop : level-lts.MeasureT-loop
+level-μ-loop row table weights most a p n qs₀ s₀ e₀ qs s e = ?
+
+-- src/lib.rt:198:9
+level-settle-requires : (t : ℕ) → level-lts.Need-settle-requires (
+  settle-reads.Asked,
+  settle-reads.Learnt,
+  heaviest-reads.Asked,
+  heaviest-reads.Learnt,
+  nothing-reads.Asked,
+  nothing-reads.Learnt,
+  in-slot-below t,
+  in-slot.Post,
+  advance-reads.Asked,
+  advance-reads.Learnt,
+) (level-at t) level.Post level-Inv-loop level-μ-loop
+level-settle-requires t c κs = ?
+
+-- src/lib.rt:198:9
+level-returns : (t : ℕ) → level-lts.Need-returns (
+  settle-reads.Asked,
+  settle-reads.Learnt,
+  heaviest-reads.Asked,
+  heaviest-reads.Learnt,
+  nothing-reads.Asked,
+  nothing-reads.Learnt,
+  in-slot-below t,
+  in-slot.Post,
+  advance-reads.Asked,
+  advance-reads.Learnt,
+) (level-at t) level.Post level-Inv-loop level-μ-loop
+level-returns t c = ?
+
+-- src/lib.rt:203:5
+level-loop-holds : (t : ℕ) → level-lts.Need-loop-holds (
+  settle-reads.Asked,
+  settle-reads.Learnt,
+  heaviest-reads.Asked,
+  heaviest-reads.Learnt,
+  nothing-reads.Asked,
+  nothing-reads.Learnt,
+  in-slot-below t,
+  in-slot.Post,
+  advance-reads.Asked,
+  advance-reads.Learnt,
+) (level-at t) level.Post level-Inv-loop level-μ-loop
+level-loop-holds t c = ?
+
+-- src/lib.rt:204:19
+level-shared-slice-read-top : (t : ℕ) → level-lts.Need-shared-slice-read-top (
+  settle-reads.Asked,
+  settle-reads.Learnt,
+  heaviest-reads.Asked,
+  heaviest-reads.Learnt,
+  nothing-reads.Asked,
+  nothing-reads.Learnt,
+  in-slot-below t,
+  in-slot.Post,
+  advance-reads.Asked,
+  advance-reads.Learnt,
+) (level-at t) level.Post level-Inv-loop level-μ-loop
+level-shared-slice-read-top t c = ?
+
+-- src/lib.rt:204:19
+level-cast-top : (t : ℕ) → level-lts.Need-cast-top (
+  settle-reads.Asked,
+  settle-reads.Learnt,
+  heaviest-reads.Asked,
+  heaviest-reads.Learnt,
+  nothing-reads.Asked,
+  nothing-reads.Learnt,
+  in-slot-below t,
+  in-slot.Post,
+  advance-reads.Asked,
+  advance-reads.Learnt,
+) (level-at t) level.Post level-Inv-loop level-μ-loop
+level-cast-top t c = ?
+
+-- src/lib.rt:205:12
+level-heaviest-requires : (t : ℕ) → level-lts.Need-heaviest-requires (
+  settle-reads.Asked,
+  settle-reads.Learnt,
+  heaviest-reads.Asked,
+  heaviest-reads.Learnt,
+  nothing-reads.Asked,
+  nothing-reads.Learnt,
+  in-slot-below t,
+  in-slot.Post,
+  advance-reads.Asked,
+  advance-reads.Learnt,
+) (level-at t) level.Post level-Inv-loop level-μ-loop
+level-heaviest-requires t c κs = ?
+
+-- src/lib.rt:206:13
+level-nothing-requires : (t : ℕ) → level-lts.Need-nothing-requires (
+  settle-reads.Asked,
+  settle-reads.Learnt,
+  heaviest-reads.Asked,
+  heaviest-reads.Learnt,
+  nothing-reads.Asked,
+  nothing-reads.Learnt,
+  in-slot-below t,
+  in-slot.Post,
+  advance-reads.Asked,
+  advance-reads.Learnt,
+) (level-at t) level.Post level-Inv-loop level-μ-loop
+level-nothing-requires t c κs = ?
+
+-- src/lib.rt:206:13
+level-returns-2 : (t : ℕ) → level-lts.Need-returns-2 (
+  settle-reads.Asked,
+  settle-reads.Learnt,
+  heaviest-reads.Asked,
+  heaviest-reads.Learnt,
+  nothing-reads.Asked,
+  nothing-reads.Learnt,
+  in-slot-below t,
+  in-slot.Post,
+  advance-reads.Asked,
+  advance-reads.Learnt,
+) (level-at t) level.Post level-Inv-loop level-μ-loop
+level-returns-2 t c = ?
+
+-- src/lib.rt:208:13
+level-in-slot-requires : (t : ℕ) → level-lts.Need-in-slot-requires (
+  settle-reads.Asked,
+  settle-reads.Learnt,
+  heaviest-reads.Asked,
+  heaviest-reads.Learnt,
+  nothing-reads.Asked,
+  nothing-reads.Learnt,
+  in-slot-below t,
+  in-slot.Post,
+  advance-reads.Asked,
+  advance-reads.Learnt,
+) (level-at t) level.Post level-Inv-loop level-μ-loop
+level-in-slot-requires t c κs = ?
+
+-- src/lib.rt:210:13
+level-returns-3 : (t : ℕ) → level-lts.Need-returns-3 (
+  settle-reads.Asked,
+  settle-reads.Learnt,
+  heaviest-reads.Asked,
+  heaviest-reads.Learnt,
+  nothing-reads.Asked,
+  nothing-reads.Learnt,
+  in-slot-below t,
+  in-slot.Post,
+  advance-reads.Asked,
+  advance-reads.Learnt,
+) (level-at t) level.Post level-Inv-loop level-μ-loop
+level-returns-3 t c = ?
+
+-- src/lib.rt:212:13
+level-advance-requires : (t : ℕ) → level-lts.Need-advance-requires (
+  settle-reads.Asked,
+  settle-reads.Learnt,
+  heaviest-reads.Asked,
+  heaviest-reads.Learnt,
+  nothing-reads.Asked,
+  nothing-reads.Learnt,
+  in-slot-below t,
+  in-slot.Post,
+  advance-reads.Asked,
+  advance-reads.Learnt,
+) (level-at t) level.Post level-Inv-loop level-μ-loop
+level-advance-requires t c κs = ?
+
+-- src/lib.rt:214:9
+level-add-s : (t : ℕ) → level-lts.Need-add-s (
+  settle-reads.Asked,
+  settle-reads.Learnt,
+  heaviest-reads.Asked,
+  heaviest-reads.Learnt,
+  nothing-reads.Asked,
+  nothing-reads.Learnt,
+  in-slot-below t,
+  in-slot.Post,
+  advance-reads.Asked,
+  advance-reads.Learnt,
+) (level-at t) level.Post level-Inv-loop level-μ-loop
+level-add-s t c = ?
+
+-- src/lib.rt:203:5
+level-loop-less : (t : ℕ) → level-lts.Need-loop-less (
+  settle-reads.Asked,
+  settle-reads.Learnt,
+  heaviest-reads.Asked,
+  heaviest-reads.Learnt,
+  nothing-reads.Asked,
+  nothing-reads.Learnt,
+  in-slot-below t,
+  in-slot.Post,
+  advance-reads.Asked,
+  advance-reads.Learnt,
+) (level-at t) level.Post level-Inv-loop level-μ-loop
+level-loop-less t c = ?
+
+-- src/lib.rt:203:5
+level-loop-again : (t : ℕ) → level-lts.Need-loop-again (
+  settle-reads.Asked,
+  settle-reads.Learnt,
+  heaviest-reads.Asked,
+  heaviest-reads.Learnt,
+  nothing-reads.Asked,
+  nothing-reads.Learnt,
+  in-slot-below t,
+  in-slot.Post,
+  advance-reads.Asked,
+  advance-reads.Learnt,
+) (level-at t) level.Post level-Inv-loop level-μ-loop
+level-loop-again t c = ?
+
+-- src/lib.rt:217:5
+level-nothing-requires-2 : (t : ℕ) → level-lts.Need-nothing-requires-2 (
+  settle-reads.Asked,
+  settle-reads.Learnt,
+  heaviest-reads.Asked,
+  heaviest-reads.Learnt,
+  nothing-reads.Asked,
+  nothing-reads.Learnt,
+  in-slot-below t,
+  in-slot.Post,
+  advance-reads.Asked,
+  advance-reads.Learnt,
+) (level-at t) level.Post level-Inv-loop level-μ-loop
+level-nothing-requires-2 t c κs = ?
+
+-- src/lib.rt:184:1
+level-returns-4 : (t : ℕ) → level-lts.Need-returns-4 (
+  settle-reads.Asked,
+  settle-reads.Learnt,
+  heaviest-reads.Asked,
+  heaviest-reads.Learnt,
+  nothing-reads.Asked,
+  nothing-reads.Learnt,
+  in-slot-below t,
+  in-slot.Post,
+  advance-reads.Asked,
+  advance-reads.Learnt,
+) (level-at t) level.Post level-Inv-loop level-μ-loop
+level-returns-4 t c = ?
+
+pub +in-slot+level-spec : {M : Type 1} → statement M
++in-slot+level-spec = close μ-in-slot μ-level (λ t. in-slot-lts.spec (
+  heaviest-reads.Asked,
+  heaviest-reads.Learnt,
+  lacking-reads.Asked,
+  lacking-reads.Learnt,
+  next-link-reads.Asked,
+  next-link-reads.Learnt,
+  pick-reads.Asked,
+  pick-reads.Learnt,
+  level-below t,
+  level.Post,
+  nothing-reads.Asked,
+  nothing-reads.Learnt,
+)
+    (in-slot-at t)
+    in-slot.Post
+    in-slot-Inv-loop
+    in-slot-μ-loop
+    (in-slot-mul-base t)
+    (in-slot-shared-slice-read-top t)
+    (in-slot-cast-top t)
+    (in-slot-sub-heaviest t)
+    (in-slot-heaviest-requires t)
+    (in-slot-lacking-requires t)
+    (in-slot-slice-aggregate-next-link t)
+    (in-slot-next-link-requires t)
+    (in-slot-loop-holds t)
+    (in-slot-add-w t)
+    (in-slot-shared-slice-read-w t)
+    (in-slot-cast-w t)
+    (in-slot-pick-requires t)
+    (in-slot-sub-level t)
+    (in-slot-level-requires t)
+    (in-slot-returns t)
+    (in-slot-slice-aggregate-next-link-2 t)
+    (in-slot-add-next-link t)
+    (in-slot-next-link-requires-2 t)
+    (in-slot-loop-less t)
+    (in-slot-loop-again t)
+    (in-slot-nothing-requires t)
+    (in-slot-returns-2 t))
+    λ t. level-lts.spec (
+      settle-reads.Asked,
+      settle-reads.Learnt,
+      heaviest-reads.Asked,
+      heaviest-reads.Learnt,
+      nothing-reads.Asked,
+      nothing-reads.Learnt,
+      in-slot-below t,
+      in-slot.Post,
+      advance-reads.Asked,
+      advance-reads.Learnt,
+    )
+    (level-at t)
+    level.Post
+    level-Inv-loop
+    level-μ-loop
+    (level-settle-requires t)
+    (level-returns t)
+    (level-loop-holds t)
+    (level-shared-slice-read-top t)
+    (level-cast-top t)
+    (level-heaviest-requires t)
+    (level-nothing-requires t)
+    (level-returns-2 t)
+    (level-in-slot-requires t)
+    (level-returns-3 t)
+    (level-advance-requires t)
+    (level-add-s t)
+    (level-loop-less t)
+    (level-loop-again t)
+    (level-nothing-requires-2 t)
+    (level-returns-4 t)

@@ -1,0 +1,20 @@
+use borrow.Author.Needs.{needs}
+use Rattle.resist.proofs.heaviest.Statement.{statement}
+use Rattle.resist.proofs.heaviest.Tie as tie
+use Rattle.resist.proofs.heaviest.Reads as reads
+use Rattle.resist.proofs.heaviest.Lts as lts
+
+-- src/lib.rt:111:14
+mul-result : tie.Need-mul-result
+mul-result c = ?
+
+-- src/lib.rt:111:5
+add-result : tie.Need-add-result
+add-result c = ?
+
+-- src/lib.rt:107:1
+returns : tie.Need-returns
+returns c = search needs
+
+pub heaviest-spec : {M : Type 1} → statement M
+heaviest-spec = tie.close (tie.spec mul-result add-result returns)
