@@ -18,27 +18,32 @@ use Rattle.resist.specs.declared.Asked.{Asked}
 use Rattle.resist.specs.declared.Picked.{Picked}
 use Rattle.resist.specs.declared.Found.{Found}
 use Rattle.resist.specs.Search.{code, Chosen, AllLeave, FirstOf, Leave, FirstFrom}
-use Rattle.resist.specs.Hunt.{cutsOf, withPair, passes, Playable, Ready, Holding, Weighed, StandAt, Sought, SoughtIn}
+use Rattle.resist.specs.Hunt.{cutsOf, withPair, passes, Playable, Ready, Holding, Weighed, StandAt, MayAdvance, MaySeek, MaySeekIn, Sought, SoughtIn}
 use Rattle.resist.proofs.Steps.{none-before, passed, cut-already, no-list-here, first-here, slot-over, joined, first-in-slot, all-over, first-of-all, too-light, too-light-now}
-use Rattle.resist.proofs.Picking.{named, cuts-more}
+use Rattle.resist.proofs.Picking.{named, cuts-more, holding-more, weighed-more, stand-more}
+
+-- in slot s, from link e on: the lists whose next pair is there and before link i leave enough
+pub record Looking (row weights : List ℕ) (a : Asked) (p : Picked) (n s e i floor : ℕ) : Type 0 where
+  pub leave : Leave (planOf row) (a .least) (cutsOf p) (n - 1) (code s e) (code s i)
+  pub start : e ≤ i
+  pub within : i ≤ a .links
+  pub may : i < a .links → passes (p .from) weights (s * 64) floor i ≡ true
+
+-- over the slots: the lists whose next pair comes before slot s and link e leave enough
+pub record Climbing (row : List ℕ) (a : Asked) (p : Picked) (n s e : ℕ) (qs : List P.Position) : Type 0 where
+  pub leave : Leave (planOf row) (a .least) (cutsOf p) (n - 1) 0 (code s e)
+  pub stand : StandAt row (a .messages) (cutsOf p) s qs
+  pub early : s ≤ a .timeout
+  pub link : e ≤ a .links
+  pub later : code (p .slot) (p .link) ≤ code s e
 
 module _ (row table weights most : List ℕ) (a : Asked) (p : Picked) (n : ℕ) (y : Ready row table weights most a) (h : Holding row a p) (v : Weighed weights p)
     (some : 0 < n) (room : p .count + n ≤ 3) where
-  plan : Plan
-  plan = planOf row
-
   few : length (planOf row .links) ≤ 64
   few = omega (arith, y .play .links, y .play .few)
 
   time : planOf row .timeout ≤ 64
   time = omega (arith, y .play .timeout, y .play .short)
-
-  -- in slot s, from link e on: the lists whose next pair is there and before link i leave enough
-  pub record Looking (s e i floor : ℕ) : Type 0 where
-    pub leave : Leave (planOf row) (a .least) (cutsOf p) (n - 1) (code s e) (code s i)
-    pub start : e ≤ i
-    pub within : i ≤ a .links
-    pub may : i < a .links → passes (p .from) weights (s * 64) floor i ≡ true
 
   -- a link that may not be tried
   not-tried : (s floor b : ℕ) → floor ≡ a .need - (p .weight + (n - 1) * getD most s 0) → b < a .links → passes (p .from) weights (s * 64) floor b ≡ false →
@@ -60,7 +65,7 @@ module _ (row table weights most : List ℕ) (a : Asked) (p : Picked) (n : ℕ) 
 
   pub looked : (s e i floor r : ℕ) → floor ≡ a .need - (p .weight + (n - 1) * getD most s 0) → e ≤ i → i ≤ a .links →
       Leave (planOf row) (a .least) (cutsOf p) (n - 1) (code s e) (code s i) →
-      r ≡ seek (passes (p .from) weights (s * 64) floor) (a .links - i) i → Looking s e r floor
+      r ≡ seek (passes (p .from) weights (s * 64) floor) (a .links - i) i → Looking row weights a p n s e r floor
   looked s e i floor r is low high leave found =
       let test = passes (p .from) weights (s * 64) floor in
       let from = seek-from test (a .links - i) i in
@@ -78,7 +83,7 @@ module _ (row table weights most : List ℕ) (a : Asked) (p : Picked) (n : ℕ) 
   pub look-first : (s e : ℕ) → Leave (planOf row) (a .least) (cutsOf p) (n - 1) (code s e) (code s e)
   look-first s e x y z long good low high = absurd (omega arith)
 
-  module _ (s e i floor : ℕ) (g : Looking s e i floor) where
+  module _ (s e i floor : ℕ) (g : Looking row weights a p n s e i floor) where
     pub not-cut-yet : i < a .links → getD (p .from) i 0 ≡ 65535
     not-cut-yet l = eqb-true (getD (p .from) i 0) 65535 (and-eq-true-iff (eqb (getD (p .from) i 0) 65535) (leb floor (getD weights (s * 64 + i) 0)) .0 (g .may l) .0)
 
@@ -124,15 +129,7 @@ module _ (row table weights most : List ℕ) (a : Asked) (p : Picked) (n : ℕ) 
           left = λ u. absurd (true≢false (sym u ∙ t));
         }
 
-  -- over the slots: the lists whose next pair comes before slot s and link e leave enough
-  pub record Climbing (s e : ℕ) (qs : List P.Position) : Type 0 where
-    pub leave : Leave (planOf row) (a .least) (cutsOf p) (n - 1) 0 (code s e)
-    pub stand : StandAt row (a .messages) (cutsOf p) s qs
-    pub early : s ≤ a .timeout
-    pub link : e ≤ a .links
-    pub later : code (p .slot) (p .link) ≤ code s e
-
-  pub climb-first : (ps : List P.Position) → StandAt row (a .messages) (cutsOf p) (p .slot) ps → Climbing (p .slot) (p .link) ps
+  pub climb-first : (ps : List P.Position) → StandAt row (a .messages) (cutsOf p) (p .slot) ps → Climbing row a p n (p .slot) (p .link) ps
   climb-first ps stand =
       record {
         leave = none-before (planOf row) (a .least) few (cutsOf p) (p .count) (code (p .slot) (p .link)) (h .chosen) (n - 1);
@@ -145,7 +142,7 @@ module _ (row table weights most : List ℕ) (a : Asked) (p : Picked) (n : ℕ) 
   whole : 1 + (n - 1) ≡ n
   whole = omega arith
 
-  module _ (s e : ℕ) (qs : List P.Position) (g : Climbing s e qs) where
+  module _ (s e : ℕ) (qs : List P.Position) (g : Climbing row a p n s e qs) where
     no-more : (r : Found) → r .found ≡ false → length (r .numbers) ≡ 6 → AllLeave (planOf row) (a .least) (cutsOf p) (1 + (n - 1)) → Sought row (a .least) p n r
     no-more r t long all =
         record {
@@ -181,7 +178,7 @@ module _ (row table weights most : List ℕ) (a : Asked) (p : Picked) (n : ℕ) 
             left = λ u. f .left t;
           }
 
-      pub climb-on : (rs : List P.Position) → r .found ≡ false → s < a .timeout → StandAt row (a .messages) (cutsOf p) (s + 1) rs → Climbing (s + 1) 0 rs
+      pub climb-on : (rs : List P.Position) → r .found ≡ false → s < a .timeout → StandAt row (a .messages) (cutsOf p) (s + 1) rs → Climbing row a p n (s + 1) 0 rs
       climb-on rs t early stand =
           record {
             leave =
@@ -192,3 +189,83 @@ module _ (row table weights most : List ℕ) (a : Asked) (p : Picked) (n : ℕ) 
             link = omega arith;
             later = omega (arith, g .later, g .link, y .play .few);
           }
+
+-- the next link found is a later one
+pub goes-up : (test : ℕ → Bool) (n i r : ℕ) → r ≡ seek test n (i + 1) → i < r
+goes-up test n i r e = omega (arith, seek-from test n (i + 1))
+
+-- the calls
+module _ (row table weights most : List ℕ) (a : Asked) (ps : List P.Position) (p : Picked) (n s e : ℕ) (m : MaySeekIn row table weights most a ps p n s e) where
+  pub may-go-on : (i floor w : ℕ) (q : Picked) → Looking row weights a p n s e i floor → i < a .links → w ≡ weightIn weights s i → w < 256 →
+      q ≡ withPair p s i w → MaySeek row table weights most a ps q (n - 1)
+  may-go-on i floor w q g l here small is =
+      rw is
+      (record {
+        ready = m .ready;
+        holding =
+            holding-more row table a p (m .ready .play) (m .holding) s i w (omega (arith, m .few, m .some)) (omega (arith, m .later, g .start)) (m .early) l
+            (not-cut-yet row table weights most a p n (m .ready) (m .holding) (m .weighed) (m .some) (m .few) s e i floor g l);
+        weighed = weighed-more row table a p (m .ready .play) (m .holding) s i w (omega (arith, m .few, m .some)) weights (m .weighed) here small;
+        stand = stand-more row table a p (m .ready .play) (m .holding) s i w (omega (arith, m .few, m .some)) (a .messages) ps (m .stand);
+        few = omega (arith, m .few, m .some);
+      })
+
+  pub looks-first : (floor w r : ℕ) → floor ≡ a .need - w → w ≡ p .weight + (n - 1) * getD most s 0 →
+      r ≡ seek (passes (p .from) weights (s * 64) floor) (a .links - e) e → Looking row weights a p n s e r floor
+  looks-first floor w r f h found =
+      looked row table weights most a p n (m .ready) (m .holding) (m .weighed) (m .some) (m .few) s e e floor r (f ∙ ap (λ (x : ℕ). a .need - x) h)
+      (omega arith) (m .link) (look-first row table weights most a p n (m .ready) (m .holding) (m .weighed) (m .some) (m .few) s e) found
+
+  module _ (i floor w : ℕ) (q : Picked) (r : Found) (g : Looking row weights a p n s e i floor) (l : i < a .links) (is : q ≡ withPair p s i w)
+      (f : Sought row (a .least) q (n - 1) r) where
+    found : Sought row (a .least) (withPair p s i w) (n - 1) r
+    found = rw is at f
+
+    pub looks-some : r .found ≡ true → SoughtIn row (a .least) p n s e r
+    looks-some t =
+        look-some row table weights most a p n (m .ready) (m .holding) (m .weighed) (m .some) (m .few) s e i floor g w r l found t
+
+    pub looks-on : (v j : ℕ) → r .found ≡ false → floor ≡ a .need - v → v ≡ p .weight + (n - 1) * getD most s 0 →
+        j ≡ seek (passes (p .from) weights (s * 64) floor) (a .links - (i + 1)) (i + 1) → Looking row weights a p n s e j floor
+    looks-on v j t k h next =
+        looked row table weights most a p n (m .ready) (m .holding) (m .weighed) (m .some) (m .few) s e (i + 1) floor j (k ∙ ap (λ (x : ℕ). a .need - x) h)
+        (omega (arith, g .start)) (omega arith)
+        (look-on row table weights most a p n (m .ready) (m .holding) (m .weighed) (m .some) (m .few) s e i floor g w r l found t) next
+
+module _ (row table weights most : List ℕ) (a : Asked) (ps : List P.Position) (p : Picked) (n : ℕ) (m : MaySeek row table weights most a ps p n) (some : n ≡ 0 → ⊥) where
+  positive : 0 < n
+  positive = omega (arith, some)
+
+  pub climbs-first : Climbing row a p n (p .slot) (p .link) ps
+  climbs-first = climb-first row table weights most a p n (m .ready) (m .holding) (m .weighed) positive (m .few) ps (m .stand)
+
+  module _ (s e : ℕ) (qs : List P.Position) (g : Climbing row a p n s e qs) where
+    pub may-look : s < a .timeout → MaySeekIn row table weights most a qs p n s e
+    may-look early =
+        record {
+          ready = m .ready;
+          holding = m .holding;
+          weighed = m .weighed;
+          stand = g .stand;
+          few = m .few;
+          some = positive;
+          early = early;
+          link = g .link;
+          later = g .later;
+        }
+
+    pub may-advance : s < a .timeout → MayAdvance row table a qs p s
+    may-advance early = record { play = m .ready .play; holding = m .holding; stand = g .stand; early = early }
+
+    pub climbs-light : (r : Found) (w : ℕ) → r .found ≡ false → length (r .numbers) ≡ 6 → w ≡ p .weight + n * getD most s 0 → w < a .need → Sought row (a .least) p n r
+    climbs-light = climb-light row table weights most a p n (m .ready) (m .holding) (m .weighed) positive (m .few) s e qs g
+
+    pub climbs-over : (r : Found) → r .found ≡ false → length (r .numbers) ≡ 6 → a .timeout ≤ s → Sought row (a .least) p n r
+    climbs-over = climb-over row table weights most a p n (m .ready) (m .holding) (m .weighed) positive (m .few) s e qs g
+
+    pub climbs-some : (r : Found) → SoughtIn row (a .least) p n s e r → r .found ≡ true → Sought row (a .least) p n r
+    climbs-some = climb-some row table weights most a p n (m .ready) (m .holding) (m .weighed) positive (m .few) s e qs g
+
+    pub climbs-on : (r : Found) → SoughtIn row (a .least) p n s e r → (rs : List P.Position) → r .found ≡ false → s < a .timeout →
+        StandAt row (a .messages) (cutsOf p) (s + 1) rs → Climbing row a p n (s + 1) 0 rs
+    climbs-on = climb-on row table weights most a p n (m .ready) (m .holding) (m .weighed) positive (m .few) s e qs g

@@ -1,3 +1,6 @@
+-- `resist::heaviest` meets its contract: three times a byte fits.
+use native.Mathlib.Omega.{arith}
+use native.Mathlib.Nat.{mul-le-mul-right}
 use borrow.Author.Needs.{needs}
 use Rattle.resist.proofs.heaviest.Statement.{statement}
 use Rattle.resist.proofs.heaviest.Tie as tie
@@ -6,11 +9,11 @@ use Rattle.resist.proofs.heaviest.Lts as lts
 
 -- src/lib.rt:111:14
 mul-result : tie.Need-mul-result
-mul-result c = ?
+mul-result c = omega (arith, mul-le-mul-right (c .args .top) (c .pre .1))
 
 -- src/lib.rt:111:5
 add-result : tie.Need-add-result
-add-result c = ?
+add-result c = omega (arith, mul-le-mul-right (c .args .top) (c .pre .1))
 
 -- src/lib.rt:107:1
 returns : tie.Need-returns
