@@ -1,15 +1,14 @@
 -- Laws of the first slot in which a link is cut: one more pair, and what is known of `isCut` after all pairs.
-use Prim.Native.Nat.{ℕ, zero, suc, _+_, _-_, _*_, _≤_, _<_}
+use Prim.Native.Nat.{ℕ, zero, suc, _+_, _≤_, _<_}
 use mathlib.Core.Path.{_≡_, refl, sym, _∙_, ap}
 use mathlib.Core.Bool.{Bool, true, false, cond, _&&_, _||_, true≢false, or-false, or-comm}
 use mathlib.Core.List.{List, [], _∷_}
-use native.Mathlib.Numerals.{add-one}
 use native.Mathlib.Omega.{arith}
 use lib.ListN.{length, getD, set, replicate, getD-replicate, length-replicate, length-set}
 use lib.Seq.{getD-set-same, getD-set-other, set-getD, set-out}
 use lib.Dec.{ltb, leb, eqb}
-use borrow.Author.Tests.{lt-ltb, le-ltb, le-leb, lt-leb, eq-eqb, ne-eqb, ltb-true, ltb-false, leb-true, leb-false, eqb-true, eqb-false}
-use Rattle.scope.specs.Lowest.{seek, lowest, some}
+use borrow.Author.Tests.{lt-ltb, le-ltb, le-leb, lt-leb, ltb-true, ltb-false, leb-true, eqb-true, eqb-false}
+use Rattle.scope.specs.Lowest.{seek, some}
 use Rattle.scope.specs.Cuts.{cutSlot, cutLink, pairs, isCut}
 use Rattle.scope.proofs.Lowest.{seek-is, seek-low}
 use Rattle.cuts.specs.From.{never, cutFrom, downOf, earlier, Tells}

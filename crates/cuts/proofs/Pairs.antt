@@ -1,14 +1,14 @@
 -- Laws of bad pairs: one for each way out of a test.
-use Prim.Native.Nat.{ℕ, zero, suc, _+_, _-_, _*_, _≤_, _<_}
+use Prim.Native.Nat.{ℕ, _+_, _-_, _*_, _≤_, _<_}
 use mathlib.Core.Path.{_≡_, refl, sym, _∙_, ap}
-use mathlib.Core.Bool.{Bool, true, false, not, cond, _&&_, _||_, and-false, or-true}
+use mathlib.Core.Bool.{Bool, true, false, not, and-false, or-true}
 use mathlib.Core.List.{List}
 use native.Mathlib.Omega.{arith}
 use lib.ListN.{length}
 use lib.Dec.{ltb, leb, eqb}
-use borrow.Author.Tests.{lt-ltb, le-ltb, le-leb, lt-leb, eq-eqb, ne-eqb, leb-true, leb-false}
-use Rattle.scope.specs.Lowest.{lowest, some}
-use Rattle.scope.specs.Outcome.{Outcome, gives, refused}
+use borrow.Author.Tests.{lt-ltb, le-ltb, eq-eqb, ne-eqb, leb-true, leb-false}
+use Rattle.scope.specs.Lowest.{lowest}
+use Rattle.scope.specs.Outcome.{gives, refused}
 use Rattle.scope.specs.Plan.{linkCount, timeoutOf, planOf}
 use Rattle.scope.specs.Cuts.{cutSlot, cutLink, pairs, falls, badPair, checkCuts}
 use Rattle.scope.proofs.Lowest.{seek-same}

@@ -4,9 +4,8 @@
 use scope::Answer;
 use scope::Refusal;
 use view::number;
-ghost use Prim.Native.Nat.{_+_, _*_, _<_, _≤_, _^_};
+ghost use Prim.Native.Nat.{_+_, _*_, _<_, _^_};
 ghost use mathlib.Core.Path.{_≡_};
-ghost use lib.ListN.{length};
 ghost use Rattle.scope.specs.Lowest.{lowest};
 ghost use Rattle.scope.specs.Outcome.{outcomeOf};
 ghost use Rattle.scope.specs.Plan.{planOf};

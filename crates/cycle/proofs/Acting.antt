@@ -1,19 +1,19 @@
 -- The loop in which all messages act: their next positions, and their events at the front of a buffer.
-use Prim.Native.Nat.{ℕ, zero, suc, _+_, _-_, _*_, _≤_, _<_}
+use Prim.Native.Nat.{ℕ, suc, _+_, _-_, _*_, _≤_, _<_}
 use mathlib.Core.Path.{_≡_, refl, sym, _∙_, ap}
 use mathlib.Core.Bool.{Bool}
-use mathlib.Core.List.{List, [], _∷_, _++_, map}
+use mathlib.Core.List.{List, [], _∷_, _++_}
 use native.Mathlib.Numerals.{add-one}
 use native.Mathlib.Omega.{arith}
 use lib.ListN.{length, getD, take, drop, set, length-append, length-drop, length-map, List·getD-map}
 use lib.Seq.{length-take-le, take-suc, take-all, drop-cons, append-snoc, set-at, getD-take}
 use Rattle.scope.specs.Slot as S
-use Rattle.scope.specs.Cycle.{byNumber, moves, nexts, numbers}
+use Rattle.scope.specs.Cycle.{byNumber, moves, numbers}
 use Rattle.step.specs.declared.Position.{Position}
 use Rattle.step.specs.declared.Moved.{Moved}
 use Rattle.step.specs.Events.{eventOf}
 use Rattle.step.specs.Where.{positionOf, endOf, Acts}
-use Rattle.cycle.specs.Stand.{home, positionsOf, Stand, Become}
+use Rattle.cycle.specs.Stand.{home, positionsOf, Stand}
 use Rattle.cycle.specs.Slot.{moveOf, Done}
 use Rattle.cycle.proofs.Going.{Going, going-none, going-fits, going-more, going-done}
 use Rattle.cycle.proofs.Moves.{nexts-moves, moves-length, kind-at, number-at, numbers-length}

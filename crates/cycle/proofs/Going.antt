@@ -1,9 +1,9 @@
 -- A loop over the messages that puts each at its next position: `next` says which, by the message's number and its position.
 use Prim.Native.Nat.{ℕ, zero, suc, _+_, _≤_, _<_}
-use mathlib.Core.Path.{_≡_, refl, sym, _∙_, ap}
+use mathlib.Core.Path.{_≡_, refl, _∙_, ap}
 use mathlib.Core.List.{List, [], _∷_, map}
 use native.Mathlib.Omega.{arith}
-use lib.ListN.{length, getD, take, set}
+use lib.ListN.{length, getD, set}
 use Rattle.scope.specs.Slot as S
 use Rattle.step.specs.declared.Position.{Position}
 use Rattle.step.specs.Where.{positionOf, endOf, Leads}

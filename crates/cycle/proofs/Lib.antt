@@ -6,3 +6,4 @@ pub mod Acting
 pub mod Start
 pub mod Slots
 pub mod Whole
+pub mod Agree

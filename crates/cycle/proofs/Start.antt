@@ -1,5 +1,5 @@
 -- The loop that puts each message at the beginning of its first path, and the one that counts those at their targets.
-use Prim.Native.Nat.{ℕ, zero, suc, _+_, _-_, _*_, _≤_, _<_}
+use Prim.Native.Nat.{ℕ, zero, suc, _+_, _-_, _≤_, _<_}
 use mathlib.Core.Path.{_≡_, refl, sym, _∙_, ap}
 use mathlib.Core.Bool.{Bool, true, false, cond}
 use mathlib.Core.List.{List, [], _∷_, _++_, map}
@@ -9,7 +9,7 @@ use lib.ListN.{length, getD, take, set, length-set}
 use lib.Seq.{take-suc-set, append-snoc, getD-set-same, getD-set-other}
 use lib.Dec.{eqb}
 use borrow.Author.Tests.{eqb-true, eqb-false}
-use Rattle.scope.specs.Plan.{placesAt, afterPlaces, placeCount, messageAt, afterMessage, messagesAt, afterMessages, firstMessage}
+use Rattle.scope.specs.Plan.{placesAt, placeCount, messageAt, afterMessage, messagesAt, afterMessages, firstMessage}
 use Rattle.scope.specs.Slot as S
 use Rattle.scope.specs.Cycle.{arrived}
 use Rattle.step.specs.declared.Position.{Position}
@@ -17,7 +17,7 @@ use Rattle.step.specs.Where.{positionOf, endOf}
 use Rattle.step.proofs.Left.{after-least}
 use Rattle.step.proofs.Steps.{home-is}
 use Rattle.view.proofs.Index.{messages-next}
-use Rattle.cycle.specs.Stand.{home, positionsOf, Stand, MayStart, Become}
+use Rattle.cycle.specs.Stand.{home, positionsOf, MayStart, Become}
 use Rattle.cycle.proofs.Tried.{map-snoc, positions-more}
 
 -- at the beginning of a first path

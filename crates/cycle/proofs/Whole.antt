@@ -1,18 +1,15 @@
 -- A whole cycle: from the first positions of a row's plan to its arrivals and its row of events.
-use Prim.Native.Nat.{ℕ, zero, suc, _+_, _-_, _*_, _≤_, _<_}
+use Prim.Native.Nat.{ℕ, _*_, _≤_}
 use mathlib.Core.Path.{_≡_, refl, sym, _∙_, ap}
-use mathlib.Core.Bool.{Bool}
-use mathlib.Core.List.{List, [], _∷_, _++_, map}
-use native.Mathlib.Omega.{arith}
-use lib.ListN.{length, take, drop, length-map}
+use mathlib.Core.List.{List, _++_, map}
+use lib.ListN.{length, drop, length-map}
 use Rattle.scope.specs.Plan.{messageCount, timeoutOf, firstMessage, messagesAt, planOf}
 use Rattle.scope.specs.Slot as S
-use Rattle.scope.specs.Cycle.{byNumber, positions, events, arrived, start}
+use Rattle.scope.specs.Cycle.{byNumber, events, arrived, start}
 use Rattle.view.proofs.Parts.{message-count}
 use Rattle.step.specs.declared.Position.{Position}
-use Rattle.step.specs.Where.{positionOf}
 use Rattle.cuts.specs.From.{downOf}
-use Rattle.cycle.specs.Stand.{positionsOf, Stand, MayStart, Become}
+use Rattle.cycle.specs.Stand.{positionsOf, Become}
 use Rattle.cycle.specs.Slot.{ownerOf}
 use Rattle.cycle.specs.Play.{endsWith, tells, MayRun, Ran, MayPlay, Played}
 use Rattle.cycle.proofs.Slots.{events-length}

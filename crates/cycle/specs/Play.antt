@@ -1,9 +1,9 @@
 -- A whole cycle, read off what is lent: `from` says when each link is cut, and `table` who holds it.
-use Prim.Native.Nat.{ℕ, _*_, _≤_, _<_}
+use Prim.Native.Nat.{ℕ, _*_, _≤_}
 use mathlib.Core.Path.{_≡_}
 use mathlib.Core.List.{List, _++_}
 use lib.ListN.{length, drop}
-use Rattle.scope.specs.Plan.{Plan, messageCount, timeoutOf, planOf}
+use Rattle.scope.specs.Plan.{messageCount, timeoutOf, planOf}
 use Rattle.scope.specs.Slot as S
 use Rattle.scope.specs.Cycle.{byNumber, positions, events, arrived, start}
 use Rattle.cuts.specs.From.{downOf}

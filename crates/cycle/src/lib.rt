@@ -1,22 +1,25 @@
-// One cycle: every message in every slot, from the first positions to the timeout.
+// One cycle: every message in every slot, from the first positions to the timeout. What is promised is an equation with `slot`,
+// `events` and `positions` of document 01 (specs/Cycle of `scope`), over the table and the first cuts that are lent, whatever they
+// are: proofs/Agree has when they are the plan's and the cut list's. All that `play` asks is that there are at most 32 messages, that
+// they end below index 65536 of the row, and that there is room for the events. It leans on `step` for one message.
 use step::Event;
 use step::Moved;
 use step::Position;
 use step::Slot;
 use step::Time;
 use view::number;
-ghost use Prim.Native.Nat.{ℕ, _+_, _-_, _*_, _<_, _≤_, _^_};
+ghost use Prim.Native.Nat.{ℕ, _+_, _*_, _<_, _≤_};
 ghost use mathlib.Core.Path.{_≡_};
 ghost use mathlib.Core.Bool.{cond};
 ghost use mathlib.Core.List.{List, map};
-ghost use lib.ListN.{length, take, drop, set};
+ghost use lib.ListN.{length, take, set};
 ghost use lib.Dec.{eqb};
 ghost use Rattle.scope.specs.Plan.{messagesAt, firstMessage};
 ghost use Rattle.scope.specs.Slot.{onFirst, turn, tries};
-ghost use Rattle.scope.specs.Cycle.{byNumber, foremost, moves, slot, nexts, numbers, positions, events, arrived};
+ghost use Rattle.scope.specs.Cycle.{byNumber, foremost, moves, slot, arrived};
 ghost use Rattle.cuts.specs.From.{downOf};
 ghost use Rattle.step.specs.Events.{eventOf};
-ghost use Rattle.step.specs.Where.{positionOf, endOf, Leads, Acts};
+ghost use Rattle.step.specs.Where.{positionOf, Acts};
 ghost use Rattle.cycle.specs.Stand.{positionsOf, Stand, MayStart, Become};
 ghost use Rattle.cycle.specs.Slot.{ownerOf, moveOf, MayAct, MayMove, Done};
 ghost use Rattle.cycle.specs.Play.{endsWith, tells, MayRun, Ran, MayPlay, Played};

@@ -14,7 +14,7 @@ use Rattle.scope.specs.Row.{walkFrom, walkRow}
 use Rattle.scope.specs.Bits.{bitsOf, bits, fieldAt}
 use Rattle.scope.specs.File.{walkBits, fieldsOf, packed}
 use Rattle.bits.proofs.Laws.{AreBits, field-small, length-bitsOf}
-use Rattle.flow.proofs.Most.{most, numbers, wide, falls, width-most, number-small}
+use Rattle.grammar.proofs.Most.{most, numbers, wide, falls, width-most, number-small}
 use Rattle.flow.proofs.Walk.{bits-end, bits-step, fields-end, fields-step}
 
 pub not-both : {A : Type 0} (n k p : ℕ) → refused k p ≡ gives n → A
@@ -94,7 +94,7 @@ pub data Goes (bs : List ℕ) (end : ℕ) : ℕ → Fields → ℕ → Type 0 wh
   on : {n : ℕ} {s : Fields} {p : ℕ} → (width s ≡ 0 → ⊥) → p + width s ≤ length bs → Goes bs end n (step s (fieldAt bs p (width s))) (p + width s) →
       Goes bs end (suc n) s p
 
-same-end : (p end : ℕ) → gives p ≡ gives end → p ≡ end
+pub same-end : (p end : ℕ) → gives p ≡ gives end → p ≡ end
 same-end p end e = cc
 
 pub goes : (bs : List ℕ) (end n : ℕ) (s : Fields) (p : ℕ) → walkBits n s p bs ≡ gives end → Goes bs end n s p

@@ -13,9 +13,10 @@ use Rattle.scope.specs.Bits.{bits, fieldAt}
 use Rattle.scope.specs.File.{walkBits, fieldsOf, rowOf}
 use Rattle.bits.specs.Word.{Read}
 use Rattle.bits.proofs.Laws.{length-bits}
+use Rattle.flow.specs.Longest.{longestRow, longestBits}
 use Rattle.flow.specs.declared.Unpacked.{Unpacked}
 use Rattle.flow.specs.Unpack.{Unpacks}
-use Rattle.flow.proofs.Most.{numbers, wide, falls, numbers-opening, wide-opening}
+use Rattle.grammar.proofs.Most.{numbers, wide, falls, numbers-opening, wide-opening}
 use Rattle.flow.proofs.Walk.{bits-end, bits-short, bits-step, fields-end, fields-short, fields-step}
 
 -- so many turns are left after i numbers
@@ -28,14 +29,14 @@ pub record OnFile (file row₀ row : List ℕ) (s : Fields) (p i : ℕ) : Type 0
   pub written : take i row ++ fieldsOf (turns file i) s p (bits file) ≡ rowOf file
   pub rest : drop i row ≡ drop i row₀
   pub long : length row ≡ length row₀
-  pub few : i + numbers s ≤ 10405
-  pub short : p + wide s ≤ 58779
+  pub few : i + numbers s ≤ longestRow
+  pub short : p + wide s ≤ longestBits
   pub passed : i + 3 ≤ p
   pub begun : 1 ≤ i
   pub inside : p ≤ 8 * length file
   pub narrow : s .slot ≤ 16
 
-pub starts : (file row : List ℕ) (s : Fields) → 0 < length file → 10405 ≤ length row → s ≡ opening → OnFile file (set row 0 edition) (set row 0 edition) s 4 1
+pub starts : (file row : List ℕ) (s : Fields) → 0 < length file → longestRow ≤ length row → s ≡ opening → OnFile file (set row 0 edition) (set row 0 edition) s 4 1
 unfolding rowOf
 starts file [] s some room e = absurd (omega arith)
 starts file (x ∷ row) s some room e =
@@ -55,7 +56,7 @@ starts file (x ∷ row) s some room e =
     })
 
 module _ (file row₀ row : List ℕ) (s : Fields) (p i : ℕ) (on : OnFile file row₀ row s p i) where
-  pub goes-on : (t : Fields) (w v : ℕ) → 10405 ≤ length row₀ → w ≡ width s → (w ≡ 0 → ⊥) → p + w ≤ 8 * length file → Read file p w v → t ≡ step s v →
+  pub goes-on : (t : Fields) (w v : ℕ) → longestRow ≤ length row₀ → w ≡ width s → (w ≡ 0 → ⊥) → p + w ≤ 8 * length file → Read file p w v → t ≡ step s v →
       OnFile file row₀ (set row i v) t (p + w) (i + 1)
   goes-on t w v room is some fits read next =
       let bs = bits file in
@@ -89,7 +90,7 @@ module _ (file row₀ row : List ℕ) (s : Fields) (p i : ℕ) (on : OnFile file
   filled : fieldsOf (turns file i) s p (bits file) ≡ [] → take i row ≡ rowOf file
   filled e = sym (append-nil (take i row)) ∙ ap (λ (l : List ℕ). take i row ++ l) (sym e) ∙ on .written
 
-  pub gives-row : (entry : List ℕ) (r : Unpacked) (o : Outcome) → row₀ ≡ set entry 0 edition → 10405 ≤ length row₀ →
+  pub gives-row : (entry : List ℕ) (r : Unpacked) (o : Outcome) → row₀ ≡ set entry 0 edition → longestRow ≤ length row₀ →
       fieldsOf (turns file i) s p (bits file) ≡ [] → walkBits (turns file i) s p (bits file) ≡ o → outcomeOf (r .answer) ≡ o → r .count ≡ i →
       Unpacks file entry row (walkBits (length (bits file)) opening 4 (bits file)) r
   gives-row entry r o first room none ends is count =
@@ -100,5 +101,6 @@ module _ (file row₀ row : List ℕ) (s : Fields) (p i : ℕ) (on : OnFile file
       record {
         answer = is ∙ sym ends ∙ on .same;
         count = count ∙ sym size;
+        few = omega (arith, on .few);
         row = sym (take-append-drop i row) ∙ ap (λ (l : List ℕ). l ++ drop i row) (filled none) ∙ ap (λ (l : List ℕ). rowOf file ++ l) after;
       }

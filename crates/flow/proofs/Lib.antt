@@ -1,7 +1,9 @@
-pub mod Most
 pub mod Walk
 pub mod Tail
 pub mod Filling
 pub mod Accepted
 pub mod Whole
 pub mod Packing
+pub mod Round
+pub mod Front
+pub mod Theorems

@@ -16,8 +16,9 @@ use Rattle.scope.specs.Row.{walkFrom, walkRow}
 use Rattle.scope.specs.Bits.{bitsOf, bits, bytesOf}
 use Rattle.scope.specs.File.{packed, rowBits, wholeBytes, fileOf}
 use Rattle.bits.proofs.Laws.{AreBytes, length-bitsOf, length-bits, bytes-bits, bits-zero, length-bytesOf}
+use Rattle.flow.specs.Longest.{longestBits}
 use Rattle.flow.specs.Pack.{Complete, Fitting, Packed}
-use Rattle.flow.proofs.Most.{wide, wide-opening, width-most}
+use Rattle.grammar.proofs.Most.{wide, wide-opening, width-most}
 use Rattle.flow.proofs.Accepted.{Walks, done, next, walks, walks-wide, not-both}
 
 -- an accepted row: its edition, and a walk over the rest
@@ -30,7 +31,7 @@ row-walks (v ∷ vs) n e = by (eqb v edition) e
     by true e = walks opening 1 n vs e
     by false e = not-both n 1 0 e
 
-pub row-bits-most : (row : List ℕ) → Walks opening (drop 1 row) → length (rowBits row) ≤ 58779
+pub row-bits-most : (row : List ℕ) → Walks opening (drop 1 row) → length (rowBits row) ≤ longestBits
 row-bits-most row h =
     rw (length-append (bitsOf 4 1) (packed opening (drop 1 row)), length-bitsOf 4 1) (omega (arith, walks-wide h, wide-opening))
 

@@ -13,16 +13,17 @@ use Rattle.scope.specs.Fields.{opening, edition}
 use Rattle.scope.specs.Bits.{bits, fieldAt}
 use Rattle.scope.specs.File.{walkBits, fieldsOf, endsAt, walkFile, rowOf}
 use Rattle.bits.proofs.Laws.{length-bits, are-bits}
+use Rattle.flow.specs.Longest.{longestRow, longestBits}
 use Rattle.flow.specs.declared.Unpacked.{Unpacked}
 use Rattle.flow.specs.Unpack.{Unpacks}
-use Rattle.flow.proofs.Most.{wide, wide-opening}
+use Rattle.grammar.proofs.Most.{wide, wide-opening}
 use Rattle.flow.proofs.Accepted.{Goes, goes, goes-inside, goes-bound}
 
-pub empty-file : (file row : List ℕ) (r : Unpacked) → length file ≡ 0 → 10405 ≤ length row → outcomeOf (r .answer) ≡ refused 2 0 → r .count ≡ 1 →
+pub empty-file : (file row : List ℕ) (r : Unpacked) → length file ≡ 0 → longestRow ≤ length row → outcomeOf (r .answer) ≡ refused 2 0 → r .count ≡ 1 →
     Unpacks file row (set row 0 edition) (walkFile file) r
 unfolding walkFile rowOf fieldsOf bits
 empty-file [] [] r none room is count = absurd (omega arith)
-empty-file [] (x ∷ row) r none room is count = record { answer = is; count = count; row = refl }
+empty-file [] (x ∷ row) r none room is count = record { answer = is; count = count; few = omega arith; row = refl }
 empty-file (b ∷ file) row r none room is count = absurd (omega arith)
 
 module _ (file : List ℕ) (some : length file ≡ 0 → ⊥) where
@@ -39,7 +40,7 @@ module _ (file : List ℕ) (some : length file ≡ 0 → ⊥) where
   file-opens h = rw (enough, eq-eqb (fieldAt (bits file) 0 4) edition h)
 
   -- the last field ends within the file, and within the longest
-  pub end-inside : (end : ℕ) → walkBits (length (bits file)) opening 4 (bits file) ≡ gives end → (end ≤ 8 * length file) × (end ≤ 58779)
+  pub end-inside : (end : ℕ) → walkBits (length (bits file)) opening 4 (bits file) ≡ gives end → (end ≤ 8 * length file) × (end ≤ longestBits)
   end-inside end e =
       let all : length (bits file) ≡ 8 * length file = length-bits file in
       let way : Goes (bits file) end (length (bits file)) opening 4 = goes (bits file) end (length (bits file)) opening 4 e in
@@ -48,4 +49,4 @@ module _ (file : List ℕ) (some : length file ≡ 0 → ⊥) where
 -- the same row with the answer of the whole file
 pub with-answer : (file entry exit : List ℕ) (walked o : Outcome) (r t : Unpacked) → Unpacks file entry exit walked r → walkFile file ≡ o →
     outcomeOf (t .answer) ≡ o → t .count ≡ r .count → Unpacks file entry exit (walkFile file) t
-with-answer file entry exit walked o r t h is says count = record { answer = says ∙ sym is; count = count ∙ h .count; row = h .row }
+with-answer file entry exit walked o r t h is says count = record { answer = says ∙ sym is; count = count ∙ h .count; few = omega (arith, h .few); row = h .row }

@@ -7,6 +7,7 @@ use Rattle.scope.specs.Outcome.{gives}
 use Rattle.scope.specs.Row.{walkRow}
 use Rattle.scope.specs.Bits.{bits}
 use Rattle.scope.specs.File.{rowBits, fileOf}
+use Rattle.flow.specs.Longest.{longestFile}
 
 -- a row without refusals 1 to 4
 abbrev pub Complete : List ℕ → Type 0
@@ -15,7 +16,7 @@ Complete row = walkRow row ≡ gives (length row)
 -- r is how many bytes the row's file has
 pub record Sized (row : List ℕ) (r : ℕ) : Type 0 where
   pub is : r ≡ length (fileOf row)
-  pub most : r ≤ 7348
+  pub most : r ≤ longestFile
 
 -- a row without those refusals, and a part of exactly as many bytes as its file has
 pub record Fitting (row file : List ℕ) : Type 0 where

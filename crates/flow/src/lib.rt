@@ -1,181 +1,26 @@
-// Walking the fields of a plan: over a row of numbers, over the bits of a file, and from each to the other.
+// Files and rows of a plan: a walk over the fields of either, with refusals 1 to 4, and each written as the other. Each walk is one
+// loop that asks `grammar` for the next field. proofs/Theorems.antt says what follows: files and rows give each other, and how long they
+// can be. It leans on scope's `Row` and `File`.
+use grammar::opening;
+use grammar::step;
+use grammar::width;
 use scope::Answer;
-use scope::Field;
-use scope::Fields;
 use scope::Refusal;
 ghost use mathlib.Core.Path.{_≡_};
-ghost use Prim.Native.Nat.{ℕ, _+_, _*_, _^_, _≤_, _<_};
-ghost use Rattle.scope.specs.Fields as fields;
+ghost use Prim.Native.Nat.{_*_, _^_, _≤_, _<_};
 ghost use lib.ListN.{length};
-ghost use Rattle.scope.specs.Outcome.{outcomeOf, gives, refused};
+ghost use Rattle.scope.specs.Outcome.{outcomeOf, refused};
 ghost use Rattle.scope.specs.Row.{walkRow};
 ghost use Rattle.scope.specs.Bits.{bits};
-ghost use Rattle.scope.specs.File.{walkBits, endsAt, walkFile, rowBits, fileOf};
-ghost use Rattle.flow.specs.Unpack.{Unpacks};
+ghost use Rattle.scope.specs.File.{endsAt, walkFile, rowBits, fileOf};
+ghost use Rattle.flow.specs.Longest.{longestRow};
+ghost use Rattle.flow.specs.Unpack.{walkFields, Unpacks};
 ghost use Rattle.flow.specs.Pack.{Complete, Sized, Fitting, Packed};
 
-// Where the fields after the edition begin.
-pub fn opening() -> Fields
-    ensures { λ r. ⌜ r ≡ fields.opening ⌝ }
-{
-    Fields {
-        slot: 6,
-        next: Field::Vertices,
-    }
-}
+// The most numbers of a row, and the most bytes of a file, that are not refused.
+pub const LONGEST_ROW: usize = 10405;
 
-// The width of the next field, in bits; 0 where no field is left.
-pub fn width(s: Fields) -> usize
-    ensures { λ r. ⌜ r ≡ fields.width s ⌝ }
-{
-    let next = s.next;
-    match next {
-        Field::Vertices => 6,
-        Field::Links => 6,
-        Field::Messages { links: _ } => 5,
-        Field::Timeout {
-            links: _,
-            messages: _,
-        } => s.slot,
-        Field::From {
-            links: _,
-            messages: _,
-        } => 6,
-        Field::To {
-            links: _,
-            messages: _,
-        } => 6,
-        Field::Length { messages: _ } => 4,
-        Field::Link {
-            places: _,
-            messages: _,
-        } => 6,
-        Field::Slot {
-            places: _,
-            messages: _,
-        } => s.slot,
-        Field::Flag {
-            places: _,
-            messages: _,
-        } => 1,
-        Field::SecondLength {
-            places: _,
-            messages: _,
-        } => 4,
-        Field::SecondLink {
-            links: _,
-            places: _,
-            messages: _,
-        } => 6,
-        Field::End => 0,
-    }
-}
-
-// What comes after a message, a place, a link and a link of a second path, if so many more follow.
-fn next_message(messages: usize) -> Field
-    ensures { λ r. ⌜ r ≡ fields.nextMessage messages ⌝ }
-{
-    if messages == 0 {
-        Field::End
-    } else {
-        Field::Length {
-            messages: messages - 1,
-        }
-    }
-}
-
-fn next_place(places: usize, messages: usize) -> Field
-    ensures { λ r. ⌜ r ≡ fields.nextPlace places messages ⌝ }
-{
-    if places == 0 {
-        next_message(messages)
-    } else {
-        Field::Link {
-            places: places - 1,
-            messages,
-        }
-    }
-}
-
-fn next_link(links: usize, messages: usize) -> Field
-    ensures { λ r. ⌜ r ≡ fields.nextLink links messages ⌝ }
-{
-    if links == 0 {
-        Field::Length { messages }
-    } else {
-        Field::From {
-            links: links - 1,
-            messages,
-        }
-    }
-}
-
-fn next_second(links: usize, places: usize, messages: usize) -> Field
-    ensures { λ r. ⌜ r ≡ fields.nextSecond links places messages ⌝ }
-{
-    if links == 0 {
-        next_place(places, messages)
-    } else {
-        Field::SecondLink {
-            links: links - 1,
-            places,
-            messages,
-        }
-    }
-}
-
-fn after_flag(v: usize, places: usize, messages: usize) -> Field
-    ensures { λ r. ⌜ r ≡ fields.afterFlag v places messages ⌝ }
-{
-    if v == 1 {
-        Field::SecondLength { places, messages }
-    } else {
-        next_place(places, messages)
-    }
-}
-
-// The field that comes after this one, if this one holds v.
-fn following(next: Field, v: usize) -> Field
-    ensures { λ r. ⌜ r ≡ fields.following next v ⌝ }
-{
-    match next {
-        Field::Vertices => Field::Links,
-        Field::Links => Field::Messages { links: v },
-        Field::Messages { links } => Field::Timeout { links, messages: v },
-        Field::Timeout { links, messages } => Field::From { links, messages },
-        Field::From { links, messages } => Field::To { links, messages },
-        Field::To { links, messages } => next_link(links, messages),
-        Field::Length { messages } => Field::Link {
-            places: v,
-            messages,
-        },
-        Field::Link { places, messages } => Field::Slot { places, messages },
-        Field::Slot { places, messages } => Field::Flag { places, messages },
-        Field::Flag { places, messages } => after_flag(v, places, messages),
-        Field::SecondLength { places, messages } => Field::SecondLink {
-            links: v,
-            places,
-            messages,
-        },
-        Field::SecondLink {
-            links,
-            places,
-            messages,
-        } => next_second(links, places, messages),
-        Field::End => Field::End,
-    }
-}
-
-// Where the fields go on after this one, if it holds v.
-pub fn step(s: Fields, v: usize) -> Fields
-    ensures { λ r. ⌜ r ≡ fields.step s v ⌝ }
-{
-    let next = s.next;
-    Fields {
-        slot: s.slot,
-        next: following(next, v),
-    }
-}
+pub const LONGEST_FILE: usize = 7348;
 
 // A refusal, with its number and place.
 fn refuse(no: usize, place: usize) -> Answer
@@ -223,8 +68,8 @@ pub struct Unpacked {
 
 // The walk over the fields after the edition, into the row from index 1 on.
 fn fill(file: &[u8], row: &mut [u16]) -> Unpacked
-    requires { ⌜ (0 < length (now file)) × (10405 ≤ length (now row)) ⌝ }
-    ensures { λ r. ⌜ Unpacks (now (file .entry)) (now (row .entry)) (now (row .exit)) (walkBits (length (bits (now (file .entry)))) fields.opening 4 (bits (now (file .entry)))) r ⌝ }
+    requires { ⌜ (0 < length (now file)) × (longestRow ≤ length (now row)) ⌝ }
+    ensures { λ r. ⌜ Unpacks (now (file .entry)) (now (row .entry)) (now (row .exit)) (walkFields (now (file .entry))) r ⌝ }
 {
     row[0] = 1;
     let mut s = opening();
@@ -271,7 +116,7 @@ fn ends(file: &[u8], end: usize) -> Answer
 // A file's row into the front of a buffer that has room for the longest, with refusals 1, 2 and 4 of the file, or the bit where its
 // last field ends. What is written is the row as far as the fields go, whether the file is refused or not.
 pub fn unpack(file: &[u8], row: &mut [u16]) -> Unpacked
-    requires { ⌜ 10405 ≤ length (now row) ⌝ }
+    requires { ⌜ longestRow ≤ length (now row) ⌝ }
     ensures { λ r. ⌜ Unpacks (now (file .entry)) (now (row .entry)) (now (row .exit)) (walkFile (now (file .entry))) r ⌝ }
 {
     if file.len() == 0 {

@@ -1,10 +1,10 @@
 -- Laws of what is left: its first place or link, and where it ends.
 use Prim.Native.Nat.{ℕ, zero, suc, _+_, _-_, _≤_, _<_}
-use mathlib.Core.Path.{_≡_, refl, sym, _∙_, ap}
+use mathlib.Core.Path.{_≡_, ap}
 use mathlib.Core.Bool.{Bool, true, false, cond}
 use mathlib.Core.List.{List, [], _∷_}
 use native.Mathlib.Omega.{arith}
-use borrow.Author.Tests.{eq-eqb, ne-eqb}
+use borrow.Author.Tests.{eq-eqb}
 use Rattle.scope.specs.Plan.{at, numbersAt, flagged, placeAt, placeSize, placesAt, afterPlaces, secondCount}
 
 module _ (row : List ℕ) where

@@ -1,13 +1,13 @@
 -- Laws of what a message tries and does once it has turned, one for each way.
-use Prim.Native.Nat.{ℕ, zero, suc, _+_, _-_, _≤_, _<_}
+use Prim.Native.Nat.{ℕ, _+_, _-_, _≤_, _<_}
 use mathlib.Core.Path.{_≡_, refl, sym, _∙_, ap}
-use mathlib.Core.Bool.{Bool, true, false, cond}
-use mathlib.Core.List.{List, [], _∷_}
+use mathlib.Core.Bool.{Bool, true, false}
+use mathlib.Core.List.{List}
 use native.Mathlib.Omega.{arith}
 use lib.Dec.{ltb, eqb}
 use borrow.Author.Tests.{eq-eqb, ne-eqb, lt-ltb, le-ltb, eqb-true, eqb-false}
 use Rattle.scope.specs.Plan.{at, numbersAt, placesAt, placeAt, placeSize}
-use Rattle.scope.specs.Slot.{Position, onFirst, onSecond, Moved, moved, atTarget, tries, nextSecond, onFirstPath, onSecondPath, act}
+use Rattle.scope.specs.Slot.{Position, onFirst, onSecond, moved, atTarget, tries, nextSecond, onFirstPath, onSecondPath, act}
 use Rattle.step.specs.Where.{leftAt, endAt}
 use Rattle.step.proofs.Left.{numbers-none, numbers-next, places-none, places-next, after-next, after-size}
 

@@ -1,12 +1,12 @@
 -- Laws of a message's turn, one for each way.
-use Prim.Native.Nat.{ℕ, zero, suc, _+_, _-_, _≤_, _<_}
+use Prim.Native.Nat.{ℕ, _+_, _≤_, _<_}
 use mathlib.Core.Path.{_≡_, refl, sym, _∙_, ap}
-use mathlib.Core.Bool.{Bool, true, false, cond}
-use mathlib.Core.List.{List, [], _∷_}
+use mathlib.Core.Bool.{Bool, true, false}
+use mathlib.Core.List.{List}
 use native.Mathlib.Omega.{arith}
 use borrow.Author.Tests.{eq-eqb, ne-eqb}
-use Rattle.scope.specs.Plan.{at, numbersAt, placesAt, placeAt, placeSize, secondCount}
-use Rattle.scope.specs.Slot.{Position, onFirst, onSecond, turn}
+use Rattle.scope.specs.Plan.{at, numbersAt}
+use Rattle.scope.specs.Slot.{onSecond, turn}
 use Rattle.step.specs.Where.{leftAt, endAt}
 use Rattle.step.proofs.Left.{numbers-next, places-none, places-next, after-size, size-second}
 

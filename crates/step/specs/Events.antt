@@ -1,5 +1,4 @@
 -- The number and values that document 01's table of kinds gives for each case of an event.
-use Prim.Native.Nat.{ℕ}
 use Rattle.scope.specs.Slot as S
 use Rattle.step.specs.declared.Event.{Event}
 use Rattle.step.specs.declared.Event.the-variants.{Arrived, Waits, Crosses, CrossesSecond, HeldByTable, HeldByLower, Stays, StaysSecond}

@@ -3,7 +3,7 @@
 // table. All that is asked is that a position ends below index 65536, which no function here undoes.
 use cuts::is_down;
 use view::number;
-ghost use Prim.Native.Nat.{_+_, _-_, _<_, _≤_, _^_};
+ghost use Prim.Native.Nat.{_+_, _-_, _<_, _^_};
 ghost use mathlib.Core.Path.{_≡_};
 ghost use mathlib.Core.Bool.{true, false};
 ghost use lib.Dec.{ltb, eqb};

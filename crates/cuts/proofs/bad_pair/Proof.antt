@@ -1,66 +1,48 @@
+-- `cuts::bad_pair` meets its contract: the first rule that is broken decides. Assumes nothing.
 use Rattle.cuts.proofs.Pairs.{bad-odd, bad-slot, bad-link, bad-falls, bad-twice}
 use borrow.Author.Needs.{needs}
 use Rattle.cuts.proofs.bad_pair.Statement.{statement}
 use Rattle.cuts.proofs.bad_pair.Tie as tie
-use Rattle.cuts.proofs.bad_pair.Reads as reads
-use Rattle.cuts.proofs.bad_pair.Lts as lts
-use Rattle.cuts.proofs.falls_at.Reads as falls-at-reads
-use Rattle.cuts.proofs.twice.Reads as twice-reads
-use Rattle.view.proofs.number.Reads as number-reads
 
--- src/lib.rt:110:22
 mul-if1 : tie.Need-mul-if1
 mul-if1 c = search needs
 
--- src/lib.rt:110:22
 add-if1 : tie.Need-add-if1
 add-if1 c = search needs
 
--- src/lib.rt:111:9
 returns : tie.Need-returns
 returns c = bad-odd (c .before .before .args .cuts .now) (c .before .before .args .i) (c .before .before .args .timeout) (c .before .before .args .links) (c .if1 .taken)
 
--- src/lib.rt:113:21
 mul-number : tie.Need-mul-number
 mul-number c = search needs
 
--- src/lib.rt:113:8
 number-requires : tie.Need-number-requires
 number-requires c κs = search needs
 
--- src/lib.rt:114:9
 returns-2 : tie.Need-returns-2
 returns-2 c = bad-slot (c .before .before .before .before .args .cuts .now) (c .before .before .before .before .args .i) (c .before .before .before .before .args .timeout) (c .before .before .before .before .args .links) _ (c .before .number .ensures .is) (c .if2 .taken)
 
--- src/lib.rt:116:21
 mul-number-2 : tie.Need-mul-number-2
 mul-number-2 c = search needs
 
--- src/lib.rt:116:21
 add-number : tie.Need-add-number
 add-number c = search needs
 
--- src/lib.rt:116:8
 number-requires-2 : tie.Need-number-requires-2
 number-requires-2 c κs = search needs
 
--- src/lib.rt:117:9
 returns-3 : tie.Need-returns-3
 returns-3 c = bad-link (c .before .before .before .before .before .before .args .cuts .now) (c .before .before .before .before .before .before .args .i) (c .before .before .before .before .before .before .args .timeout) (c .before .before .before .before .before .before .args .links) _ (c .before .number2 .ensures .is) (c .if3 .taken)
 
--- src/lib.rt:119:8
 falls-at-requires : tie.Need-falls-at-requires
 falls-at-requires c κs = search needs
 
--- src/lib.rt:120:9
 returns-4 : tie.Need-returns-4
 returns-4 c = bad-falls (c .before .before .before .before .before .before .before .before .args .cuts .now) (c .before .before .before .before .before .before .before .before .args .i) (c .before .before .before .before .before .before .before .before .args .timeout) (c .before .before .before .before .before .before .before .before .args .links) _ (c .before .falls-at .ensures) (c .if4 .taken)
 
--- src/lib.rt:122:5
 twice-requires : tie.Need-twice-requires
 twice-requires c κs = search needs
 
--- src/lib.rt:106:1
 returns-5 : tie.Need-returns-5
 returns-5 c =
     bad-twice (c .before .before .before .before .before .before .before .before .before .args .cuts .now) (c .before .before .before .before .before .before .before .before .before .args .i) (c .before .before .before .before .before .before .before .before .before .args .timeout) (c .before .before .before .before .before .before .before .before .before .args .links) _ _ _ _ (c .before .before .before .before .before .before .before .if1 .left) (c .before .before .before .before .before .before .number .ensures .is) (c .before .before .before .before .before .if2 .left)

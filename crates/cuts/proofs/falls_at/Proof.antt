@@ -1,72 +1,54 @@
+-- `cuts::falls_at` meets its contract: one law for each way through its tests. Assumes nothing.
 use Rattle.cuts.proofs.Pairs.{falls-first, falls-rises, falls-slot, falls-link}
 use borrow.Author.Needs.{needs}
 use Rattle.cuts.proofs.falls_at.Statement.{statement}
 use Rattle.cuts.proofs.falls_at.Tie as tie
-use Rattle.cuts.proofs.falls_at.Reads as reads
-use Rattle.cuts.proofs.falls_at.Lts as lts
-use Rattle.view.proofs.number.Reads as number-reads
 
--- src/lib.rt:76:9
 returns : tie.Need-returns
 returns c = falls-first (c .before .before .args .cuts .now) (c .before .before .args .i) (c .if1 .taken)
 
--- src/lib.rt:78:29
 mul-number : tie.Need-mul-number
 mul-number c = search needs
 
--- src/lib.rt:78:9
 number-requires : tie.Need-number-requires
 number-requires c κs = search needs
 
--- src/lib.rt:79:36
 sub-number : tie.Need-sub-number
 sub-number c = search needs
 
--- src/lib.rt:79:31
 mul-number-2 : tie.Need-mul-number-2
 mul-number-2 c = search needs
 
--- src/lib.rt:79:9
 number-requires-2 : tie.Need-number-requires-2
 number-requires-2 c κs = search needs
 
--- src/lib.rt:81:9
 returns-2 : tie.Need-returns-2
 returns-2 c = falls-rises (c .before .before .before .before .before .args .cuts .now) (c .before .before .before .before .before .args .i) _ _ (c .before .number2 .ensures .is) (c .before .before .number .ensures .is) (c .if2 .taken)
 
--- src/lib.rt:84:9
 returns-3 : tie.Need-returns-3
 returns-3 c = falls-slot (c .before .before .before .before .before .before .args .cuts .now) (c .before .before .before .before .before .before .args .i) _ _ (c .before .before .before .before .if1 .left) (c .before .before .number2 .ensures .is) (c .before .before .before .number .ensures .is) (c .if3 .taken)
 
--- src/lib.rt:86:18
 mul-number-3 : tie.Need-mul-number-3
 mul-number-3 c = search needs
 
--- src/lib.rt:86:18
 add-number : tie.Need-add-number
 add-number c = search needs
 
--- src/lib.rt:86:5
 number-requires-3 : tie.Need-number-requires-3
 number-requires-3 c κs = search needs
 
--- src/lib.rt:86:50
 sub-number-2 : tie.Need-sub-number-2
 sub-number-2 c = search needs
 
--- src/lib.rt:86:45
 mul-number-4 : tie.Need-mul-number-4
 mul-number-4 c = search needs
 
--- src/lib.rt:86:45
 add-number-2 : tie.Need-add-number-2
 add-number-2 c = search needs
 
--- src/lib.rt:86:32
 number-requires-4 : tie.Need-number-requires-4
 number-requires-4 c κs = search needs
 
--- src/lib.rt:71:1
 returns-4 : tie.Need-returns-4
 returns-4 c =
     falls-link (c .before .before .before .before .before .before .before .before .args .cuts .now) (c .before .before .before .before .before .before .before .before .args .i) _ _ _ _ (c .before .before .before .before .before .before .if1 .left) (c .before .before .before .before .number2 .ensures .is) (c .before .before .before .before .before .number .ensures .is) (c .before .before .before .if2 .left)

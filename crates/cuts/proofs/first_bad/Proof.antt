@@ -1,5 +1,6 @@
+-- `cuts::first_bad` meets its contract. The loop's invariant: the search from i on finds the same. Assumes nothing.
 use mathlib.Core.Path.{_≡_, sym, _∙_, ap}
-use Prim.Native.Nat.{ℕ, _-_, _≤_, _<_}
+use Prim.Native.Nat.{_-_, _≤_}
 use mathlib.Core.Path.{_≡_, sym, _∙_}
 use Rattle.scope.specs.Lowest.{seek, lowest}
 use Rattle.scope.specs.Cuts.{pairs}
@@ -9,10 +10,6 @@ use native.Mathlib.Omega.{arith}
 use borrow.Author.Needs.{needs}
 use Rattle.cuts.proofs.first_bad.Statement.{statement}
 use Rattle.cuts.proofs.first_bad.Tie as tie
-use Rattle.cuts.proofs.first_bad.Reads as reads
-use Rattle.cuts.proofs.first_bad.Lts as lts
-use Rattle.cuts.proofs.bad_pair.Reads as bad-pair-reads
-use Rattle.cuts.proofs.count.Reads as count-reads
 
 abbrev Inv-loop : tie.InvT-loop
 Inv-loop timeout links cuts n i₀ i = (i ≤ n) × (n ≡ pairs cuts) × (seek (isBad timeout links cuts) (n - i) i ≡ lowest (isBad timeout links cuts) (pairs cuts))
@@ -20,37 +17,29 @@ Inv-loop timeout links cuts n i₀ i = (i ≤ n) × (n ≡ pairs cuts) × (seek 
 abbrev μ-loop : tie.MeasureT-loop
 μ-loop timeout links cuts n i₀ i = n - i
 
--- src/lib.rt:129:9
 count-requires : tie.Need-count-requires Inv-loop μ-loop
 count-requires c κs = search needs
 
--- src/lib.rt:131:5
 loop-holds : tie.Need-loop-holds Inv-loop μ-loop
 loop-holds c =
     let p : c .count .result ≡ pairs (c .before .before .args .cuts .now) = c .count .ensures in
     (search needs, p, ap (λ k. seek (isBad (c .before .before .args .timeout) (c .before .before .args .links) (c .before .before .args .cuts .now)) k 0) (omega arith))
 
--- src/lib.rt:132:12
 bad-pair-requires : tie.Need-bad-pair-requires Inv-loop μ-loop
 bad-pair-requires c κs = search needs
 
--- src/lib.rt:133:13
 returns : tie.Need-returns Inv-loop μ-loop
 returns c = sym (seek-found _ _ _ (c .before .before .loop-test .taken) (sym (c .before .bad-pair .ensures) ∙ c .if1 .taken)) ∙ c .before .before .before .loop .inv .2
 
--- src/lib.rt:135:9
 add-i : tie.Need-add-i Inv-loop μ-loop
 add-i c = search needs
 
--- src/lib.rt:131:5
 loop-less : tie.Need-loop-less Inv-loop μ-loop
 loop-less c = search needs
 
--- src/lib.rt:131:5
 loop-again : tie.Need-loop-again Inv-loop μ-loop
 loop-again c = (search needs, c .before .before .before .loop .inv .1, sym (seek-next _ _ _ (c .before .before .loop-test .taken) (sym (c .before .bad-pair .ensures) ∙ c .if1 .left)) ∙ c .before .before .before .loop .inv .2)
 
--- src/lib.rt:126:1
 returns-2 : tie.Need-returns-2 Inv-loop μ-loop
 returns-2 c = sym (seek-done _ _ _ (c .loop-test .left)) ∙ c .before .loop .inv .2
 

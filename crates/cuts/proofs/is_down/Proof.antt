@@ -1,17 +1,13 @@
+-- `cuts::is_down` meets its contract: it compares what `first_cut` gives. Assumes nothing.
 use mathlib.Core.Path.{ap}
 use lib.Dec.{leb}
 use borrow.Author.Needs.{needs}
 use Rattle.cuts.proofs.is_down.Statement.{statement}
 use Rattle.cuts.proofs.is_down.Tie as tie
-use Rattle.cuts.proofs.is_down.Reads as reads
-use Rattle.cuts.proofs.is_down.Lts as lts
-use Rattle.cuts.proofs.first_cut.Reads as first-cut-reads
 
--- src/lib.rt:28:5
 first-cut-requires : tie.Need-first-cut-requires
 first-cut-requires c κs = search needs
 
--- src/lib.rt:25:1
 returns : tie.Need-returns
 returns c = ap (λ s. leb s (c .before .before .args .slot)) (c .first-cut .ensures)
 

@@ -1,53 +1,41 @@
-use mathlib.Core.Path.{sym, ap}
+-- `cuts::put_pair` meets its contract: one law for each way through its tests. Assumes nothing.
 use native.Mathlib.Omega.{arith}
 use Rattle.cuts.proofs.From as law
 use borrow.Author.Needs.{needs}
 use Rattle.cuts.proofs.put_pair.Statement.{statement}
 use Rattle.cuts.proofs.put_pair.Tie as tie
-use Rattle.cuts.proofs.put_pair.Reads as reads
-use Rattle.cuts.proofs.put_pair.Lts as lts
 
--- src/lib.rt:37:19
 mul-if2 : tie.Need-mul-if2
 mul-if2 c = search needs
 
--- src/lib.rt:37:19
 slice-read-if2 : tie.Need-slice-read-if2
 slice-read-if2 c = search needs
 
--- src/lib.rt:37:19
 cast-if2 : tie.Need-cast-if2
 cast-if2 c = omega (arith, c .slice-known .given (c .before .before .args .link))
 
--- src/lib.rt:38:26
 cast-from : tie.Need-cast-from
 cast-from c = search needs
 
--- src/lib.rt:38:13
 mul-from : tie.Need-mul-from
 mul-from c = search needs
 
--- src/lib.rt:38:13
 slice-write-from : tie.Need-slice-write-from
 slice-write-from c = search needs
 
--- src/lib.rt:32:1
 same-length : tie.Need-same-length
 same-length c = search needs
 
--- src/lib.rt:32:1
 returns : tie.Need-returns
 returns c =
     law.put-lower (c .before .before .before .args .from .now) (c .before .before .before .args .slot) (c .before .before .before .args .link)
     (c .before .before .if1 .taken) (c .if2 .taken)
 
--- src/lib.rt:32:1
 returns-2 : tie.Need-returns-2
 returns-2 c =
     law.put-same (c .before .before .before .args .from .now) (c .before .before .before .args .slot) (c .before .before .before .args .link)
     (c .before .before .if1 .taken) (c .if2 .left)
 
--- src/lib.rt:32:1
 returns-3 : tie.Need-returns-3
 returns-3 c = law.put-none (c .before .args .from .now) (c .before .args .slot) (c .before .args .link) (c .if1 .left)
 

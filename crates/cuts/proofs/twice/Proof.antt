@@ -1,3 +1,4 @@
+-- `cuts::twice` meets its contract. The loop's invariant: none of the first j pairs names the link. Assumes nothing.
 use native.Mathlib.Omega.{arith}
 use Prim.Native.Nat.{ℕ, _-_, _≤_, _<_}
 use mathlib.Core.Path.{_≡_, sym}
@@ -10,9 +11,6 @@ use Rattle.cuts.proofs.Pairs.{names, names-not}
 use borrow.Author.Needs.{needs}
 use Rattle.cuts.proofs.twice.Statement.{statement}
 use Rattle.cuts.proofs.twice.Tie as tie
-use Rattle.cuts.proofs.twice.Reads as reads
-use Rattle.cuts.proofs.twice.Lts as lts
-use Rattle.view.proofs.number.Reads as number-reads
 
 abbrev Inv-loop : tie.InvT-loop
 Inv-loop cuts i link j₀ j = (j ≤ i) × (link ≡ cutLink cuts i) × ((k : ℕ) → k < j → eqb (cutLink cuts k) (cutLink cuts i) ≡ false)
@@ -20,50 +18,39 @@ Inv-loop cuts i link j₀ j = (j ≤ i) × (link ≡ cutLink cuts i) × ((k : �
 abbrev μ-loop : tie.MeasureT-loop
 μ-loop cuts i link j₀ j = i - j
 
--- src/lib.rt:94:29
 mul-number : tie.Need-mul-number Inv-loop μ-loop
 mul-number c = search needs
 
--- src/lib.rt:94:29
 add-number : tie.Need-add-number Inv-loop μ-loop
 add-number c = search needs
 
--- src/lib.rt:94:9
 number-requires : tie.Need-number-requires Inv-loop μ-loop
 number-requires c κs = search needs
 
--- src/lib.rt:96:5
 loop-holds : tie.Need-loop-holds Inv-loop μ-loop
 loop-holds c = (search needs, c .number .ensures .is, below-none _)
 
--- src/lib.rt:97:25
 mul-number-2 : tie.Need-mul-number-2 Inv-loop μ-loop
 mul-number-2 c = search needs
 
--- src/lib.rt:97:25
 add-number-2 : tie.Need-add-number-2 Inv-loop μ-loop
 add-number-2 c = search needs
 
--- src/lib.rt:97:12
 number-requires-2 : tie.Need-number-requires-2 Inv-loop μ-loop
 number-requires-2 c κs = search needs
 
--- src/lib.rt:98:13
 returns : tie.Need-returns Inv-loop μ-loop
 returns c =
     sym
     (some-yes _ _ _ (c .before .before .loop-test .taken)
     (names (c .before .before .before .before .before .before .args .cuts .now) (c .before .before .before .before .before .before .args .i) (c .before .before .before .loop .j) _ _ (c .before .number2 .ensures .is) (c .before .before .before .loop .inv .1) (c .if1 .taken)))
 
--- src/lib.rt:100:9
 add-j : tie.Need-add-j Inv-loop μ-loop
 add-j c = search needs
 
--- src/lib.rt:96:5
 loop-less : tie.Need-loop-less Inv-loop μ-loop
 loop-less c = search needs
 
--- src/lib.rt:96:5
 loop-again : tie.Need-loop-again Inv-loop μ-loop
 loop-again c = (
   search needs,
@@ -72,7 +59,6 @@ loop-again c = (
       (names-not (c .before .before .before .before .before .before .args .cuts .now) (c .before .before .before .before .before .before .args .i) (c .before .before .before .loop .j) _ _ (c .before .number2 .ensures .is) (c .before .before .before .loop .inv .1) (c .if1 .left)),
 )
 
--- src/lib.rt:90:1
 returns-2 : tie.Need-returns-2 Inv-loop μ-loop
 returns-2 c = sym (some-no _ _ (λ k h. c .before .loop .inv .2 k (omega arith)))
 

@@ -1,4 +1,5 @@
-use Prim.Native.Nat.{ℕ, _-_, _≤_, _<_}
+-- `cycle::count_home` meets its contract. The loop's invariant: the count is that of the first j messages. Assumes nothing.
+use Prim.Native.Nat.{ℕ, _-_, _≤_}
 use mathlib.Core.Path.{_≡_}
 use mathlib.Core.List.{List}
 use lib.ListN.{length}
@@ -9,9 +10,6 @@ use Rattle.cycle.proofs.Start.{arrived-none, arrived-more}
 use borrow.Author.Needs.{needs}
 use Rattle.cycle.proofs.count_home.Statement.{statement}
 use Rattle.cycle.proofs.count_home.Tie as tie
-use Rattle.cycle.proofs.count_home.Reads as reads
-use Rattle.cycle.proofs.count_home.Lts as lts
-use Rattle.cycle.proofs.home_one.Reads as home-one-reads
 
 abbrev Inv-loop : tie.InvT-loop
 Inv-loop n ps count₀ j₀ count j = (j ≤ n) × (count ≤ j) × (length ps ≡ 32) × ((row : List ℕ) → count ≡ arrived (positionsOf row j ps))
@@ -19,35 +17,27 @@ Inv-loop n ps count₀ j₀ count j = (j ≤ n) × (count ≤ j) × (length ps �
 abbrev μ-loop : tie.MeasureT-loop
 μ-loop n ps count₀ j₀ count j = n - j
 
--- src/lib.rt:165:5
 loop-holds : tie.Need-loop-holds Inv-loop μ-loop
 loop-holds c = (omega arith, omega arith, search needs, λ row. arrived-none row (c .args .t1))
 
--- src/lib.rt:166:17
 mul-p : tie.Need-mul-p Inv-loop μ-loop
 mul-p c = search needs
 
--- src/lib.rt:166:17
 array-copy-out-p : tie.Need-array-copy-out-p Inv-loop μ-loop
 array-copy-out-p c = search needs
 
--- src/lib.rt:167:18
 home-one-requires : tie.Need-home-one-requires Inv-loop μ-loop
 home-one-requires c κs = search needs
 
--- src/lib.rt:167:9
 add-count : tie.Need-add-count Inv-loop μ-loop
 add-count c = omega (arith, c .home-one .ensures .1, c .before .before .before .loop .inv .1, c .before .before .before .loop .inv .0, c .before .before .before .before .pre)
 
--- src/lib.rt:168:9
 add-j : tie.Need-add-j Inv-loop μ-loop
 add-j c = search needs
 
--- src/lib.rt:165:5
 loop-less : tie.Need-loop-less Inv-loop μ-loop
 loop-less c = search needs
 
--- src/lib.rt:165:5
 loop-again : tie.Need-loop-again Inv-loop μ-loop
 loop-again c = (
   omega (arith, c .before .before .loop-test .taken),
@@ -57,7 +47,6 @@ loop-again c = (
       arrived-more row (c .before .before .before .before .args .t1) (c .before .before .before .loop .j) _ _ (omega (arith, c .before .before .before .loop .inv .2, c .before .before .loop-test .taken, c .before .before .before .before .pre)) (c .before .before .before .loop .inv .3 row) (c .home-one .ensures .0),
 )
 
--- src/lib.rt:159:1
 returns : tie.Need-returns Inv-loop μ-loop
 returns c =
     let e : c .before .loop .j ≡ c .before .before .args .n = omega (arith, c .before .loop .inv .0, c .loop-test .left) in

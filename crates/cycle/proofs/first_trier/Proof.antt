@@ -1,5 +1,6 @@
-use Prim.Native.Nat.{_+_, _-_, _≤_, _<_}
-use mathlib.Core.Path.{_≡_, refl, sym, _∙_}
+-- `cycle::first_trier` meets its contract. The loop's invariant: from message j on the search finds the same. Assumes nothing.
+use Prim.Native.Nat.{_-_, _≤_, _<_}
+use mathlib.Core.Path.{_≡_, sym, _∙_}
 use native.Mathlib.Omega.{arith}
 use lib.ListN.{length, drop}
 use Rattle.scope.specs.Cycle.{byNumber, foremost}
@@ -7,8 +8,6 @@ use Rattle.cycle.proofs.Tried.{tries-it, tries-not, tries-done}
 use borrow.Author.Needs.{needs}
 use Rattle.cycle.proofs.first_trier.Statement.{statement}
 use Rattle.cycle.proofs.first_trier.Tie as tie
-use Rattle.cycle.proofs.first_trier.Reads as reads
-use Rattle.cycle.proofs.first_trier.Lts as lts
 
 abbrev Inv-loop : tie.InvT-loop
 Inv-loop tried link m j₀ j = (j ≤ m) × (m ≤ length tried) × (link < 65536) × (foremost byNumber link m j (drop j tried) ≡ foremost byNumber link m 0 tried)
@@ -16,42 +15,33 @@ Inv-loop tried link m j₀ j = (j ≤ m) × (m ≤ length tried) × (link < 6553
 abbrev μ-loop : tie.MeasureT-loop
 μ-loop tried link m j₀ j = m - j
 
--- src/lib.rt:57:5
 loop-holds : tie.Need-loop-holds Inv-loop μ-loop
 loop-holds c = search needs
 
--- src/lib.rt:58:12
 mul-if1 : tie.Need-mul-if1 Inv-loop μ-loop
 mul-if1 c = search needs
 
--- src/lib.rt:58:12
 shared-slice-read-if1 : tie.Need-shared-slice-read-if1 Inv-loop μ-loop
 shared-slice-read-if1 c = search needs
 
--- src/lib.rt:58:12
 cast-if1 : tie.Need-cast-if1 Inv-loop μ-loop
 cast-if1 c = omega (arith, c .shared-slice-known .given (c .before .before .loop .j))
 
--- src/lib.rt:58:33
 add-if1 : tie.Need-add-if1 Inv-loop μ-loop
 add-if1 c = search needs
 
--- src/lib.rt:59:13
 returns : tie.Need-returns Inv-loop μ-loop
 returns c = (
   sym (tries-it (c .before .before .before .before .args .link) (c .before .before .before .before .args .m) (c .before .before .before .loop .j) (c .before .before .before .before .args .tried .now) (c .before .before .loop-test .taken) (c .before .before .before .loop .inv .1) (c .if1 .taken)) ∙ c .before .before .before .loop .inv .3,
   omega arith,
 )
 
--- src/lib.rt:61:9
 add-j : tie.Need-add-j Inv-loop μ-loop
 add-j c = search needs
 
--- src/lib.rt:57:5
 loop-less : tie.Need-loop-less Inv-loop μ-loop
 loop-less c = search needs
 
--- src/lib.rt:57:5
 loop-again : tie.Need-loop-again Inv-loop μ-loop
 loop-again c = (
   omega arith,
@@ -60,7 +50,6 @@ loop-again c = (
   sym (tries-not (c .before .before .before .before .args .link) (c .before .before .before .before .args .m) (c .before .before .before .loop .j) (c .before .before .before .before .args .tried .now) (c .before .before .loop-test .taken) (c .before .before .before .loop .inv .1) (c .if1 .left)) ∙ c .before .before .before .loop .inv .3,
 )
 
--- src/lib.rt:52:1
 returns-2 : tie.Need-returns-2 Inv-loop μ-loop
 returns-2 c = (sym (tries-done (c .before .before .args .link) (c .before .before .args .m) (c .before .loop .j) (c .before .before .args .tried .now) (c .loop-test .left)) ∙ c .before .loop .inv .3, omega arith)
 

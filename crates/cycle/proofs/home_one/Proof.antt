@@ -1,21 +1,16 @@
+-- `cycle::home_one` meets its contract: 1 exactly at the target. Assumes nothing.
 use mathlib.Core.Path.{sym, _∙_}
 use native.Mathlib.Omega.{arith}
 use borrow.Author.Needs.{needs}
 use Rattle.cycle.proofs.home_one.Statement.{statement}
 use Rattle.cycle.proofs.home_one.Tie as tie
-use Rattle.cycle.proofs.home_one.Reads as reads
-use Rattle.cycle.proofs.home_one.Lts as lts
-use Rattle.step.proofs.Position.is_home.Reads as is-home-reads
 
--- src/lib.rt:155:8
 is-home-requires : tie.Need-is-home-requires
 is-home-requires c κs = search needs
 
--- src/lib.rt:152:1
 returns : tie.Need-returns
 returns c = (rw (sym (c .before .is-home .ensures) ∙ c .if1 .taken), omega arith)
 
--- src/lib.rt:152:1
 returns-2 : tie.Need-returns-2
 returns-2 c = (rw (sym (c .before .is-home .ensures) ∙ c .if1 .left), omega arith)
 

@@ -1,42 +1,29 @@
+-- `cycle::play` meets its contract: first positions, all slots, and the count at the end. Assumes nothing.
 use Rattle.cycle.proofs.Whole.{may-run, played}
 use borrow.Author.Needs.{needs}
 use Rattle.cycle.proofs.play.Statement.{statement}
 use Rattle.cycle.proofs.play.Tie as tie
-use Rattle.cycle.proofs.play.Reads as reads
-use Rattle.cycle.proofs.play.Lts as lts
-use Rattle.cycle.proofs.count_home.Reads as count-home-reads
-use Rattle.cycle.proofs.run.Reads as run-reads
-use Rattle.cycle.proofs.start_all.Reads as start-all-reads
-use Rattle.view.proofs.messages.Reads as messages-reads
-use Rattle.view.proofs.timeout.Reads as timeout-reads
 
--- src/lib.rt:239:9
 messages-requires : tie.Need-messages-requires
 messages-requires c κs = search needs
 
--- src/lib.rt:240:9
 timeout-requires : tie.Need-timeout-requires
 timeout-requires c κs = search needs
 
--- src/lib.rt:241:9
 start-all-requires : tie.Need-start-all-requires
 start-all-requires c κs = rw (c .before .messages .ensures .is) (c .before .before .before .before .before .before .pre .may)
 
--- src/lib.rt:242:9
 run-requires : tie.Need-run-requires
 run-requires c κs =
     may-run (c .before .before .before .before .before .before .before .before .args .row .now) (c .before .before .before .before .before .before .before .before .args .table .now) (c .before .before .before .before .before .before .before .before .args .from .now) _ _ (c .before .before .before .messages .ensures .is) (c .before .before .timeout .ensures .is) _ (c .before .start-all .ensures) _
     (c .before .before .timeout .ensures .small) (c .before .before .before .before .before .before .before .before .pre)
 
--- src/lib.rt:243:5
 count-home-requires : tie.Need-count-home-requires
 count-home-requires c κs = search needs
 
--- src/lib.rt:235:1
 same-length : tie.Need-same-length
 same-length c = search needs
 
--- src/lib.rt:235:1
 returns : tie.Need-returns
 returns c =
     played (c .before .before .before .before .before .before .before .before .before .before .before .before .args .row .now) (c .before .before .before .before .before .before .before .before .before .before .before .before .args .table .now) (c .before .before .before .before .before .before .before .before .before .before .before .before .args .from .now) _ _ (c .before .before .before .before .before .before .before .messages .ensures .is) (c .before .before .before .before .before .before .timeout .ensures .is) _ (c .before .before .before .before .before .start-all .ensures) _ _ _ _

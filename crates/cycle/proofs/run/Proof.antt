@@ -1,3 +1,4 @@
+-- `cycle::run` meets its contract. The loop's invariant: what is told, with what is still to tell, is all. Assumes nothing.
 use mathlib.Core.Path.{_≡_, _∙_, ap, refl}
 use Prim.Native.Nat.{_-_, _+_}
 use lib.ListN.{length, take, drop, length-drop}
@@ -9,12 +10,6 @@ use Rattle.cycle.specs.Slot.{ownerOf}
 use borrow.Author.Needs.{needs}
 use Rattle.cycle.proofs.run.Statement.{statement}
 use Rattle.cycle.proofs.run.Tie as tie
-use Rattle.cycle.proofs.run.Reads as reads
-use Rattle.cycle.proofs.run.Lts as lts
-use Rattle.cycle.proofs.run_slot.Reads as run-slot-reads
-use Rattle.step.proofs.Slot.after.Reads as after-reads
-use Rattle.step.proofs.Time.begins.Reads as begins-reads
-use Rattle.step.proofs.Time.first.Reads as first-reads
 
 abbrev Inv-loop : tie.InvT-loop
 Inv-loop n timeout row table from out₀ qs₀ at₀ time₀ out qs at time = Running row n (downOf from) (ownerOf table) timeout (time .0) at qs₀ qs out₀ out
@@ -22,35 +17,27 @@ Inv-loop n timeout row table from out₀ qs₀ at₀ time₀ out qs at time = Ru
 abbrev μ-loop : tie.MeasureT-loop
 μ-loop n timeout row table from out₀ qs₀ at₀ time₀ out qs at time = timeout - time .0
 
--- src/lib.rt:215:9
 first-requires : tie.Need-first-requires Inv-loop μ-loop
 first-requires c κs = search needs
 
--- src/lib.rt:216:5
 loop-holds : tie.Need-loop-holds Inv-loop μ-loop
 loop-holds c = running-none _ _ _ _ _ _ _ _ (c .first .ensures) (c .before .before .before .before .before .pre .stand) (search needs) (c .before .before .before .before .before .pre .short) (c .before .before .before .before .before .pre .enough)
 
--- src/lib.rt:217:13
 begins-requires : tie.Need-begins-requires Inv-loop μ-loop
 begins-requires c κs = search needs
 
--- src/lib.rt:218:57
 mul-run-slot : tie.Need-mul-run-slot Inv-loop μ-loop
 mul-run-slot c = search needs
 
--- src/lib.rt:218:57
 sub-run-slot : tie.Need-sub-run-slot Inv-loop μ-loop
 sub-run-slot c = omega (arith, c .before .before .before .loop .inv .enough)
 
--- src/lib.rt:218:57
 part-run-slot-start : tie.Need-part-run-slot-start Inv-loop μ-loop
 part-run-slot-start c = omega (arith, c .before .before .before .loop .inv .enough)
 
--- src/lib.rt:218:57
 part-run-slot-end : tie.Need-part-run-slot-end Inv-loop μ-loop
 part-run-slot-end c = search needs
 
--- src/lib.rt:218:13
 run-slot-requires : tie.Need-run-slot-requires Inv-loop μ-loop
 run-slot-requires c κs =
     let f : length (drop (c .before .before .before .before .loop .at) (c .before .before .before .before .loop .out)) ≡ length (c .before .before .before .before .loop .out) - c .before .before .before .before .loop .at = length-drop (c .before .before .before .before .loop .at) (c .before .before .before .before .loop .out) in
@@ -62,33 +49,26 @@ run-slot-requires c κs =
       enough = rw k (omega (arith, running-room _ _ _ _ _ _ _ _ _ _ _ (c .before .before .before .before .loop .inv) (c .before .before .if1 .taken)));
     }
 
--- src/lib.rt:220:15
 mul-at : tie.Need-mul-at Inv-loop μ-loop
 mul-at c = omega (arith, c .before .before .before .before .before .before .before .loop .inv .stand .few)
 
--- src/lib.rt:220:9
 add-at : tie.Need-add-at Inv-loop μ-loop
 add-at c = omega (arith, running-room _ _ _ _ _ _ _ _ _ _ _ (c .before .before .before .before .before .before .before .loop .inv) (c .before .before .before .before .before .if1 .taken), c .before .before .before .before .before .before .before .loop .inv .same, c .before .before .before .before .before .before .before .before .before .before .before .before .before .good)
 
--- src/lib.rt:221:9
 after-requires : tie.Need-after-requires Inv-loop μ-loop
 after-requires c κs = omega (arith, c .before .before .before .before .before .before .before .loop .inv .short, c .before .before .before .before .begins .ensures, c .before .before .before .before .before .if1 .taken)
 
--- src/lib.rt:216:5
 loop-less : tie.Need-loop-less Inv-loop μ-loop
 loop-less c = search needs
 
--- src/lib.rt:216:5
 loop-again : tie.Need-loop-again Inv-loop μ-loop
 loop-again c =
     running-more _ _ _ _ _ _ _ _ _ _ _ (c .before .before .before .before .before .before .before .before .loop .inv) _ (c .before .before .before .run-slot .last .1 .1 .1 .1 .1 .1 .0) _ _ (c .before .before .before .before .before .before .if1 .taken)
     (c .after .ensures ∙ ap (λ k. k + 1) (c .before .before .before .before .before .begins .ensures)) (search needs) (rw (c .before .before .before .before .before .begins .ensures) at (c .before .before .before .run-slot .ensures)) refl
 
--- src/lib.rt:209:1
 same-length : tie.Need-same-length Inv-loop μ-loop
 same-length c = c .before .before .loop .inv .same
 
--- src/lib.rt:209:1
 returns : tie.Need-returns Inv-loop μ-loop
 returns c = running-done _ _ _ _ _ _ _ _ _ _ _ (c .before .before .loop .inv) (c .if1 .left)
 

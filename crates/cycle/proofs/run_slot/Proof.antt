@@ -1,3 +1,4 @@
+-- `cycle::run_slot` meets its contract: turning, trying and acting make one slot. Assumes nothing.
 use mathlib.Core.Path.{_≡_, sym}
 use lib.ListN.{length, take}
 use lib.Seq.{length-take-le}
@@ -8,42 +9,30 @@ use Rattle.cycle.proofs.Slots.{slot-done}
 use borrow.Author.Needs.{needs}
 use Rattle.cycle.proofs.run_slot.Statement.{statement}
 use Rattle.cycle.proofs.run_slot.Tie as tie
-use Rattle.cycle.proofs.run_slot.Reads as reads
-use Rattle.cycle.proofs.run_slot.Lts as lts
-use Rattle.cycle.proofs.act_all.Reads as act-all-reads
-use Rattle.cycle.proofs.tries_all.Reads as tries-all-reads
-use Rattle.cycle.proofs.turn_all.Reads as turn-all-reads
 
--- src/lib.rt:146:9
 turn-all-requires : tie.Need-turn-all-requires
 turn-all-requires c κs = search needs
 
--- src/lib.rt:147:17
 tries-all-requires : tie.Need-tries-all-requires
 tries-all-requires c κs = search needs
 
--- src/lib.rt:148:39
 array-share-prefix-tried : tie.Need-array-share-prefix-tried
 array-share-prefix-tried c = search needs
 
--- src/lib.rt:148:39
 slice-aggregate-act-all : tie.Need-slice-aggregate-act-all
 slice-aggregate-act-all c =
     let z : length (c .before .tries-all .result) ≡ 32 = search needs in
     sym (length-take-le (c .before .before .before .before .before .before .before .args .n) (c .before .tries-all .result) (omega (arith, c .before .before .before .before .before .before .before .pre .stand .few)))
 
--- src/lib.rt:148:5
 act-all-requires : tie.Need-act-all-requires
 act-all-requires c κs =
     let z : length (c .before .before .tries-all .result) ≡ 32 = search needs in
     let l : length (take (c .before .before .before .before .before .before .before .before .args .n) (c .before .before .tries-all .result)) ≡ c .before .before .before .before .before .before .before .before .args .n = length-take-le (c .before .before .before .before .before .before .before .before .args .n) (c .before .before .tries-all .result) (omega (arith, c .before .before .before .before .before .before .before .before .pre .stand .few)) in
     record { stand = rw l (c .before .before .before .turn-all .ensures .stand); early = c .before .before .before .before .before .before .before .before .pre .early; enough = rw l (c .before .before .before .before .before .before .before .before .pre .enough) }
 
--- src/lib.rt:142:1
 same-length : tie.Need-same-length
 same-length c = search needs
 
--- src/lib.rt:142:1
 returns : tie.Need-returns
 returns c =
     let z : length (c .before .before .before .before .before .tries-all .result) ≡ 32 = search needs in

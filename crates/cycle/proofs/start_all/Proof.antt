@@ -1,14 +1,10 @@
+-- `cycle::start_all` meets its contract. The loop's invariant: the first m messages stand at their first places. Assumes nothing.
 use Prim.Native.Nat.{_-_}
 use native.Mathlib.Omega.{arith}
-use Rattle.cycle.proofs.Start.{Starting, starting-none, starting-ends, starting-fits, starting-more, starting-done}
+use Rattle.cycle.proofs.Start.{Starting, starting-none, starting-fits, starting-more, starting-done}
 use borrow.Author.Needs.{needs}
 use Rattle.cycle.proofs.start_all.Statement.{statement}
 use Rattle.cycle.proofs.start_all.Tie as tie
-use Rattle.cycle.proofs.start_all.Reads as reads
-use Rattle.cycle.proofs.start_all.Lts as lts
-use Rattle.view.proofs.after_message.Reads as after-message-reads
-use Rattle.view.proofs.links.Reads as links-reads
-use Rattle.view.proofs.place_count.Reads as place-count-reads
 
 abbrev Inv-loop : tie.InvT-loop
 Inv-loop row n ps₀ at₀ m₀ ps at m = Starting row n m at ps
@@ -16,63 +12,48 @@ Inv-loop row n ps₀ at₀ m₀ ps at m = Starting row n m at ps
 abbrev μ-loop : tie.MeasureT-loop
 μ-loop row n ps₀ at₀ m₀ ps at m = n - m
 
--- src/lib.rt:183:18
 links-requires : tie.Need-links-requires Inv-loop μ-loop
 links-requires c κs = search needs
 
--- src/lib.rt:183:18
 mul-at : tie.Need-mul-at Inv-loop μ-loop
 mul-at c = search needs
 
--- src/lib.rt:183:18
 add-at : tie.Need-add-at Inv-loop μ-loop
 add-at c = search needs
 
--- src/lib.rt:185:5
 loop-holds : tie.Need-loop-holds Inv-loop μ-loop
 loop-holds c = starting-none _ _ _ _ (c .before .before .pre) (search needs) (omega (arith, c .links .ensures .is))
 
--- src/lib.rt:186:13
 place-count-requires : tie.Need-place-count-requires Inv-loop μ-loop
 place-count-requires c κs = search needs
 
--- src/lib.rt:188:18
 add-t12 : tie.Need-add-t12 Inv-loop μ-loop
 add-t12 c = omega (arith, starting-fits _ _ _ _ _ (c .before .before .loop .inv) (c .before .loop-test .taken))
 
--- src/lib.rt:188:17
 cast-t13 : tie.Need-cast-t13 Inv-loop μ-loop
 cast-t13 c = omega (arith, starting-fits _ _ _ _ _ (c .before .before .loop .inv) (c .before .loop-test .taken))
 
--- src/lib.rt:189:19
 cast-t14 : tie.Need-cast-t14 Inv-loop μ-loop
 cast-t14 c = omega (arith, starting-fits _ _ _ _ _ (c .before .before .loop .inv) (c .before .loop-test .taken), c .place-count .ensures .is)
 
--- src/lib.rt:192:9
 mul-ps : tie.Need-mul-ps Inv-loop μ-loop
 mul-ps c = omega (arith, c .before .before .loop .inv .may .few)
 
--- src/lib.rt:192:9
 array-set-from-ps : tie.Need-array-set-from-ps Inv-loop μ-loop
 array-set-from-ps c = omega (arith, c .before .before .loop .inv .may .few)
 
--- src/lib.rt:193:9
 after-message-requires : tie.Need-after-message-requires Inv-loop μ-loop
 after-message-requires c κs = omega (arith, starting-fits _ _ _ _ _ (c .before .before .loop .inv) (c .before .loop-test .taken))
 
--- src/lib.rt:194:9
 add-m : tie.Need-add-m Inv-loop μ-loop
 add-m c = search needs
 
--- src/lib.rt:185:5
 loop-less : tie.Need-loop-less Inv-loop μ-loop
 loop-less c = search needs
 
--- src/lib.rt:185:5
 loop-again : tie.Need-loop-again Inv-loop μ-loop
 loop-again c = starting-more _ _ _ _ _ (c .before .before .before .loop .inv) (c .before .before .loop-test .taken) _ _ (c .before .place-count .ensures .is) (c .after-message .ensures .is)
 
--- src/lib.rt:174:1
 returns : tie.Need-returns Inv-loop μ-loop
 returns c = starting-done _ _ _ _ _ (c .before .loop .inv) (c .loop-test .left)
 

@@ -1,7 +1,6 @@
-use mathlib.Core.Path.{_≡_, ap, sym, _∙_}
-use Rattle.step.specs.declared.Position.{Position}
+-- `cycle::tries_all` meets its contract. The loop's invariant: the first j numbers are what those messages try. Assumes nothing.
+use mathlib.Core.Path.{_≡_}
 use Prim.Native.Nat.{_-_, _≤_, _<_}
-use mathlib.Core.Path.{refl}
 use mathlib.Core.List.{map}
 use native.Mathlib.Omega.{arith}
 use lib.ListN.{length, take, length-set}
@@ -12,9 +11,6 @@ use Rattle.cycle.proofs.Tried.{fill-more}
 use borrow.Author.Needs.{needs}
 use Rattle.cycle.proofs.tries_all.Statement.{statement}
 use Rattle.cycle.proofs.tries_all.Tie as tie
-use Rattle.cycle.proofs.tries_all.Reads as reads
-use Rattle.cycle.proofs.tries_all.Lts as lts
-use Rattle.step.proofs.Position.tries.Reads as tries-reads
 
 abbrev Inv-loop : tie.InvT-loop
 Inv-loop n row from slot ps tried₀ j₀ tried j = (j ≤ n) × (length ps ≡ 32) × (length tried ≡ 32) × (take j tried ≡ map (tries (downOf from (slot .0))) (positionsOf row j ps))
@@ -22,39 +18,30 @@ Inv-loop n row from slot ps tried₀ j₀ tried j = (j ≤ n) × (length ps ≡ 
 abbrev μ-loop : tie.MeasureT-loop
 μ-loop n row from slot ps tried₀ j₀ tried j = n - j
 
--- src/lib.rt:43:5
 loop-holds : tie.Need-loop-holds Inv-loop μ-loop
 loop-holds c = search needs
 
--- src/lib.rt:44:17
 mul-p : tie.Need-mul-p Inv-loop μ-loop
 mul-p c = search needs
 
--- src/lib.rt:44:17
 array-copy-out-p : tie.Need-array-copy-out-p Inv-loop μ-loop
 array-copy-out-p c = search needs
 
--- src/lib.rt:45:20
 tries-requires : tie.Need-tries-requires Inv-loop μ-loop
 tries-requires c κs = search needs
 
--- src/lib.rt:45:9
 mul-tried : tie.Need-mul-tried Inv-loop μ-loop
 mul-tried c = search needs
 
--- src/lib.rt:45:9
 array-write-tried : tie.Need-array-write-tried Inv-loop μ-loop
 array-write-tried c = search needs
 
--- src/lib.rt:46:9
 add-j : tie.Need-add-j Inv-loop μ-loop
 add-j c = search needs
 
--- src/lib.rt:43:5
 loop-less : tie.Need-loop-less Inv-loop μ-loop
 loop-less c = search needs
 
--- src/lib.rt:43:5
 loop-again : tie.Need-loop-again Inv-loop μ-loop
 loop-again c =
     let l : c .before .before .before .loop .j < c .before .before .before .before .before .before .args .n = c .before .before .loop-test .taken in (
@@ -65,7 +52,6 @@ loop-again c =
           (omega (arith, c .before .before .before .loop .inv .2, c .before .before .before .before .before .before .pre)) (c .before .before .before .loop .inv .3) (c .tries .ensures),
     )
 
--- src/lib.rt:37:1
 returns : tie.Need-returns Inv-loop μ-loop
 returns c =
     let e : c .before .loop .j ≡ c .before .before .before .before .args .n = omega (arith, c .before .loop .inv .0, c .loop-test .left) in

@@ -7,7 +7,7 @@ use lib.ListN.{length, length-set}
 use Rattle.scope.specs.Fields.{width}
 use Rattle.scope.specs.Bits.{bits}
 use Rattle.bits.proofs.Laws.{length-bits}
-use Rattle.flow.proofs.Most.{numbers, wide, fewer, falls, width-most, number-small}
+use Rattle.grammar.proofs.Most.{numbers, wide, fewer, falls, width-most, number-small}
 use Rattle.flow.proofs.Walk.{bits-end, bits-short, fields-end, fields-short}
 use Rattle.flow.proofs.Filling.{OnFile, turns, starts, goes-on, gives-row}
 use borrow.Author.Needs.{needs}

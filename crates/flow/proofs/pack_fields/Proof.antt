@@ -4,7 +4,7 @@ use mathlib.Core.Path.{_≡_, sym, _∙_}
 use native.Mathlib.Omega.{arith}
 use lib.ListN.{length, getD}
 use Rattle.scope.specs.Fields.{width}
-use Rattle.flow.proofs.Most.{width-most}
+use Rattle.grammar.proofs.Most.{width-most}
 use Rattle.flow.proofs.Packing.{OnPack, edition-inside, pack-first, head, next-inside, packs-on, packs-done, counts-room, row-walks, row-bits-most}
 use borrow.Author.Needs.{needs}
 use Rattle.flow.proofs.pack_fields.Statement.{statement}

@@ -4,7 +4,7 @@ use mathlib.Core.Path.{_≡_, sym, _∙_}
 use native.Mathlib.Omega.{arith}
 use lib.ListN.{length, getD}
 use Rattle.scope.specs.Fields.{width}
-use Rattle.flow.proofs.Most.{width-most}
+use Rattle.grammar.proofs.Most.{width-most}
 use Rattle.flow.proofs.Walk.{OnRow, on-first, on-step, row-none, row-edition, from-end, from-short, from-more, from-large}
 use borrow.Author.Needs.{needs}
 use Rattle.flow.proofs.walk_row.Statement.{statement}

@@ -1,3 +1,4 @@
+-- `Position::act` meets its contract: it is home, on its first path, or on its second. Assumes nothing.
 use mathlib.Core.Path.{_∙_}
 use native.Mathlib.Omega.{arith}
 use lib.Dec.{ltb}
@@ -6,14 +7,7 @@ use Rattle.step.proofs.Steps.{act-home, act-first, act-second}
 use borrow.Author.Needs.{needs}
 use Rattle.step.proofs.Position.act.Statement.{statement}
 use Rattle.step.proofs.Position.act.Tie as tie
-use Rattle.step.proofs.Position.act.Reads as reads
-use Rattle.step.proofs.Position.act.Lts as lts
-use Rattle.cuts.proofs.is_down.Reads as is-down-reads
-use Rattle.step.proofs.Position.act_first.Reads as act-first-reads
-use Rattle.step.proofs.Position.act_second.Reads as act-second-reads
-use Rattle.view.proofs.number.Reads as number-reads
 
--- src/lib.rt:239:13
 returns : tie.Need-returns
 returns c =
     record {
@@ -23,27 +17,21 @@ returns c =
       within = omega arith;
     }
 
--- src/lib.rt:241:54
 cast-number : tie.Need-cast-number
 cast-number c = search needs
 
--- src/lib.rt:241:42
 number-requires : tie.Need-number-requires
 number-requires c κs = search needs
 
--- src/lib.rt:241:13
 is-down-requires : tie.Need-is-down-requires
 is-down-requires c κs = search needs
 
--- src/lib.rt:243:13
 act-second-requires : tie.Need-act-second-requires
 act-second-requires c κs = search needs
 
--- src/lib.rt:245:13
 act-first-requires : tie.Need-act-first-requires
 act-first-requires c κs = search needs
 
--- src/lib.rt:233:5
 returns-2 : tie.Need-returns-2
 returns-2 c =
     record {
@@ -55,7 +43,6 @@ returns-2 c =
       within = c .act-second .ensures .within;
     }
 
--- src/lib.rt:233:5
 returns-3 : tie.Need-returns-3
 returns-3 c =
     record {

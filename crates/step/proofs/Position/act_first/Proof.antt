@@ -1,38 +1,28 @@
+-- `Position::act_first` meets its contract: one law of proofs/Steps for each kind. Assumes nothing.
 use native.Mathlib.Omega.{arith}
 use Rattle.step.proofs.Steps.{first-stays, first-waits, first-crosses}
 use borrow.Author.Needs.{needs}
 use Rattle.step.proofs.Position.act_first.Statement.{statement}
 use Rattle.step.proofs.Position.act_first.Tie as tie
-use Rattle.step.proofs.Position.act_first.Reads as reads
-use Rattle.step.proofs.Position.act_first.Lts as lts
-use Rattle.step.proofs.Position.past_place.Reads as past-place-reads
-use Rattle.view.proofs.number.Reads as number-reads
 
--- src/lib.rt:190:18
 cast-at : tie.Need-cast-at
 cast-at c = search needs
 
--- src/lib.rt:191:20
 number-requires : tie.Need-number-requires
 number-requires c κs = search needs
 
--- src/lib.rt:191:20
 cast-link : tie.Need-cast-link
 cast-link c = search needs
 
--- src/lib.rt:195:31
 add-number : tie.Need-add-number
 add-number c = search needs
 
--- src/lib.rt:195:19
 number-requires-2 : tie.Need-number-requires-2
 number-requires-2 c κs = search needs
 
--- src/lib.rt:196:17
 past-place-requires : tie.Need-past-place-requires
 past-place-requires c κs = search needs
 
--- src/lib.rt:186:5
 returns : tie.Need-returns
 returns c =
     record {
@@ -42,7 +32,6 @@ returns c =
       within = omega arith;
     }
 
--- src/lib.rt:186:5
 returns-2 : tie.Need-returns-2
 returns-2 c =
     record {
@@ -52,7 +41,6 @@ returns-2 c =
       within = c .past-place .ensures .within;
     }
 
--- src/lib.rt:186:5
 returns-3 : tie.Need-returns-3
 returns-3 c =
     record {

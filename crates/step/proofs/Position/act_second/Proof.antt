@@ -1,43 +1,33 @@
+-- `Position::act_second` meets its contract: one law of proofs/Steps for each kind. Assumes nothing.
 use native.Mathlib.Omega.{arith}
 use Rattle.step.proofs.Steps.{second-within, second-stays, second-table, second-held, second-crosses}
 use borrow.Author.Needs.{needs}
 use Rattle.step.proofs.Position.act_second.Statement.{statement}
 use Rattle.step.proofs.Position.act_second.Tie as tie
-use Rattle.step.proofs.Position.act_second.Reads as reads
-use Rattle.step.proofs.Position.act_second.Lts as lts
-use Rattle.view.proofs.number.Reads as number-reads
 
--- src/lib.rt:211:32
 cast-number : tie.Need-cast-number
 cast-number c = search needs
 
--- src/lib.rt:211:20
 number-requires : tie.Need-number-requires
 number-requires c κs = search needs
 
--- src/lib.rt:211:20
 cast-link : tie.Need-cast-link
 cast-link c = search needs
 
--- src/lib.rt:216:45
 sub-t19 : tie.Need-sub-t19
 sub-t19 c = search needs
 
--- src/lib.rt:216:44
 cast-t20 : tie.Need-cast-t20
 cast-t20 c = search needs
 
--- src/lib.rt:223:21
 add-t23 : tie.Need-add-t23
 add-t23 c =
     let w = second-within (c .before .before .before .before .before .before .before .args .row .now) (c .before .before .before .before .before .before .before .args .self .at) (c .before .before .before .before .before .before .before .args .self .left) (c .before .before .before .before .before .before .before .args .self .turned) (c .before .before .before .before .before .before .before .pre .0) (c .before .before .before .before .before .before .before .pre .1) in
     omega (arith, w, c .before .before .before .before .before .before .before .pre)
 
--- src/lib.rt:224:23
 sub-t24 : tie.Need-sub-t24
 sub-t24 c = search needs
 
--- src/lib.rt:207:5
 returns : tie.Need-returns
 returns c =
     record {
@@ -47,7 +37,6 @@ returns c =
       within = omega arith;
     }
 
--- src/lib.rt:207:5
 returns-2 : tie.Need-returns-2
 returns-2 c =
     record {
@@ -57,7 +46,6 @@ returns-2 c =
       within = omega arith;
     }
 
--- src/lib.rt:207:5
 returns-3 : tie.Need-returns-3
 returns-3 c =
     record {
@@ -67,7 +55,6 @@ returns-3 c =
       within = omega arith;
     }
 
--- src/lib.rt:207:5
 returns-4 : tie.Need-returns-4
 returns-4 c =
     record {

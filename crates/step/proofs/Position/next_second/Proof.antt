@@ -1,29 +1,22 @@
+-- `Position::next_second` meets its contract: one law of proofs/Steps for each way. Assumes nothing.
 use native.Mathlib.Omega.{arith}
 use Rattle.step.proofs.Steps.{second-home, second-first, second-next}
 use borrow.Author.Needs.{needs}
 use Rattle.step.proofs.Position.next_second.Statement.{statement}
 use Rattle.step.proofs.Position.next_second.Tie as tie
-use Rattle.step.proofs.Position.next_second.Reads as reads
-use Rattle.step.proofs.Position.next_second.Lts as lts
-use Rattle.view.proofs.number.Reads as number-reads
 
--- src/lib.rt:163:13
 returns : tie.Need-returns
 returns c = (second-home (c .before .before .before .args .row .now) (c .before .before .before .args .self .at) (c .before .before .before .args .self .left) (c .before .before .before .args .self .turned) (c .if1 .taken), omega arith)
 
--- src/lib.rt:166:25
 cast-number : tie.Need-cast-number
 cast-number c = search needs
 
--- src/lib.rt:166:13
 number-requires : tie.Need-number-requires
 number-requires c κs = search needs
 
--- src/lib.rt:159:5
 returns-2 : tie.Need-returns-2
 returns-2 c = (second-next (c .before .before .before .before .before .before .args .row .now) (c .before .before .before .before .before .before .args .self .at) (c .before .before .before .before .before .before .args .self .left) (c .before .before .before .before .before .before .args .self .turned) (c .before .before .if2 .taken) (c .before .before .before .if1 .left) _ (c .number .ensures .is), omega arith)
 
--- src/lib.rt:159:5
 returns-3 : tie.Need-returns-3
 returns-3 c = (second-first (c .before .before .before .before .args .row .now) (c .before .before .before .before .args .self .at) (c .before .before .before .before .args .self .left) (c .before .before .before .before .args .self .turned) (c .if2 .left), omega arith)
 

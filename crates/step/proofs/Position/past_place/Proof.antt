@@ -1,4 +1,5 @@
-use mathlib.Core.Path.{sym, ap}
+-- `Position::past_place` meets its contract: what is left ends where it ended. Assumes nothing.
+use mathlib.Core.Path.{ap}
 use Prim.Native.Nat.{_+_, _-_}
 use native.Mathlib.Omega.{arith}
 use Rattle.scope.specs.Slot.{onFirst}
@@ -7,34 +8,25 @@ use Rattle.step.proofs.Steps.{past-fits, past-within}
 use borrow.Author.Needs.{needs}
 use Rattle.step.proofs.Position.past_place.Statement.{statement}
 use Rattle.step.proofs.Position.past_place.Tie as tie
-use Rattle.step.proofs.Position.past_place.Reads as reads
-use Rattle.step.proofs.Position.past_place.Lts as lts
-use Rattle.view.proofs.place_size.Reads as place-size-reads
 
--- src/lib.rt:177:18
 cast-at : tie.Need-cast-at
 cast-at c = search needs
 
--- src/lib.rt:179:23
 place-size-requires : tie.Need-place-size-requires
 place-size-requires c κs = search needs
 
--- src/lib.rt:179:18
 add-t5 : tie.Need-add-t5
 add-t5 c = search needs
 
--- src/lib.rt:179:17
 cast-t6 : tie.Need-cast-t6
 cast-t6 c =
     let w =
     past-fits (c .before .before .before .args .row .now) (c .before .before .before .args .self .at) (c .before .before .before .args .self .left) _ (c .before .before .before .pre .0) (c .before .before .before .pre .1) _ (c .place-size .ensures .is) in
     omega (arith, w, c .before .before .before .pre)
 
--- src/lib.rt:180:19
 sub-t7 : tie.Need-sub-t7
 sub-t7 c = search needs
 
--- src/lib.rt:173:5
 returns : tie.Need-returns
 returns c =
     record {

@@ -1,3 +1,4 @@
+-- `Position::turn_now` meets its contract: one law of proofs/Turns for each way. Assumes nothing.
 use Prim.Native.Nat.{_+_}
 use mathlib.Core.Path.{refl}
 use native.Mathlib.Omega.{arith}
@@ -7,16 +8,10 @@ use Rattle.step.proofs.Turns.{turn-turned, turn-home, turn-whole, turn-
 use borrow.Author.Needs.{needs}
 use Rattle.step.proofs.Position.turn_now.Statement.{statement}
 use Rattle.step.proofs.Position.turn_now.Tie as tie
-use Rattle.step.proofs.Position.turn_now.Reads as reads
-use Rattle.step.proofs.Position.turn_now.Lts as lts
-use Rattle.cuts.proofs.is_down.Reads as is-down-reads
-use Rattle.view.proofs.number.Reads as number-reads
 
--- src/lib.rt:117:18
 cast-at : tie.Need-cast-at
 cast-at c = search needs
 
--- src/lib.rt:119:13
 returns : tie.Need-returns
 returns c =
     record {
@@ -24,7 +19,6 @@ returns c =
       within = omega arith;
     }
 
--- src/lib.rt:122:13
 returns-2 : tie.Need-returns-2
 returns-2 c =
     record {
@@ -34,27 +28,21 @@ returns-2 c =
       within = omega arith;
     }
 
--- src/lib.rt:124:34
 number-requires : tie.Need-number-requires
 number-requires c κs = search needs
 
--- src/lib.rt:124:12
 is-down-requires : tie.Need-is-down-requires
 is-down-requires c κs = search needs
 
--- src/lib.rt:125:28
 add-number : tie.Need-add-number
 add-number c = search needs
 
--- src/lib.rt:125:16
 number-requires-2 : tie.Need-number-requires-2
 number-requires-2 c κs = search needs
 
--- src/lib.rt:127:26
 add-t14 : tie.Need-add-t14
 add-t14 c = search needs
 
--- src/lib.rt:127:25
 cast-t15 : tie.Need-cast-t15
 cast-t15 c =
     let w =
@@ -63,19 +51,15 @@ cast-t15 c =
     (at (c .before .before .before .before .before .before .before .before .before .before .before .args .row .now) (c .before .before .before .before .before .before .before .before .before .before .before .args .self .at + 3)) refl in
     omega (arith, w, c .before .before .before .before .before .before .before .before .before .before .before .pre)
 
--- src/lib.rt:128:40
 add-number-2 : tie.Need-add-number-2
 add-number-2 c = search needs
 
--- src/lib.rt:128:28
 number-requires-3 : tie.Need-number-requires-3
 number-requires-3 c κs = search needs
 
--- src/lib.rt:128:28
 add-t18 : tie.Need-add-t18
 add-t18 c = search needs
 
--- src/lib.rt:128:27
 cast-t19 : tie.Need-cast-t19
 cast-t19 c =
     let w =
@@ -84,7 +68,6 @@ cast-t19 c =
     (c .number3 .ensures .is) in
     omega (arith, w, c .before .before .before .before .before .before .before .before .before .before .before .before .pre)
 
--- src/lib.rt:113:5
 returns-3 : tie.Need-returns-3
 returns-3 c =
     record {
@@ -98,7 +81,6 @@ returns-3 c =
           (c .number3 .ensures .is);
     }
 
--- src/lib.rt:113:5
 returns-4 : tie.Need-returns-4
 returns-4 c =
     record {
@@ -108,7 +90,6 @@ returns-4 c =
       within = omega arith;
     }
 
--- src/lib.rt:113:5
 returns-5 : tie.Need-returns-5
 returns-5 c =
     record {

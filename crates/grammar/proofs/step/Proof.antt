@@ -1,0 +1,14 @@
+-- `grammar::step` meets its contract: the slot stays, and `following` says what comes next. Assumes nothing.
+use mathlib.Core.Path.{ap}
+use borrow.Author.Needs.{needs}
+use Rattle.grammar.proofs.step.Statement.{statement}
+use Rattle.grammar.proofs.step.Tie as tie
+
+following-requires : tie.Need-following-requires
+following-requires c κs = search needs
+
+returns : tie.Need-returns
+returns c = rw (c .following .ensures)
+
+pub step-spec : {M : Type 1} → statement M
+step-spec = tie.close (tie.spec following-requires returns)

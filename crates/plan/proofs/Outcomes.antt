@@ -1,0 +1,83 @@
+-- How outcomes are chained, one law for each way that an answer can come about, and what a good row is.
+use Prim.Native.Nat.{ℕ, _≤_, _<_}
+use mathlib.Core.Path.{_≡_, refl, sym, _∙_, ap}
+use mathlib.Core.Bool.{Bool, true, false, cond}
+use mathlib.Core.List.{List, _++_}
+use native.Mathlib.Omega.{arith}
+use lib.ListN.{length, drop}
+use lib.Dec.{ltb, leb}
+use borrow.Author.Tests.{le-leb, lt-leb}
+use Rattle.scope.specs.declared.Answer.{Answer}
+use Rattle.scope.specs.declared.Answer.the-variants.{Gives, Refused}
+use Rattle.scope.specs.declared.Refusal.{Refusal}
+use Rattle.scope.specs.Lowest.{lowest}
+use Rattle.scope.specs.Outcome.{Outcome, outcomeOf, gives, refused, andThen, unlessSome, room}
+use Rattle.scope.specs.File.{walkFile, rowOf, fileOf}
+use Rattle.scope.specs.Row.{walkRow}
+use Rattle.scope.specs.Plan.{Plan, planOf}
+use Rattle.scope.specs.Good.{badEnds, repeats, badFirstPath, badSlots, badTable, badSecondPath, rules}
+use Rattle.scope.specs.Questions.{after, judge, readFile, writeFile}
+use Rattle.plan.specs.Answers.{Answers, GoodRow}
+
+-- an answer is known by its outcome
+pub same-answer : (a b : Answer) → outcomeOf a ≡ outcomeOf b → a ≡ b
+same-answer (Gives m) (Gives n) e = ap Gives (let f : m ≡ n = cc in f)
+same-answer (Gives m) (Refused r) e = let z : _≡_ {A = ℕ} 0 1 = cc in absurd (omega arith)
+same-answer (Refused r) (Gives n) e = let z : _≡_ {A = ℕ} 0 1 = cc in absurd (omega arith)
+same-answer (Refused r) (Refused s) e =
+    let f : r .no ≡ s .no = cc in
+    let g : r .place ≡ s .place = cc in
+    λ i. Refused (record { no = f i; place = g i })
+
+-- two outcomes that a statement allows are equal, the answer and the buffer
+pub only-one : (o : Outcome) (written entry exit exit′ : List ℕ) (r r′ : Answer) →
+    Answers o written entry exit r → Answers o written entry exit′ r′ → (r ≡ r′) × (exit ≡ exit′)
+only-one o written entry exit exit′ r r′ a b =
+    (same-answer r r′ (a .answer ∙ sym (b .answer)), a .buffer ∙ sym (b .buffer))
+
+-- what is chained
+pub then-refused : (o : Outcome) (next : ℕ → Outcome) (k p : ℕ) → o ≡ refused k p → andThen o next ≡ refused k p
+then-refused o next k p e = rw e
+
+pub then-gives : (o : Outcome) (next : ℕ → Outcome) (n : ℕ) → o ≡ gives n → andThen o next ≡ next n
+then-gives o next n e = rw e
+
+-- and taken apart: what gives something in the end gave something before
+pub then-back : (o : Outcome) (next : ℕ → Outcome) (n : ℕ) → andThen o next ≡ gives n → (m : ℕ) × (o ≡ gives m) × (next m ≡ gives n)
+then-back (gives m) next n e = (m, refl, e)
+then-back (refused k p) next n e = let z : _≡_ {A = ℕ} 0 1 = cc in absurd (omega arith)
+
+unless-back : (k : ℕ) (broken : ℕ → Bool) (n : ℕ) (rest : Outcome) (z : ℕ) → unlessSome k broken n rest ≡ gives z → rest ≡ gives z
+unless-back k broken n rest z e = by (ltb (lowest broken n) n) e
+  where
+    by : (t : Bool) → cond t (refused k (lowest broken n)) rest ≡ gives z → rest ≡ gives z
+    by true e = let z : _≡_ {A = ℕ} 0 1 = cc in absurd (omega arith)
+    by false e = e
+
+-- the rules give 0 or a refusal
+pub rules-give : (plan : Plan) (z : ℕ) → rules plan ≡ gives z → rules plan ≡ gives 0
+unfolding rules
+rules-give plan z e =
+    let e₅ = unless-back 5 (badEnds plan) (length (plan .links)) _ z e in
+    let e₆ = unless-back 6 (repeats plan) (length (plan .links)) _ z e₅ in
+    let e₇ = unless-back 7 (badFirstPath plan) (length (plan .messages)) _ z e₆ in
+    let e₈ = unless-back 8 (badSlots plan) (length (plan .messages)) _ z e₇ in
+    let e₉ = unless-back 9 (badTable plan) (length (plan .messages)) _ z e₈ in
+    let e₁₀ : gives 0 ≡ gives z = unless-back 10 (badSecondPath plan) (length (plan .messages)) _ z e₉ in
+    e ∙ sym e₁₀
+
+-- room enough, and too little
+pub room-there : (needed lent : ℕ) → needed ≤ lent → room needed lent ≡ gives needed
+room-there needed lent h = rw (le-leb needed lent h)
+
+pub room-short : (needed lent : ℕ) → lent < needed → room needed lent ≡ refused 13 needed
+room-short needed lent h = rw (lt-leb needed lent h)
+
+-- the buffer after a refusal, and after something was written
+pub after-refused : (o : Outcome) (k p : ℕ) (written buffer : List ℕ) → o ≡ refused k p → buffer ≡ after o written buffer
+unfolding after
+after-refused o k p written buffer e = rw e
+
+pub after-gives : (o : Outcome) (n : ℕ) (written buffer : List ℕ) → o ≡ gives n → written ++ drop (length written) buffer ≡ after o written buffer
+unfolding after
+after-gives o n written buffer e = rw e

@@ -1,0 +1,124 @@
+-- One law for each way out of a function of this crate, from what its callees ensure.
+use Prim.Native.Nat.{ℕ, _≤_, _<_}
+use mathlib.Core.Path.{_≡_, refl, sym, _∙_, ap}
+use mathlib.Core.Bool.{Bool, true, false, cond}
+use mathlib.Core.List.{List, [], _∷_, _++_}
+use native.Mathlib.Omega.{arith}
+use lib.ListN.{length, take, drop}
+use lib.Dec.{eqb}
+use borrow.Author.Tests.{eq-eqb, ne-eqb}
+use Rattle.scope.specs.declared.Answer.{Answer}
+use Rattle.scope.specs.declared.Answer.the-variants.{Gives, Refused}
+use Rattle.scope.specs.declared.Refusal.{Refusal}
+use Rattle.scope.specs.Outcome.{Outcome, outcomeOf, gives, refused, andThen, room, number}
+use Rattle.scope.specs.File.{walkFile, rowOf, fileOf}
+use Rattle.scope.specs.Row.{walkRow}
+use Rattle.scope.specs.Plan.{planOf}
+use Rattle.scope.specs.Good.{rules}
+use Rattle.scope.specs.SecondPath.{hasSecond, shown}
+use Rattle.scope.specs.Questions.{after, judge, readFile, writeFile, secondPath}
+use Rattle.view.specs.View.{secondPart}
+use Rattle.flow.proofs.Theorems.{file-row, row-count}
+use Rattle.plan.specs.Answers.{Answers, Accepts, GoodRow}
+use Rattle.plan.proofs.Numbers.{judge-numbered}
+use Rattle.plan.proofs.Outcomes.{then-refused, then-gives, then-back, rules-give, room-there, room-short, after-refused, after-gives}
+
+-- the outcome of an answer that is known
+pub gave : {a : Answer} {o : Outcome} (n : ℕ) → a ≡ Gives n → outcomeOf a ≡ o → o ≡ gives n
+gave n e h = sym h ∙ ap outcomeOf e
+
+pub refused-as : {a : Answer} {o : Outcome} (r : Refusal) → a ≡ Refused r → outcomeOf a ≡ o → o ≡ refused (r .no) (r .place)
+refused-as r e h = sym h ∙ ap outcomeOf e
+
+-- a row whose walk gives something has the right form
+pub form-of : (row : List ℕ) (n : ℕ) → walkRow row ≡ gives n → walkRow row ≡ gives (length row)
+form-of row n e = e ∙ ap gives (row-count row n e)
+
+-- judging a row
+pub judge-good : (row : List ℕ) (n z : ℕ) → walkRow row ≡ gives n → rules (planOf row) ≡ gives z → gives n ≡ judge row
+unfolding judge
+judge-good row n z e h = sym (rw (e, h))
+
+pub judge-bad : (row : List ℕ) (n k p : ℕ) → walkRow row ≡ gives n → rules (planOf row) ≡ refused k p → refused k p ≡ judge row
+unfolding judge
+judge-bad row n k p e h = sym (rw (e, h))
+
+pub judge-form : (row : List ℕ) (k p : ℕ) → walkRow row ≡ refused k p → refused k p ≡ judge row
+unfolding judge
+judge-form row k p e = sym (rw e)
+
+-- what a judged row is
+pub good-row : (row : List ℕ) (n : ℕ) → judge row ≡ gives n → GoodRow row
+unfolding judge
+good-row row n e =
+    let w = then-back (walkRow row) (λ m. andThen (rules (planOf row)) (λ _. gives m)) n e in
+    let r = then-back (rules (planOf row)) (λ _. gives (w .0)) n (w .2) in
+    record { form = form-of row (w .0) (w .1); keeps = rules-give (planOf row) (r .0) (r .1) }
+
+-- accepting a row of the right form
+pub accepted : (row entry exit : List ℕ) (z : ℕ) → rules (planOf row) ≡ gives z → length row ≤ length entry → exit ≡ row ++ drop (length row) entry →
+    Accepts row entry exit (Gives (length row))
+accepted row entry exit z h fits written =
+    let o : andThen (rules (planOf row)) (λ _. room (length row) (length entry)) ≡ gives (length row) =
+    then-gives (rules (planOf row)) (λ _. room (length row) (length entry)) z h ∙ room-there (length row) (length entry) fits in
+    record { answer = sym o; buffer = written ∙ after-gives _ (length row) row entry o }
+
+pub no-room : (row entry : List ℕ) (z : ℕ) → rules (planOf row) ≡ gives z → length entry < length row →
+    Accepts row entry entry (Refused (record { no = 13; place = length row }))
+no-room row entry z h short =
+    let o : andThen (rules (planOf row)) (λ _. room (length row) (length entry)) ≡ refused 13 (length row) =
+    then-gives (rules (planOf row)) (λ _. room (length row) (length entry)) z h ∙ room-short (length row) (length entry) short in
+    record { answer = sym o; buffer = after-refused _ 13 (length row) row entry o }
+
+pub broken : (row entry : List ℕ) (r : Refusal) → rules (planOf row) ≡ refused (r .no) (r .place) → Accepts row entry entry (Refused r)
+broken row entry r h =
+    let o : andThen (rules (planOf row)) (λ _. room (length row) (length entry)) ≡ refused (r .no) (r .place) =
+    then-refused (rules (planOf row)) (λ _. room (length row) (length entry)) (r .no) (r .place) h in
+    record { answer = sym o; buffer = after-refused _ (r .no) (r .place) row entry o }
+
+-- reading a file
+pub read-on : (file all entry exit : List ℕ) (a : Answer) (end : ℕ) → walkFile file ≡ gives end → all ≡ rowOf file → Accepts all entry exit a →
+    Answers (readFile file (length entry)) (rowOf file) entry exit a
+unfolding readFile
+read-on file all entry exit a end e row h = rw (e, ← row) h
+
+pub read-form : (file entry : List ℕ) (r : Refusal) → walkFile file ≡ refused (r .no) (r .place) →
+    Answers (readFile file (length entry)) (rowOf file) entry entry (Refused r)
+unfolding readFile
+read-form file entry r e =
+    let o : readFile file (length entry) ≡ refused (r .no) (r .place) = rw e in
+    record { answer = sym o; buffer = after-refused _ (r .no) (r .place) (rowOf file) entry o }
+
+pub all-form : (file all : List ℕ) (end : ℕ) → walkFile file ≡ gives end → all ≡ rowOf file → walkRow all ≡ gives (length all)
+all-form file all end e row = rw row (file-row file end e)
+
+-- writing a row
+pub written : (row entry exit : List ℕ) (n c : ℕ) → judge row ≡ gives n → c ≡ length (fileOf row) → c ≤ length entry →
+    exit ≡ fileOf row ++ drop c entry → Answers (writeFile row (length entry)) (fileOf row) entry exit (Gives c)
+unfolding writeFile
+written row entry exit n c e is fits wrote =
+    let o : writeFile row (length entry) ≡ gives c = rw (e, ← is) (room-there c (length entry) fits) in
+    record { answer = sym o; buffer = wrote ∙ ap (λ k. fileOf row ++ drop k entry) is ∙ after-gives _ c (fileOf row) entry o }
+
+pub write-no-room : (row entry : List ℕ) (n c : ℕ) → judge row ≡ gives n → c ≡ length (fileOf row) → length entry < c →
+    Answers (writeFile row (length entry)) (fileOf row) entry entry (Refused (record { no = 13; place = c }))
+unfolding writeFile
+write-no-room row entry n c e is short =
+    let o : writeFile row (length entry) ≡ refused 13 c = rw (e, ← is) (room-short c (length entry) short) in
+    record { answer = sym o; buffer = after-refused _ 13 c (fileOf row) entry o }
+
+pub write-bad : (row entry : List ℕ) (r : Refusal) → judge row ≡ refused (r .no) (r .place) →
+    Answers (writeFile row (length entry)) (fileOf row) entry entry (Refused r)
+unfolding writeFile
+write-bad row entry r e =
+    let o : writeFile row (length entry) ≡ refused (r .no) (r .place) = rw e in
+    record { answer = sym o; buffer = after-refused _ (r .no) (r .place) (fileOf row) entry o }
+
+-- showing a second path
+pub shown-part : (row : List ℕ) (m p n : ℕ) → judge row ≡ gives n → secondPart row m p ≡ secondPath row m p
+unfolding secondPath shown
+shown-part row m p n e = rw e
+
+pub shown-none : (row : List ℕ) (m p k q : ℕ) → judge row ≡ refused k q → [] ≡ secondPath row m p
+unfolding secondPath shown
+shown-none row m p k q e = sym (rw (e, ne-eqb k 0 (judge-numbered row k q e)))

@@ -1,0 +1,35 @@
+-- What reading and writing promise: the answer, and what the lent buffer holds after the call. Both follow from the input alone.
+use Prim.Native.Nat.{ℕ}
+use mathlib.Core.Path.{_≡_}
+use mathlib.Core.List.{List}
+use lib.ListN.{length}
+use Rattle.scope.specs.declared.Answer.{Answer}
+use Rattle.scope.specs.Outcome.{Outcome, outcomeOf, gives, andThen, room}
+use Rattle.scope.specs.File.{rowOf, fileOf}
+use Rattle.scope.specs.Row.{walkRow}
+use Rattle.scope.specs.Plan.{planOf}
+use Rattle.scope.specs.Good.{rules}
+use Rattle.scope.specs.Questions.{after, readFile, writeFile}
+
+-- an answer with this outcome, and a buffer that held `entry` with this written to its front where nothing is refused
+pub record Answers (outcome : Outcome) (written entry exit : List ℕ) (r : Answer) : Type 0 where
+  pub answer : outcomeOf r ≡ outcome
+  pub buffer : exit ≡ after outcome written entry
+
+-- a file read into a row that held `entry`
+abbrev pub Reads : List ℕ → List ℕ → List ℕ → Answer → Type 0
+Reads file entry exit r = Answers (readFile file (length entry)) (rowOf file) entry exit r
+
+-- a row written into bytes that held `entry`
+abbrev pub Writes : List ℕ → List ℕ → List ℕ → Answer → Type 0
+Writes row entry exit r = Answers (writeFile row (length entry)) (fileOf row) entry exit r
+
+-- a row of the right form copied into one that held `entry`, if it is good and there is room
+abbrev pub Accepts : List ℕ → List ℕ → List ℕ → Answer → Type 0
+Accepts row entry exit r =
+    Answers (andThen (rules (planOf row)) (λ _. room (length row) (length entry))) row entry exit r
+
+-- a row that nothing is refused of
+pub record GoodRow (row : List ℕ) : Type 0 where
+  pub form : walkRow row ≡ gives (length row)
+  pub keeps : rules (planOf row) ≡ gives 0

@@ -1,0 +1,111 @@
+// A plan as a file and as a row: judged, read, written, and one second path of it shown. Every function takes anything, refuses
+// what is bad by document 01's numbers, and then leaves what it was lent as it was. It leans on `flow` for the form of files and
+// rows and on `rules` for the rules of a good plan.
+use scope::Answer;
+use scope::Refusal;
+ghost use mathlib.Core.Path.{_≡_};
+ghost use Prim.Native.Nat.{_≤_};
+ghost use lib.ListN.{length, drop};
+ghost use mathlib.Core.List.{_++_};
+ghost use Rattle.scope.specs.Outcome.{outcomeOf};
+ghost use Rattle.scope.specs.Questions.{judge, secondPath};
+ghost use Rattle.scope.specs.Outcome.{gives};
+ghost use Rattle.scope.specs.Row.{walkRow};
+ghost use Rattle.plan.specs.Answers.{Accepts, Reads, Writes};
+
+// The longest row that a file can have.
+const LONGEST_ROW: usize = 10405;
+
+// Refusals 1 to 10 of a row, or how many numbers it has.
+pub fn judge(row: &[u16]) -> Answer
+    ensures { λ r. ⌜ outcomeOf r ≡ judge (now (row .entry)) ⌝ }
+{
+    let walked = flow::walk_row(row);
+    match walked {
+        Answer::Gives(n) => {
+            let checked = rules::check(row);
+            match checked {
+                Answer::Gives(_) => Answer::Gives(n),
+                Answer::Refused(r) => Answer::Refused(r),
+            }
+        }
+        Answer::Refused(r) => Answer::Refused(r),
+    }
+}
+
+// One list of numbers into the front of another.
+fn copy(from: &[u16], to: &mut [u16])
+    requires { ⌜ length (now from) ≤ length (now to) ⌝ }
+    ensures { λ r. ⌜ now (to .exit) ≡ now (from .entry) ++ drop (length (now (from .entry))) (now (to .entry)) ⌝ }
+{
+    let mut i = 0;
+    while i < from.len() {
+        to[i] = from[i];
+        i += 1;
+    }
+}
+
+// The row of a file, once its form is known to be right: refusals 5 to 10 and 13, or the row into the front of what is lent.
+fn accept(all: &[u16], row: &mut [u16]) -> Answer
+    requires { ⌜ walkRow (now all) ≡ gives (length (now all)) ⌝ }
+    ensures { λ r. ⌜ Accepts (now (all .entry)) (now (row .entry)) (now (row .exit)) r ⌝ }
+{
+    let checked = rules::check(all);
+    match checked {
+        Answer::Gives(_) => {
+            let n = all.len();
+            if n <= row.len() {
+                copy(all, row);
+                Answer::Gives(n)
+            } else {
+                Answer::Refused(Refusal { no: 13, place: n })
+            }
+        }
+        Answer::Refused(r) => Answer::Refused(r),
+    }
+}
+
+// A file read into a lent row: how many numbers, or refusal 1, 2, 4 to 10, 13.
+pub fn read_file(file: &[u8], row: &mut [u16]) -> Answer
+    ensures { λ r. ⌜ Reads (now (file .entry)) (now (row .entry)) (now (row .exit)) r ⌝ }
+{
+    let mut all = [0u16; LONGEST_ROW];
+    let unpacked = flow::unpack(file, &mut all);
+    let answer = unpacked.answer;
+    let n = unpacked.count;
+    match answer {
+        Answer::Gives(_) => accept(&all[..n], row),
+        Answer::Refused(r) => Answer::Refused(r),
+    }
+}
+
+// A row written into lent bytes: how many, or refusal 1 to 10, 13.
+pub fn write_file(row: &[u16], file: &mut [u8]) -> Answer
+    ensures { λ r. ⌜ Writes (now (row .entry)) (now (file .entry)) (now (file .exit)) r ⌝ }
+{
+    let judged = judge(row);
+    match judged {
+        Answer::Gives(_) => {
+            let n = flow::packed_bytes(row);
+            if n <= file.len() {
+                flow::pack(row, &mut file[..n]);
+                Answer::Gives(n)
+            } else {
+                Answer::Refused(Refusal { no: 13, place: n })
+            }
+        }
+        Answer::Refused(r) => Answer::Refused(r),
+    }
+}
+
+// The second path of a message from a place, as a part of the row itself: its links only, and no number of them where there is none or
+// the row is bad.
+pub fn second_path(row: &[u16], m: usize, p: usize) -> &[u16]
+    ensures { λ r. ⌜ now r ≡ secondPath (now (row .entry)) m p ⌝ }
+{
+    let judged = judge(row);
+    match judged {
+        Answer::Gives(_) => view::second_path_part(row, m, p),
+        Answer::Refused(_) => &row[..0],
+    }
+}

@@ -1,0 +1,27 @@
+-- The promise of the replay: its answer, and what the lent buffer has after it, follow from what goes in.
+use Prim.Native.Nat.{ℕ}
+use mathlib.Core.Path.{_≡_}
+use mathlib.Core.List.{List}
+use lib.ListN.{length}
+use Rattle.scope.specs.declared.Answer.{Answer}
+use Rattle.scope.specs.Outcome.{gives}
+use Rattle.scope.specs.Plan.{planOf}
+use Rattle.scope.specs.Cuts.{checkCuts}
+use Rattle.scope.specs.Cycle.{eventRow}
+use Rattle.scope.specs.Questions.{judge, replay}
+use Rattle.plan.specs.Answers.{Answers}
+
+-- a row without refusals 1 to 10
+pub record Judged (row : List ℕ) : Type 0 where
+  pub count : ℕ
+  pub good : judge row ≡ gives count
+
+-- and a cut list without refusal 12
+pub record Checked (row cuts : List ℕ) : Type 0 where
+  pub judged : Judged row
+  pub count : ℕ
+  pub good : checkCuts (planOf row) cuts ≡ gives count
+
+-- the replay of a row under a cut list, with a buffer that held `entry`
+abbrev pub Replays : List ℕ → List ℕ → List ℕ → List ℕ → Answer → Type 0
+Replays row cuts entry exit r = Answers (replay row cuts (length entry)) (eventRow (planOf row) cuts) entry exit r
