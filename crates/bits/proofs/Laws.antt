@@ -1,8 +1,8 @@
 -- Bits and numbers, each law once over the width: a number and its bits say each other, and so do bytes and their bits.
-use Prim.Native.Nat.{ℕ, zero, suc, _+_, _-_, _*_, _/_, _%_, _^_, _≤_, _<_}
+use Prim.Native.Nat.{ℕ, zero, suc, _+_, _*_, _/_, _%_, _^_, _≤_, _<_}
 use mathlib.Core.Path.{_≡_, refl, sym, _∙_, ap}
 use mathlib.Core.List.{List, [], _∷_, _++_, append-assoc}
-use native.Mathlib.Nat.{zero-add, add-zero, suc-add, add-comm, pow-zero, pow-suc, mod-one, mod-lt, mul-add-div-right, mod-eq-of-lt, zero-div}
+use native.Mathlib.Nat.{zero-add, suc-add, add-comm, pow-suc, mod-one, mul-add-div-right, mod-eq-of-lt, zero-div}
 use native.Mathlib.Omega.{arith}
 use lib.ListN.{length, getD, take, drop, replicate, length-append, length-drop, take-append-drop}
 use lib.Seq.{take-at, drop-at, take-nil, drop-nil, take-append-add, drop-append-add, getD-drop, length-take-le, sets, sets-eq}

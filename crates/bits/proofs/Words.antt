@@ -3,15 +3,15 @@
 use Prim.Native.Nat.{ℕ, zero, suc, _+_, _-_, _*_, _/_, _%_, _^_, _≤_, _<_}
 use mathlib.Core.Path.{_≡_, refl, sym, _∙_, ap}
 use mathlib.Core.List.{List, [], _∷_, _++_, append-assoc, append-nil}
-use native.Mathlib.Nat.{le-trans, mul-le-mul-left, div-mul-le-self, div-le-self, mod-lt, mod-le, mul-assoc, add-comm, mod-mod}
+use native.Mathlib.Nat.{le-trans, div-mul-le-self, div-le-self, mod-lt, add-comm}
 use native.Mathlib.Numerals.{add-one, add-two}
 use native.Mathlib.Omega.{arith}
 use lib.ListN.{length, getD, take, drop, set, length-append, length-drop, take-append-drop}
-use lib.Seq.{take-at, drop-at, drop-cons, drop-drop, length-take-le, take-append-le, drop-append-le, take-append-seam, sets, sets-eq, length-sets}
-use lib.Pow.{pow-pos, pow-add, shr-shr, high, low, split}
-use Rattle.scope.specs.Bits.{bitsOf, bits, numberFrom, fieldAt, bytesOf}
+use lib.Seq.{take-at, drop-at, drop-cons, drop-drop, length-take-le, take-append-le, drop-append-le, take-append-seam, sets, sets-eq}
+use lib.Pow.{pow-pos, shr-shr, high, split}
+use Rattle.scope.specs.Bits.{bitsOf, bits, numberFrom, fieldAt}
 use Rattle.bits.specs.Word.{wordAt, mixed, Within}
-use Rattle.bits.proofs.Laws.{length-bitsOf, bits-split, bits-low, number-bits, length-bits, bits-append, bits-take, bits-drop, AreBytes}
+use Rattle.bits.proofs.Laws.{length-bitsOf, bits-split, bits-low, number-bits, length-bits, bits-append, bits-take, AreBytes}
 
 -- a number put together from its parts keeps within the machine's word
 pub parts-most : (old k w : ℕ) → old / k / w * w ≤ old

@@ -3,8 +3,7 @@ use Prim.Native.Nat.{ℕ, _+_, _*_, _/_, _%_, _^_, _≤_, _<_}
 use mathlib.Core.Path.{_≡_}
 use mathlib.Core.List.{List}
 use lib.ListN.{length, getD}
-use lib.Seq.{sets}
-use Rattle.scope.specs.Bits.{bits, bitsOf, fieldAt}
+use Rattle.scope.specs.Bits.{bits, fieldAt}
 
 -- r is a power of two, at most 2 ^ 24
 pub record Power (k r : ℕ) : Type 0 where

@@ -1,21 +1,21 @@
 -- A walk that is not refused, step by step: over a row (`Walks`) and over the bits of a file (`Goes`). What can follow bounds both.
-use Prim.Native.Nat.{ℕ, zero, suc, _+_, _-_, _*_, _^_, _≤_, _<_}
+use Prim.Native.Nat.{ℕ, zero, suc, _+_, _^_, _≤_, _<_}
 use mathlib.Core.Path.{_≡_, refl, sym, _∙_, ap}
 use mathlib.Core.Bool.{Bool, true, false, cond}
-use mathlib.Core.List.{List, [], _∷_, _++_}
+use mathlib.Core.List.{List, [], _∷_}
 use native.Mathlib.Omega.{arith}
-use lib.ListN.{length, getD, take, drop, length-append}
+use lib.ListN.{length, getD, length-append}
 use lib.Dec.{ltb, leb, eqb}
-use borrow.Author.Tests.{eq-eqb, ne-eqb, lt-ltb, le-leb, eqb-true, eqb-false, ltb-true, leb-true}
+use borrow.Author.Tests.{eq-eqb, ne-eqb, lt-ltb, eqb-true, eqb-false, ltb-true, leb-true}
 use Rattle.scope.specs.declared.Fields.{Fields}
-use Rattle.scope.specs.Outcome.{Outcome, gives, refused}
-use Rattle.scope.specs.Fields.{width, step, opening, edition}
-use Rattle.scope.specs.Row.{walkFrom, walkRow}
-use Rattle.scope.specs.Bits.{bitsOf, bits, fieldAt}
+use Rattle.scope.specs.Outcome.{gives, refused}
+use Rattle.scope.specs.Fields.{width, step}
+use Rattle.scope.specs.Row.{walkFrom}
+use Rattle.scope.specs.Bits.{bitsOf, fieldAt}
 use Rattle.scope.specs.File.{walkBits, fieldsOf, packed}
 use Rattle.bits.proofs.Laws.{AreBits, field-small, length-bitsOf}
 use Rattle.grammar.proofs.Most.{most, numbers, wide, falls, width-most, number-small}
-use Rattle.flow.proofs.Walk.{bits-end, bits-step, fields-end, fields-step}
+use Rattle.flow.proofs.Walk.{fields-end, fields-step}
 
 pub not-both : {A : Type 0} (n k p : ℕ) → refused k p ≡ gives n → A
 not-both n k p e = let z : _≡_ {A = ℕ} 0 1 = cc in absurd (omega arith)

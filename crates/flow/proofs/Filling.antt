@@ -1,13 +1,13 @@
 -- The loop that unpacks a file: what is read so far and what is left give the whole row and the whole answer.
-use Prim.Native.Nat.{ℕ, zero, suc, _+_, _-_, _*_, _^_, _≤_, _<_}
+use Prim.Native.Nat.{ℕ, suc, _+_, _-_, _*_, _≤_, _<_}
 use mathlib.Core.Path.{_≡_, refl, sym, _∙_, ap}
 use mathlib.Core.List.{List, [], _∷_, _++_, append-nil}
 use native.Mathlib.Numerals.{add-one}
 use native.Mathlib.Omega.{arith}
-use lib.ListN.{length, getD, take, drop, set, length-set, take-append-drop}
+use lib.ListN.{length, take, drop, set, length-set, take-append-drop}
 use lib.Seq.{take-suc-set, drop-set-lt, drop-drop, append-snoc, length-take-le}
 use Rattle.scope.specs.declared.Fields.{Fields}
-use Rattle.scope.specs.Outcome.{Outcome, gives, refused, outcomeOf}
+use Rattle.scope.specs.Outcome.{Outcome, outcomeOf}
 use Rattle.scope.specs.Fields.{width, step, opening, edition}
 use Rattle.scope.specs.Bits.{bits, fieldAt}
 use Rattle.scope.specs.File.{walkBits, fieldsOf, rowOf}
@@ -17,7 +17,7 @@ use Rattle.flow.specs.Longest.{longestRow, longestBits}
 use Rattle.flow.specs.declared.Unpacked.{Unpacked}
 use Rattle.flow.specs.Unpack.{Unpacks}
 use Rattle.grammar.proofs.Most.{numbers, wide, falls, numbers-opening, wide-opening}
-use Rattle.flow.proofs.Walk.{bits-end, bits-short, bits-step, fields-end, fields-short, fields-step}
+use Rattle.flow.proofs.Walk.{bits-step, fields-step}
 
 -- so many turns are left after i numbers
 abbrev pub turns : List ℕ → ℕ → ℕ

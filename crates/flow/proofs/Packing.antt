@@ -1,25 +1,24 @@
 -- The loops that pack a row: what is written so far and what is left are the whole row's bits.
-use Prim.Native.Nat.{ℕ, zero, suc, _+_, _-_, _*_, _/_, _^_, _≤_, _<_}
+use Prim.Native.Nat.{ℕ, suc, _+_, _-_, _*_, _^_, _≤_, _<_}
 use mathlib.Core.Path.{_≡_, refl, sym, _∙_, ap}
 use mathlib.Core.Bool.{Bool, true, false, cond}
 use mathlib.Core.List.{List, [], _∷_, _++_, append-assoc, append-nil}
 use native.Mathlib.Numerals.{add-one}
 use native.Mathlib.Omega.{arith}
-use lib.ListN.{length, getD, take, drop, replicate, length-append, length-replicate, drop-of-length-le, length-drop}
-use lib.Seq.{drop-cons, take-at, drop-at, sets, sets-eq, length-sets, length-take-le, take-length}
+use lib.ListN.{length, getD, take, drop, replicate, length-append, drop-of-length-le}
+use lib.Seq.{drop-cons, take-at, sets, sets-eq, length-take-le}
 use lib.Dec.{eqb}
-use borrow.Author.Tests.{eqb-true}
 use Rattle.scope.specs.declared.Fields.{Fields}
-use Rattle.scope.specs.Outcome.{Outcome, gives, refused}
+use Rattle.scope.specs.Outcome.{gives, refused}
 use Rattle.scope.specs.Fields.{width, step, opening, edition}
 use Rattle.scope.specs.Row.{walkFrom, walkRow}
 use Rattle.scope.specs.Bits.{bitsOf, bits, bytesOf}
 use Rattle.scope.specs.File.{packed, rowBits, wholeBytes, fileOf}
 use Rattle.bits.proofs.Laws.{AreBytes, length-bitsOf, length-bits, bytes-bits, bits-zero, length-bytesOf}
 use Rattle.flow.specs.Longest.{longestBits}
-use Rattle.flow.specs.Pack.{Complete, Fitting, Packed}
-use Rattle.grammar.proofs.Most.{wide, wide-opening, width-most}
-use Rattle.flow.proofs.Accepted.{Walks, done, next, walks, walks-wide, not-both}
+use Rattle.flow.specs.Pack.{Fitting, Packed}
+use Rattle.grammar.proofs.Most.{wide-opening}
+use Rattle.flow.proofs.Accepted.{Walks, next, walks, walks-wide, not-both}
 
 -- an accepted row: its edition, and a walk over the rest
 pub row-walks : (row : List ℕ) (n : ℕ) → walkRow row ≡ gives n → Walks opening (drop 1 row)

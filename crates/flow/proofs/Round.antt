@@ -1,26 +1,26 @@
 -- Files and rows give each other: an accepted file is the file of its row, an accepted row is the row of its file, and each is accepted
 -- where the other is. How long they can be.
-use Prim.Native.Nat.{ℕ, zero, suc, _+_, _-_, _*_, _/_, _^_, _≤_, _<_}
+use Prim.Native.Nat.{ℕ, zero, suc, _+_, _-_, _*_, _≤_, _<_}
 use mathlib.Core.Path.{_≡_, refl, sym, _∙_, ap}
 use mathlib.Core.Bool.{Bool, true, false, cond, _&&_}
 use mathlib.Core.List.{List, [], _∷_, _++_, append-assoc, append-nil}
 use native.Mathlib.Omega.{arith}
-use lib.ListN.{length, getD, take, drop, replicate, length-append, length-replicate, length-drop, length-take, take-append-drop}
+use lib.ListN.{length, getD, take, drop, replicate, length-append, length-replicate, length-drop, take-append-drop}
 use lib.Seq.{take-add, take-at, drop-at, drop-drop, length-take-le}
-use lib.Dec.{ltb, leb, eqb}
-use borrow.Author.Tests.{eqb-true, ltb-true, ltb-false, lt-ltb, eq-eqb}
+use lib.Dec.{ltb, eqb}
+use borrow.Author.Tests.{eqb-true, ltb-true, ltb-false, lt-ltb}
 use Rattle.scope.specs.declared.Fields.{Fields}
 use Rattle.scope.specs.Outcome.{Outcome, gives, refused, andThen}
 use Rattle.scope.specs.Fields.{width, step, opening, edition}
 use Rattle.scope.specs.Row.{walkFrom, walkRow}
 use Rattle.scope.specs.Bits.{bitsOf, bits, fieldAt, numberFrom, bytesOf}
 use Rattle.scope.specs.File.{walkBits, fieldsOf, zeros, endsAt, walkFile, rowOf, packed, rowBits, wholeBytes, fileOf}
-use Rattle.bits.proofs.Laws.{AreBits, AreBytes, length-bitsOf, length-bits, are-bits, are-bitsOf, are-append, field-bits, field-small, number-bitsOf, bytes-bits, bits-bytes}
+use Rattle.bits.proofs.Laws.{AreBits, AreBytes, length-bitsOf, length-bits, are-bits, are-bitsOf, are-append, field-bits, number-bitsOf, bytes-bits, bits-bytes}
 use Rattle.flow.specs.Longest.{longestRow, longestFile}
-use Rattle.grammar.proofs.Most.{numbers, numbers-opening, wide, wide-opening}
+use Rattle.grammar.proofs.Most.{numbers-opening, wide-opening}
 use Rattle.flow.proofs.Walk.{bits-end, bits-step, fields-end, fields-step}
 use Rattle.flow.proofs.Tail.{and-split, zeros-are}
-use Rattle.flow.proofs.Accepted.{Walks, done, next, walks, walks-back, walks-numbers, walks-turns, walks-small, Goes, stop, on, goes, goes-inside, goes-bound, goes-walks, not-both, same-end}
+use Rattle.flow.proofs.Accepted.{Walks, done, next, walks-back, walks-numbers, walks-turns, walks-small, Goes, stop, on, goes, goes-inside, goes-bound, goes-walks, not-both, same-end}
 use Rattle.flow.proofs.Whole.{file-opens}
 use Rattle.flow.proofs.Packing.{row-walks, row-bits-most, length-file}
 

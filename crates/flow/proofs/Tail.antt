@@ -1,18 +1,18 @@
 -- How a file ends: "zero bits up to the next whole byte, and nothing after".
-use Prim.Native.Nat.{ℕ, zero, suc, _+_, _-_, _*_, _/_, _^_, _≤_, _<_}
+use Prim.Native.Nat.{ℕ, zero, suc, _+_, _-_, _*_, _<_}
 use mathlib.Core.Path.{_≡_, refl, sym, _∙_, ap}
 use mathlib.Core.Bool.{Bool, true, false, cond, _&&_}
-use mathlib.Core.List.{List, [], _∷_, _++_}
+use mathlib.Core.List.{List, [], _∷_}
 use native.Mathlib.Omega.{arith}
-use lib.ListN.{length, getD, take, drop, replicate, length-drop}
+use lib.ListN.{length, take, drop, replicate, length-drop}
 use lib.Seq.{take-all}
 use lib.Dec.{ltb, eqb}
 use lib.Pow.{pow-pos}
-use borrow.Author.Tests.{lt-ltb, le-ltb, eq-eqb, eqb-true, ltb-true}
-use Rattle.scope.specs.Outcome.{Outcome, gives, refused}
+use borrow.Author.Tests.{lt-ltb, le-ltb, eq-eqb, eqb-true}
+use Rattle.scope.specs.Outcome.{gives, refused}
 use Rattle.scope.specs.Bits.{bits, numberFrom, fieldAt}
 use Rattle.scope.specs.File.{zeros, endsAt, wholeBytes}
-use Rattle.bits.proofs.Laws.{AreBits, number-from, length-bits, are-bits, are-drop}
+use Rattle.bits.proofs.Laws.{number-from, length-bits}
 
 pub and-split : (a b : Bool) → (a && b) ≡ true → (a ≡ true) × (b ≡ true)
 and-split true b e = (refl, e)

@@ -1,20 +1,18 @@
 -- One law for each way that a loop over the fields can go: over a row, and over the bits of a file. What is left gives the whole answer.
-use Prim.Native.Nat.{ℕ, zero, suc, _+_, _-_, _*_, _^_, _≤_, _<_}
+use Prim.Native.Nat.{ℕ, zero, suc, _+_, _^_, _≤_, _<_}
 use mathlib.Core.Path.{_≡_, refl, sym, _∙_, ap}
-use mathlib.Core.Bool.{Bool, true, false, cond}
-use mathlib.Core.List.{List, [], _∷_, _++_}
+use mathlib.Core.List.{List, [], _∷_}
 use native.Mathlib.Numerals.{add-one}
 use native.Mathlib.Omega.{arith}
-use lib.ListN.{length, getD, take, drop, drop-of-length-le}
+use lib.ListN.{length, getD, drop, drop-of-length-le}
 use lib.Seq.{drop-cons}
-use lib.Dec.{ltb, leb, eqb}
 use borrow.Author.Tests.{lt-ltb, le-ltb, le-leb, lt-leb, eq-eqb, ne-eqb}
 use Rattle.scope.specs.declared.Fields.{Fields}
-use Rattle.scope.specs.Outcome.{Outcome, gives, refused}
+use Rattle.scope.specs.Outcome.{gives, refused}
 use Rattle.scope.specs.Fields.{width, step, opening, edition}
 use Rattle.scope.specs.Row.{walkFrom, walkRow}
-use Rattle.scope.specs.Bits.{bitsOf, bits, fieldAt}
-use Rattle.scope.specs.File.{walkBits, fieldsOf, packed}
+use Rattle.scope.specs.Bits.{fieldAt}
+use Rattle.scope.specs.File.{walkBits, fieldsOf}
 
 -- a row, from index i on
 module _ (row : List ℕ) (s : Fields) (i : ℕ) where

@@ -1,13 +1,12 @@
 -- A whole file: its edition, its fields and its end, one law for each way that it can go.
-use Prim.Native.Nat.{ℕ, zero, suc, _+_, _-_, _*_, _^_, _≤_, _<_}
-use mathlib.Core.Path.{_≡_, refl, sym, _∙_, ap}
-use mathlib.Core.Bool.{Bool, true, false, cond}
-use mathlib.Core.List.{List, [], _∷_, _++_}
+use Prim.Native.Nat.{ℕ, _*_, _≤_}
+use mathlib.Core.Path.{_≡_, refl, sym, _∙_}
+use mathlib.Core.Bool.{false}
+use mathlib.Core.List.{List, [], _∷_}
 use native.Mathlib.Omega.{arith}
-use lib.ListN.{length, getD, take, drop, set}
-use lib.Dec.{ltb, leb, eqb}
+use lib.ListN.{length, set}
+use lib.Dec.{ltb}
 use borrow.Author.Tests.{le-ltb, eq-eqb, ne-eqb}
-use Rattle.scope.specs.declared.Fields.{Fields}
 use Rattle.scope.specs.Outcome.{Outcome, gives, refused, andThen, outcomeOf}
 use Rattle.scope.specs.Fields.{opening, edition}
 use Rattle.scope.specs.Bits.{bits, fieldAt}
@@ -16,7 +15,7 @@ use Rattle.bits.proofs.Laws.{length-bits, are-bits}
 use Rattle.flow.specs.Longest.{longestRow, longestBits}
 use Rattle.flow.specs.declared.Unpacked.{Unpacked}
 use Rattle.flow.specs.Unpack.{Unpacks}
-use Rattle.grammar.proofs.Most.{wide, wide-opening}
+use Rattle.grammar.proofs.Most.{wide-opening}
 use Rattle.flow.proofs.Accepted.{Goes, goes, goes-inside, goes-bound}
 
 pub empty-file : (file row : List ℕ) (r : Unpacked) → length file ≡ 0 → longestRow ≤ length row → outcomeOf (r .answer) ≡ refused 2 0 → r .count ≡ 1 →

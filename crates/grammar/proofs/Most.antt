@@ -1,8 +1,7 @@
 -- How much can still follow: the most that the fields from here on can cost, for any cost of a field by its width. One for each field
 -- gives the most numbers of a row, and the width itself the most bits of a file. Reading a field lowers it by what that field costs.
 use Prim.Native.Nat.{ℕ, zero, suc, _+_, _-_, _*_, _^_, _≤_, _<_}
-use mathlib.Core.Path.{_≡_, refl, sym, _∙_, ap}
-use mathlib.Core.Bool.{cond}
+use mathlib.Core.Path.{_≡_, refl, _∙_}
 use native.Mathlib.Nat.{mul-le-mul-right}
 use native.Mathlib.Omega.{arith}
 use lib.Dec.{eqb·suc-zero}

@@ -2,3 +2,4 @@ pub mod Outcomes
 pub mod Numbers
 pub mod Copied
 pub mod Ways
+pub mod Theorems

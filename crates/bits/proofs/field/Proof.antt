@@ -1,11 +1,7 @@
 -- `bits::field` meets its contract: the field is a part of the three bytes as one number. Assumes nothing.
-use Prim.Native.Nat.{_/_, _%_, _^_, _<_}
-use mathlib.Core.Path.{_≡_, ap}
 use native.Mathlib.Nat.{mod-lt}
-use native.Mathlib.Omega.{arith}
 use borrow.Author.Needs.{needs}
 use lib.Pow.{pow-pos}
-use Rattle.bits.specs.Word.{wordAt}
 use Rattle.bits.proofs.Words.{read-law}
 use Rattle.bits.proofs.field.Statement.{statement}
 use Rattle.bits.proofs.field.Tie as tie

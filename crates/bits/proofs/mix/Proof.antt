@@ -1,6 +1,5 @@
 -- `bits::mix` meets its contract: no product or sum of the parts leaves the machine's word. Assumes nothing.
 use Prim.Native.Nat.{_+_, _*_, _/_, _^_, _≤_, _<_}
-use mathlib.Core.Path.{_≡_}
 use native.Mathlib.Nat.{mul-le-mul-left, mod-le}
 use native.Mathlib.Omega.{arith}
 use Rattle.bits.proofs.Words.{parts-most}

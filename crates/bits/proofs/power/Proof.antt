@@ -1,5 +1,5 @@
 -- `bits::power` meets its contract: no bit is shifted out. Assumes nothing.
-use Prim.Native.Nat.{_+_, _*_, _%_, _^_, _≤_, _<_}
+use Prim.Native.Nat.{_*_, _%_, _^_, _≤_}
 use mathlib.Core.Path.{_≡_, _∙_}
 use native.Mathlib.Nat.{one-mul}
 use native.Mathlib.Omega.{arith}

@@ -1,9 +1,7 @@
 -- `bits::put` meets its contract: the three stores write the bytes of the number that has the value in its field. Assumes nothing.
-use Prim.Native.Nat.{ℕ, suc, _+_, _-_, _/_, _%_}
-use mathlib.Core.Path.{_≡_, _∙_, ap}
+use Prim.Native.Nat.{ℕ, _-_, _/_, _%_}
+use mathlib.Core.Path.{_∙_, ap}
 use native.Mathlib.Numerals.{add-one, add-two}
-use lib.ListN.{set}
-use Rattle.scope.specs.Bits.{bits}
 use Rattle.bits.specs.Word.{mixed}
 use Rattle.bits.proofs.Words.{write-law}
 use borrow.Author.Needs.{needs}

@@ -1,13 +1,13 @@
 -- `flow::fill` meets its contract. The loop's invariant: what is read so far and what is left give the whole row and the whole answer;
 -- what can follow falls with each field. Assumes nothing.
-use Prim.Native.Nat.{ℕ, _+_, _*_, _≤_, _<_}
-use mathlib.Core.Path.{_≡_, refl, sym, _∙_, ap}
+use Prim.Native.Nat.{_+_, _<_}
+use mathlib.Core.Path.{_≡_, refl, sym, _∙_}
 use native.Mathlib.Omega.{arith}
 use lib.ListN.{length, length-set}
 use Rattle.scope.specs.Fields.{width}
 use Rattle.scope.specs.Bits.{bits}
 use Rattle.bits.proofs.Laws.{length-bits}
-use Rattle.grammar.proofs.Most.{numbers, wide, fewer, falls, width-most, number-small}
+use Rattle.grammar.proofs.Most.{numbers, fewer, falls, width-most, number-small}
 use Rattle.flow.proofs.Walk.{bits-end, bits-short, fields-end, fields-short}
 use Rattle.flow.proofs.Filling.{OnFile, turns, starts, goes-on, gives-row}
 use borrow.Author.Needs.{needs}
@@ -47,8 +47,6 @@ returns c =
 
 add-if2 : tie.Need-add-if2 Inv-loop μ-loop
 add-if2 c =
-    let a = c .before .before .before .before .before .before .args in
-    let file = a .file .now in
     let at = c .before .before .loop in
     let on = at .inv in
     let is = c .before .width .ensures in
@@ -57,8 +55,6 @@ add-if2 c =
 
 add-if2-2 : tie.Need-add-if2-2 Inv-loop μ-loop
 add-if2-2 c =
-    let a = c .before .before .before .before .before .before .args in
-    let file = a .file .now in
     let at = c .before .before .loop in
     let on = at .inv in
     let is = c .before .width .ensures in
@@ -86,8 +82,6 @@ returns-2 c =
 
 field-requires : tie.Need-field-requires Inv-loop μ-loop
 field-requires c κs =
-    let a = c .before .before .before .before .before .before .before .args in
-    let file = a .file .now in
     let at = c .before .before .before .loop in
     let on = at .inv in
     let is = c .before .before .width .ensures in
@@ -100,8 +94,6 @@ field-requires c κs =
 
 cast-row : tie.Need-cast-row Inv-loop μ-loop
 cast-row c =
-    let a = c .before .before .before .before .before .before .before .before .args in
-    let file = a .file .now in
     let at = c .before .before .before .before .loop in
     let on = at .inv in
     let is = c .before .before .before .width .ensures in
@@ -110,22 +102,15 @@ cast-row c =
 
 mul-row : tie.Need-mul-row Inv-loop μ-loop
 mul-row c =
-    let a = c .before .before .before .before .before .before .before .before .args in
-    let file = a .file .now in
     let at = c .before .before .before .before .loop in
     let on = at .inv in
-    let is = c .before .before .before .width .ensures in
-    let most = width-most (at .s) (on .narrow) in
     omega (arith, on .few)
 
 slice-write-row-2 : tie.Need-slice-write-row-2 Inv-loop μ-loop
 slice-write-row-2 c =
-    let a = c .before .before .before .before .before .before .before .before .args in
-    let file = a .file .now in
     let at = c .before .before .before .before .loop in
     let on = at .inv in
     let is = c .before .before .before .width .ensures in
-    let most = width-most (at .s) (on .narrow) in
     let nonzero : width (at .s) ≡ 0 → ⊥ = λ z. c .before .before .if1 .left (is ∙ z) in
     let less = falls (λ w. 1) (at .s) (c .field .result) nonzero (rw is at (c .field .ensures .small)) in
     let place : at .i < length (at .row) = omega (arith, on .few, less, on .long, simp length-set at (on .long), c .before .before .before .before .before .before .before .before .pre .1) in
@@ -136,8 +121,6 @@ step-requires c κs = search needs
 
 add-p : tie.Need-add-p Inv-loop μ-loop
 add-p c =
-    let a = c .before .before .before .before .before .before .before .before .before .args in
-    let file = a .file .now in
     let at = c .before .before .before .before .before .loop in
     let on = at .inv in
     let is = c .before .before .before .before .width .ensures in
@@ -146,12 +129,8 @@ add-p c =
 
 add-i : tie.Need-add-i Inv-loop μ-loop
 add-i c =
-    let a = c .before .before .before .before .before .before .before .before .before .args in
-    let file = a .file .now in
     let at = c .before .before .before .before .before .loop in
     let on = at .inv in
-    let is = c .before .before .before .before .width .ensures in
-    let most = width-most (at .s) (on .narrow) in
     omega (arith, on .few)
 
 loop-less : tie.Need-loop-less Inv-loop μ-loop

@@ -1,5 +1,4 @@
 -- `flow::pack` meets its contract: the fields, and then zero bits to the end of the part. Assumes nothing.
-use Prim.Native.Nat.{_+_, _*_, _≤_, _<_}
 use mathlib.Core.Path.{_≡_, _∙_}
 use lib.Pow.{pow-pos}
 use native.Mathlib.Omega.{arith}
@@ -18,7 +17,6 @@ mul-put c =
     let row = c .before .before .before .before .before .before .before .args .row .now in
     let fits = c .before .before .before .before .before .before .before .pre in
     let most = row-bits-most row (row-walks row (length row) (fits .complete)) in
-    let end = c .before .before .before .pack-fields .ensures .end in
     let size : length (c .before .before .before .pack-fields .last .1 .0) ≡ wholeBytes (length (rowBits row)) = c .before .before .before .pack-fields .kept .1 .0 ∙ fits .room ∙ length-file row in
     omega (arith, most, size)
 

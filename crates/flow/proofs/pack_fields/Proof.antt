@@ -1,6 +1,6 @@
 -- `flow::pack_fields` meets its contract. The loop's invariant: the bits written so far and those of the rest are the row's. Assumes nothing.
-use Prim.Native.Nat.{_+_, _-_, _*_, _^_, _≤_, _<_}
-use mathlib.Core.Path.{_≡_, sym, _∙_}
+use Prim.Native.Nat.{_-_, _^_, _<_}
+use mathlib.Core.Path.{_∙_}
 use native.Mathlib.Omega.{arith}
 use lib.ListN.{length, getD}
 use Rattle.scope.specs.Fields.{width}
@@ -68,12 +68,7 @@ add-p c =
 
 add-i : tie.Need-add-i Inv-loop μ-loop
 add-i c =
-    let row = c .before .before .before .before .before .before .before .before .before .before .before .before .before .before .before .before .args .row .now in
-    let at = c .before .before .before .before .before .before .before .before .loop in
-    let on = at .inv in
     let lt = c .before .before .before .before .before .before .before .loop-test .taken in
-    let most = row-bits-most row (row-walks row (length row) (c .before .before .before .before .before .before .before .before .before .before .before .before .before .before .before .before .pre .complete)) in
-    let room = counts-room row (at .s) (at .p) (at .i) (on .counts) lt in
     omega (arith, lt)
 
 loop-less : tie.Need-loop-less Inv-loop μ-loop
@@ -85,8 +80,6 @@ loop-again c =
     let at = c .before .before .before .before .before .before .before .before .loop in
     let on = at .inv in
     let lt = c .before .before .before .before .before .before .before .loop-test .taken in
-    let most = row-bits-most row (row-walks row (length row) (c .before .before .before .before .before .before .before .before .before .before .before .before .before .before .before .before .pre .complete)) in
-    let room = counts-room row (at .s) (at .p) (at .i) (on .counts) lt in
     packs-on row _ (at .file) (at .s) (at .p) (at .i) on _ _ _ _ lt (c .before .before .before .before .before .before .width .ensures) (c .before .before .before .before .before .number .ensures .is) (c .before .before .before .put2 .kept .0) (c .before .before .before .put2 .ensures)
     (c .step .ensures)
 

@@ -1,8 +1,7 @@
 -- `flow::unpack` meets its contract: the edition, the walk of `fill`, and what `ends` says of the rest. Assumes nothing.
-use Prim.Native.Nat.{_≤_, _<_, _*_}
-use mathlib.Core.Path.{_≡_, refl, sym, _∙_, ap}
+use mathlib.Core.Path.{refl, sym, _∙_, ap}
 use native.Mathlib.Omega.{arith}
-use Rattle.scope.specs.Outcome.{Outcome, gives, refused, andThen, outcomeOf}
+use Rattle.scope.specs.Outcome.{Outcome, refused, andThen, outcomeOf}
 use Rattle.scope.specs.Bits.{bits}
 use Rattle.scope.specs.File.{endsAt}
 use Rattle.flow.proofs.Whole.{empty-file, other-edition, file-opens, end-inside, with-answer}

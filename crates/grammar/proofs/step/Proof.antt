@@ -1,5 +1,4 @@
 -- `grammar::step` meets its contract: the slot stays, and `following` says what comes next. Assumes nothing.
-use mathlib.Core.Path.{ap}
 use borrow.Author.Needs.{needs}
 use Rattle.grammar.proofs.step.Statement.{statement}
 use Rattle.grammar.proofs.step.Tie as tie

@@ -1,0 +1,42 @@
+-- `cut_lines::link_at` meets its contract: the link stands after the slot and a space.
+use Prim.Native.Nat.{ℕ, _+_}
+use mathlib.Core.Path.{_∙_, ap}
+use borrow.Author.Needs.{needs}
+use Rattle.scope.specs.Lines.{numberAt}
+use Rattle.cut_lines.proofs.link_at.Statement.{statement}
+use Rattle.cut_lines.proofs.link_at.Tie as tie
+
+add-number-size : tie.Need-add-number-size
+add-number-size c = search needs
+
+number-size-requires : tie.Need-number-size-requires
+number-size-requires c κs = search needs
+
+add-number-at : tie.Need-add-number-at
+add-number-at c = search needs
+
+add-number-at-2 : tie.Need-add-number-at-2
+add-number-at-2 c = search needs
+
+add-number-at-3 : tie.Need-add-number-at-3
+add-number-at-3 c = search needs
+
+number-at-requires : tie.Need-number-at-requires
+number-at-requires c κs = search needs
+
+returns : tie.Need-returns
+returns c =
+    let a = c .before .before .before .args in
+    c .number-at .ensures ∙ ap (λ (k : ℕ). numberAt (a .text .now) (a .i + 4 + k + 1)) (c .before .number-size .ensures .is)
+
+pub link-at-spec : {M : Type 1} → statement M
+link-at-spec =
+    tie.close
+    (tie.spec
+    add-number-size
+    number-size-requires
+    add-number-at
+    add-number-at-2
+    add-number-at-3
+    number-at-requires
+    returns)

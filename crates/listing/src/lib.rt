@@ -1,0 +1,118 @@
+// The lines that the programs print, laid into lent bytes: document 01, "Programs". `listing` is the whole text of a replay, or of
+// a refusal; it asks nothing of its rows, and refuses with 13 where the buffer is too short. It leans on specs/Lines of `scope`, on
+// `view::number` (the total read of a row) and on `text` (a byte, a word, a number).
+ghost use Prim.Native.Nat.{_*_, _≤_, _<_, _^_};
+ghost use Rattle.listing.specs.Phrase.{phrase};
+ghost use Rattle.listing.specs.Prints.{Prints};
+ghost use Rattle.text.specs.Text.{Puts, Told};
+ghost use Rattle.scope.specs.Lines.{eventLine, eventLines, arrivedLine, refusedLine};
+ghost use Rattle.scope.specs.Lines.{listing as Lines·listing};
+ghost use Rattle.scope.specs.Outcome.{gives, outcomeOf};
+ghost use Rattle.scope.specs.Plan.{planOf};
+use scope::Answer;
+use scope::Refusal;
+use text::put_decimal;
+use text::put_number;
+use text::put_word;
+use view::number;
+
+// One event: slot, message, kind and number.
+fn event_line(
+    out: &mut [u8],
+    at: usize,
+    slot: usize,
+    message: usize,
+    kind: usize,
+    number: usize,
+) -> usize
+    requires { ⌜ Told at (eventLine slot message kind number) ⌝ }
+    ensures { λ r. ⌜ Puts (eventLine slot message kind number) (now (out .entry)) (now (out .exit)) at r ⌝ }
+{
+    let a = put_number(out, at, slot, b' ');
+    let b = put_number(out, a, message, b' ');
+    let c = put_number(out, b, kind, b' ');
+    put_number(out, c, number, b'\n')
+}
+
+// The lines of the first events of a row, where a slot has so many messages.
+fn event_lines(out: &mut [u8], at: usize, messages: usize, events: &[u16], lines: usize) -> usize
+    requires { ⌜ (0 < messages) × (lines < 2 ^ 40) × Told at (eventLines messages (now events) 0 lines) ⌝ }
+    ensures { λ r. ⌜ Puts (eventLines messages (now (events .entry)) 0 lines) (now (out .entry)) (now (out .exit)) at r ⌝ }
+{
+    let mut next = at;
+    let mut j = 0;
+    while j < lines {
+        let kind = number(events, 2 * j);
+        let value = number(events, 2 * j + 1);
+        next = event_line(out, next, j / messages, j % messages, kind, value);
+        j += 1;
+    }
+    next
+}
+
+// Two words with a number after each, and a line feed.
+fn phrase_line(out: &mut [u8], at: usize, v: &[u8], a: usize, w: &[u8], b: usize) -> usize
+    requires { ⌜ Told at (phrase (now v) a (now w) b) ⌝ }
+    ensures { λ r. ⌜ Puts (phrase (now (v .entry)) a (now (w .entry)) b) (now (out .entry)) (now (out .exit)) at r ⌝ }
+{
+    let i = put_word(out, at, v);
+    let j = put_decimal(out, i, a);
+    let k = put_word(out, j, w);
+    put_number(out, k, b, b'\n')
+}
+
+// How many messages arrived, of how many.
+fn arrived_line(out: &mut [u8], at: usize, n: usize, messages: usize) -> usize
+    requires { ⌜ Told at (arrivedLine n messages) ⌝ }
+    ensures { λ r. ⌜ Puts (arrivedLine n messages) (now (out .entry)) (now (out .exit)) at r ⌝ }
+{
+    phrase_line(out, at, b"arrived ", n, b" of ", messages)
+}
+
+// A refusal: its number and its place.
+fn refused_line(out: &mut [u8], at: usize, no: usize, place: usize) -> usize
+    requires { ⌜ Told at (refusedLine no place) ⌝ }
+    ensures { λ r. ⌜ Puts (refusedLine no place) (now (out .entry)) (now (out .exit)) at r ⌝ }
+{
+    phrase_line(out, at, b"refused ", no, b" place ", place)
+}
+
+// The listing of a replay with n arrivals: the header, its events and the arrivals.
+fn replayed(out: &mut [u8], n: usize, row: &[u16], events: &[u16]) -> usize
+    ensures { λ r. ⌜ Puts (Lines·listing (gives n) (planOf (now (row .entry))) (now (events .entry))) (now (out .entry)) (now (out .exit)) 0 r ⌝ }
+{
+    let messages = number(row, 3) + 1;
+    let timeout = number(row, 4) + 1;
+    let first = put_word(out, 0, b"slot message kind number\n");
+    let next = event_lines(out, first, messages, events, timeout * messages);
+    arrived_line(out, next, n, messages)
+}
+
+// The listing of any answer, as far as the buffer goes, and how many bytes it has.
+fn answered(out: &mut [u8], answer: Answer, row: &[u16], events: &[u16]) -> usize
+    ensures { λ r. ⌜ Puts (Lines·listing (outcomeOf answer) (planOf (now (row .entry))) (now (events .entry))) (now (out .entry)) (now (out .exit)) 0 r ⌝ }
+{
+    match answer {
+        Answer::Gives(n) => replayed(out, n, row, events),
+        Answer::Refused(r) => refused_line(out, 0, r.no, r.place),
+    }
+}
+
+// Bytes enough for every listing of a plan of at most 32 messages and timeout of at most 64 (proofs/Room).
+pub const ROOM: usize = 36942;
+
+// What the replay program prints for the answer of a replay of a plan's row, with its events: how many bytes, or refusal 13 with the
+// bytes needed.
+pub fn listing(answer: Answer, row: &[u16], events: &[u16], out: &mut [u8]) -> Answer
+    ensures { λ r. ⌜ Prints (Lines·listing (outcomeOf answer) (planOf (now (row .entry))) (now (events .entry))) (now (out .entry)) (now (out .exit)) r ⌝ }
+{
+    let needed = answered(&mut out[..0], answer, row, events);
+    if out.len() < needed {
+        return Answer::Refused(Refusal {
+            no: 13,
+            place: needed,
+        });
+    }
+    answered(out, answer, row, events);
+    Answer::Gives(needed)
+}

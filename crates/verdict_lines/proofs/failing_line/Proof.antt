@@ -1,0 +1,40 @@
+-- `verdict_lines::failing_line` meets its contract: k and a space, l, the numbers and a line feed.
+use borrow.Author.Needs.{needs}
+use Rattle.text.proofs.Laid.{told-first, told-rest, then}
+use Rattle.verdict_lines.proofs.Marks.{first-told, rest-told, mark-then}
+use Rattle.verdict_lines.proofs.failing_line.Statement.{statement}
+use Rattle.verdict_lines.proofs.failing_line.Tie as tie
+
+put-number-requires : tie.Need-put-number-requires
+put-number-requires c κs = first-told (c .before .before .before .args .k) 32 _ (c .before .before .before .pre)
+
+put-decimal-requires : tie.Need-put-decimal-requires
+put-decimal-requires c κs = told-first _ _ (rest-told (c .before .before .before .before .before .before .before .args .k) 32 (c .before .before .before .put-number .ensures) _ (c .before .before .before .before .before .before .before .pre))
+
+spaced-requires : tie.Need-spaced-requires
+spaced-requires c κs =
+    told-first _ _ (told-rest (c .before .before .before .put-decimal .ensures) _ (rest-told (c .before .before .before .before .before .before .before .before .before .before .before .args .k) 32 (c .before .before .before .before .before .before .before .put-number .ensures) _ (c .before .before .before .before .before .before .before .before .before .before .before .pre)))
+
+put-byte-requires : tie.Need-put-byte-requires
+put-byte-requires c κs =
+    told-rest (c .before .before .before .spaced .ensures) _
+    (told-rest (c .before .before .before .before .before .before .before .put-decimal .ensures) _ (rest-told (c .before .before .before .before .before .before .before .before .before .before .before .before .before .before .before .args .k) 32 (c .before .before .before .before .before .before .before .before .before .before .before .put-number .ensures) _ (c .before .before .before .before .before .before .before .before .before .before .before .before .before .before .before .pre)))
+
+same-length : tie.Need-same-length
+same-length c = search needs
+
+returns : tie.Need-returns
+returns c =
+    mark-then (c .before .before .before .before .before .before .before .before .before .before .before .before .before .before .before .before .before .before .args .k) 32 (c .before .before .before .before .before .before .before .before .before .before .before .before .before .before .put-number .ensures)
+    (then (c .before .before .before .before .before .before .before .before .before .before .put-decimal .ensures) (then (c .before .before .before .before .before .before .spaced .ensures) (c .before .before .put-byte .ensures)))
+
+pub failing-line-spec : {M : Type 1} → statement M
+failing-line-spec =
+    tie.close
+    (tie.spec
+    put-number-requires
+    put-decimal-requires
+    spaced-requires
+    put-byte-requires
+    same-length
+    returns)

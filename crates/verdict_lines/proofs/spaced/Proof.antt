@@ -1,0 +1,70 @@
+-- `verdict_lines::spaced` meets its contract: what the loop has left are the numbers from i on.
+use Prim.Native.Nat.{_≤_, _-_}
+use borrow.Author.Needs.{needs}
+use native.Mathlib.Omega.{arith}
+use lib.ListN.{length, drop}
+use Rattle.scope.specs.Lines.{spaced}
+use Rattle.text.proofs.Laid.{Left, left-first, left-is, left-told, left-more, left-done, left-same}
+use Rattle.verdict_lines.proofs.Marks.{spaced-more, spaced-done}
+use Rattle.verdict_lines.proofs.spaced.Statement.{statement}
+use Rattle.verdict_lines.proofs.spaced.Tie as tie
+
+abbrev Inv-loop : tie.InvT-loop
+Inv-loop out₀ at cuts next₀ i₀ out next i = (i ≤ length cuts) × Left (spaced cuts) out₀ at (spaced (drop i cuts)) out next
+
+abbrev μ-loop : tie.MeasureT-loop
+μ-loop out₀ at cuts next₀ i₀ out next i = length cuts - i
+
+loop-holds : tie.Need-loop-holds Inv-loop μ-loop
+loop-holds c = (search needs, left-first _ _ _)
+
+put-byte-requires : tie.Need-put-byte-requires Inv-loop μ-loop
+put-byte-requires c κs = left-told _ _ (c .before .before .before .before .before .pre) (left-is (spaced-more _ _ (c .before .loop-test .taken)) (c .before .before .loop .inv .1))
+
+mul-put-decimal : tie.Need-mul-put-decimal Inv-loop μ-loop
+mul-put-decimal c = search needs
+
+shared-slice-read-put-decimal : tie.Need-shared-slice-read-put-decimal Inv-loop μ-loop
+shared-slice-read-put-decimal c = search needs
+
+cast-put-decimal : tie.Need-cast-put-decimal Inv-loop μ-loop
+cast-put-decimal c = omega (arith, c .shared-slice-known2 .given (c .before .before .before .before .before .before .before .loop .i))
+
+put-decimal-requires : tie.Need-put-decimal-requires Inv-loop μ-loop
+put-decimal-requires c κs = left-told _ _ (c .before .before .before .before .before .before .before .before .before .before .pre) (left-more (left-is (spaced-more _ _ (c .before .before .before .before .before .before .loop-test .taken)) (c .before .before .before .before .before .before .before .loop .inv .1)) (c .before .before .before .before .put-byte .ensures))
+
+add-i : tie.Need-add-i Inv-loop μ-loop
+add-i c = search needs
+
+loop-less : tie.Need-loop-less Inv-loop μ-loop
+loop-less c = search needs
+
+loop-again : tie.Need-loop-again Inv-loop μ-loop
+loop-again c = (
+  search needs,
+  left-more (left-more (left-is (spaced-more _ _ (c .before .before .before .before .before .before .before .before .before .loop-test .taken)) (c .before .before .before .before .before .before .before .before .before .before .loop .inv .1)) (c .before .before .before .before .before .before .before .put-byte .ensures)) (c .before .before .put-decimal .ensures),
+)
+
+same-length : tie.Need-same-length Inv-loop μ-loop
+same-length c = left-same (c .before .loop .inv .1)
+
+returns : tie.Need-returns Inv-loop μ-loop
+returns c = left-done (left-is (spaced-done _ _ (c .loop-test .left)) (c .before .loop .inv .1))
+
+pub spaced-spec : {M : Type 1} → statement M
+spaced-spec =
+    tie.close
+    (tie.spec
+    Inv-loop
+    μ-loop
+    loop-holds
+    put-byte-requires
+    mul-put-decimal
+    shared-slice-read-put-decimal
+    cast-put-decimal
+    put-decimal-requires
+    add-i
+    loop-less
+    loop-again
+    same-length
+    returns)

@@ -1,0 +1,302 @@
+//! The independent second program: document 01 once more, simple and slow, and the
+//! comparison of another program with it. See README.md.
+
+mod bad;
+mod cases;
+mod compare;
+mod cuts;
+mod cycle;
+mod examples;
+mod good;
+mod lines;
+mod plan;
+mod probe;
+mod questions;
+mod random;
+mod slack;
+mod theorem;
+mod verdict;
+
+use std::io::{BufRead, BufWriter, Read, Write};
+
+const HELP: &str = "\
+oracle: document 01 once more, independent, simple and slow
+
+  oracle probe                      answers the questions of PROBE.md on standard input
+  oracle replay                     the replay program (plan.bin, cut lines on standard input)
+  oracle verdict                    the verdict program (plan.bin)
+  oracle test                       runs the examples of document 01 and more
+  oracle generate SEED N            writes N random probe questions
+  oracle kinds SEED N               counts event kinds and refusals in these N questions
+  oracle compare SEED N -- COMMAND...
+                                    asks COMMAND these N questions and compares the answers
+  oracle files SEED N DIR [NAME]    makes folders DIR/000001... with plan.bin, stdin and what
+                                    the program NAME (replay or verdict; replay) should print
+  oracle compare-program NAME SEED N [--cwd-root DIR] -- COMMAND...
+                                    runs COMMAND in a folder for each of N cases and compares
+                                    what it prints with the program NAME (replay or verdict)
+  oracle theorem SEED N             tries the promises about every replay on N random cases
+  oracle help                       this
+
+generate, kinds and compare take --without NAME (again and again), where NAME is read,
+write, replay, verdict, slack, second or junk: such questions do not come up.
+SEED and N are decimals. A case follows from SEED, its index (from 0) and the --without
+names. The exit status is 0 if all is well, 1 for a difference or a failure, 2 for a wrong
+command line.
+";
+
+fn main() {
+    let arguments: Vec<String> = std::env::args().skip(1).collect();
+    let status = match run(&arguments) {
+        Ok(true) => 0,
+        Ok(false) => 1,
+        Err(text) => {
+            eprintln!("oracle: {}", text);
+            2
+        }
+    };
+    std::process::exit(status);
+}
+
+/// What a command line says.
+struct Words {
+    plain: Vec<String>,
+    without: Vec<String>,
+    root: Option<String>,
+    command: Vec<String>,
+}
+
+fn words_of(arguments: &[String]) -> Result<Words, String> {
+    let mut words = Words { plain: vec![], without: vec![], root: None, command: vec![] };
+    let mut at = 0;
+    while at < arguments.len() {
+        match arguments[at].as_str() {
+            "--" => {
+                words.command = arguments[at + 1..].to_vec();
+                break;
+            }
+            "--without" => {
+                at += 1;
+                let name = arguments.get(at).ok_or("--without what?")?;
+                if !cases::QUESTIONS.contains(&name.as_str()) {
+                    return Err(format!("--without {}: no such question", name));
+                }
+                words.without.push(name.clone());
+            }
+            "--cwd-root" => {
+                at += 1;
+                words.root = Some(arguments.get(at).ok_or("--cwd-root which?")?.clone());
+            }
+            other => words.plain.push(String::from(other)),
+        }
+        at += 1;
+    }
+    if cases::QUESTIONS.iter().all(|name| words.without.iter().any(|out| out == name)) {
+        return Err(String::from("no question is left"));
+    }
+    Ok(words)
+}
+
+fn number_at(words: &Words, at: usize) -> Result<u64, String> {
+    let word = words.plain.get(at).ok_or("a number is missing; see oracle help")?;
+    word.parse().map_err(|_| format!("{}: no number", word))
+}
+
+fn name_at(words: &Words, at: usize) -> Result<String, String> {
+    match words.plain.get(at) {
+        Some(name) if name == "replay" || name == "verdict" => Ok(name.clone()),
+        _ => Err(String::from("replay or verdict?")),
+    }
+}
+
+fn run(arguments: &[String]) -> Result<bool, String> {
+    let words = words_of(arguments)?;
+    match words.plain.first().map(String::as_str) {
+        Some("probe") => answer_questions(),
+        Some("replay") => {
+            let text = lines::replay_program(&plan_file(), &standard_input());
+            print_all(&text)
+        }
+        Some("verdict") => print_all(&lines::verdict_program(&plan_file())),
+        Some("test") => {
+            let (passed, failed) = examples::run();
+            println!("{} passed, {} failed", passed, failed);
+            Ok(failed == 0)
+        }
+        Some("generate") => {
+            let (seed, number) = (number_at(&words, 1)?, number_at(&words, 2)?);
+            generate(seed, number, &words.without)
+        }
+        Some("kinds") => {
+            let (seed, number) = (number_at(&words, 1)?, number_at(&words, 2)?);
+            kinds(seed, number, &words.without)
+        }
+        Some("compare") => {
+            let (seed, number) = (number_at(&words, 1)?, number_at(&words, 2)?);
+            need_command(&words)?;
+            compare::compare(seed, number, &words.without, &words.command)
+        }
+        Some("files") => {
+            let (seed, number) = (number_at(&words, 1)?, number_at(&words, 2)?);
+            let folder = words.plain.get(3).ok_or("which folder?")?;
+            let name =
+                if words.plain.len() > 4 { name_at(&words, 4)? } else { String::from("replay") };
+            compare::files(&name, seed, number, folder)?;
+            Ok(true)
+        }
+        Some("compare-program") => {
+            let name = name_at(&words, 1)?;
+            let (seed, number) = (number_at(&words, 2)?, number_at(&words, 3)?);
+            need_command(&words)?;
+            compare::compare_program(&name, seed, number, words.root.clone(), &words.command)
+        }
+        Some("theorem") => {
+            let (seed, number) = (number_at(&words, 1)?, number_at(&words, 2)?);
+            theorems(seed, number)
+        }
+        Some("help") => print_all(HELP),
+        _ => Err(String::from("see oracle help")),
+    }
+}
+
+fn need_command(words: &Words) -> Result<(), String> {
+    if words.command.is_empty() {
+        return Err(String::from("no command after --"));
+    }
+    Ok(())
+}
+
+/// "Both read the file `plan.bin`; a missing file counts as empty."
+fn plan_file() -> Vec<u8> {
+    std::fs::read("plan.bin").unwrap_or_default()
+}
+
+fn standard_input() -> Vec<u8> {
+    let mut input = Vec::new();
+    let _ = std::io::stdin().read_to_end(&mut input);
+    input
+}
+
+fn print_all(text: &str) -> Result<bool, String> {
+    let mut output = std::io::stdout();
+    output.write_all(text.as_bytes()).and_then(|_| output.flush()).map_err(|e| e.to_string())?;
+    Ok(true)
+}
+
+/// "reads questions from standard input, one a line, and writes one answer line for
+/// each, in order, until the input ends".
+fn answer_questions() -> Result<bool, String> {
+    let mut input = std::io::stdin().lock();
+    let mut output = BufWriter::new(std::io::stdout().lock());
+    loop {
+        let mut line = Vec::new();
+        let count = input.read_until(b'\n', &mut line).map_err(|error| error.to_string())?;
+        if count == 0 {
+            break;
+        }
+        if line.last() == Some(&b'\n') {
+            line.pop();
+        }
+        writeln!(output, "{}", probe::answer(&line)).map_err(|error| error.to_string())?;
+    }
+    output.flush().map_err(|error| error.to_string())?;
+    Ok(true)
+}
+
+fn generate(seed: u64, number: u64, without: &[String]) -> Result<bool, String> {
+    let mut output = BufWriter::new(std::io::stdout().lock());
+    for case in 0..number {
+        let (_, line) = cases::question(seed, case, without);
+        writeln!(output, "{}", line).map_err(|error| error.to_string())?;
+    }
+    output.flush().map_err(|error| error.to_string())?;
+    Ok(true)
+}
+
+/// How often each event kind and each refusal came up, and under which question.
+fn kinds(seed: u64, number: u64, without: &[String]) -> Result<bool, String> {
+    let mut kinds = [0u64; 8];
+    let mut replays_with = [0u64; 8];
+    let mut refusals = vec![vec![0u64; 14]; cases::QUESTIONS.len()];
+    let mut asked = vec![0u64; cases::QUESTIONS.len()];
+    let mut verdicts = vec![0u64; 5]; // resistant, then lists of 0, 1, 2, 3 pairs
+    let mut after_slot_0 = 0;
+    let mut part_of_length_0 = 0;
+    for case in 0..number {
+        let (name, line) = cases::question(seed, case, without);
+        let question = cases::QUESTIONS.iter().position(|other| *other == name).unwrap();
+        asked[question] += 1;
+        let answer = probe::answer(line.as_bytes());
+        let words: Vec<&str> = answer.split(' ').collect();
+        if words[0] == "refused" {
+            refusals[question][words[1].parse::<usize>().unwrap()] += 1;
+        } else if name == "replay" {
+            let mut seen = [0u64; 8];
+            for event in words[2..].chunks(2) {
+                seen[event[0].parse::<usize>().unwrap()] += 1;
+            }
+            for kind in 0..8 {
+                kinds[kind] += seen[kind];
+                replays_with[kind] += u64::from(seen[kind] > 0);
+            }
+        } else if name == "verdict" {
+            let pairs = if words[1] == "failing" { 1 + words[2].parse::<usize>().unwrap() } else { 0 };
+            verdicts[pairs] += 1;
+            if pairs > 0 && words[3..].iter().step_by(2).any(|slot| *slot != "0") {
+                after_slot_0 += 1;
+            }
+        } else if name == "second" && words[1] == "0" {
+            part_of_length_0 += 1;
+        }
+    }
+    println!("kind        0        1        2        3        4        5        6        7");
+    print!("events");
+    for kind in kinds {
+        print!(" {:8}", kind);
+    }
+    print!("\nreplays");
+    for kind in replays_with {
+        print!("{:8} ", kind);
+    }
+    println!("(replays in which the kind comes up)");
+    print!("refusal   asked");
+    for refusal in 1..14 {
+        print!(" {:5}", refusal);
+    }
+    println!();
+    for (question, name) in cases::QUESTIONS.iter().enumerate() {
+        print!("{:8} {:6}", name, asked[question]);
+        for refusal in 1..14 {
+            print!(" {:5}", refusals[question][refusal]);
+        }
+        println!();
+    }
+    println!(
+        "verdicts: resistant {}, failing lists of 1 pair {}, 2 pairs {}, 3 pairs {}; {} of these \
+         lists have a slot above 0",
+        verdicts[0], verdicts[2], verdicts[3], verdicts[4], after_slot_0
+    );
+    println!("second paths of length 0: {}", part_of_length_0);
+    Ok(true)
+}
+
+fn theorems(seed: u64, number: u64) -> Result<bool, String> {
+    match theorem::theorem(seed, number) {
+        Err(text) => {
+            println!("FAILED\n{}", text);
+            Ok(false)
+        }
+        Ok(counts) => {
+            println!("{} replays, {} messages: all promises held", counts.replays, counts.messages);
+            println!("left their first path: {}", counts.diverted);
+            println!("  second path whole until arrival or timeout: {}", counts.whole);
+            println!("    s + D within the timeout (demand 3): {}", counts.bound_in_time);
+            println!("      arrived at s + D exactly: {}", counts.bound_met_exactly);
+            println!("    slack 0 or more: {}", counts.slack_not_negative);
+            println!("    slack below 0 and yet in time: {}", counts.negative_slack_in_time);
+            println!("untouched under cuts: {}", counts.untouched);
+            println!("  while others were diverted: {}", counts.untouched_though_others_diverted);
+            Ok(true)
+        }
+    }
+}
