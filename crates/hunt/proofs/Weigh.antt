@@ -13,7 +13,7 @@ use Rattle.scope.proofs.Cuts.{slot-below, link-below}
 use Rattle.touch.specs.Sums.{sum}
 use Rattle.touch.specs.Bound.{harm, weightIn, Bound}
 use Rattle.touch.proofs.Sums.{sum-same}
-use Rattle.resist.proofs.Pairs.{slot-left, link-left, slot-right, link-right, pairs-both, slots-from}
+use Rattle.hunt.proofs.Pairs.{slot-left, link-left, slot-right, link-right, pairs-both, slots-from}
 
 module _ (weight : ℕ → ℕ → ℕ) (pre x : List ℕ) (d : ℕ) (long : length pre ≡ 2 * d) where
   pub harm-front : harm weight (pre ++ x) d ≡ harm weight pre d

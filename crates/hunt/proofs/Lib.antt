@@ -8,3 +8,4 @@ pub mod Answer
 pub mod Playing
 pub mod Picking
 pub mod Levels
+pub mod Hunting

@@ -12,7 +12,7 @@ use Rattle.scope.specs.Cuts.{pairs, isCutList}
 use Rattle.scope.specs.Cycle.{arrivals}
 use Rattle.scope.specs.Verdict.{earlier, goesBefore, Resistant, FirstFailing}
 use Rattle.scope.proofs.Cuts.{even}
-use Rattle.resist.specs.Search.{AllLeave, FirstOf}
+use Rattle.hunt.specs.Search.{AllLeave, FirstOf}
 
 pub all-leave : (plan : Plan) (k l : ℕ) → ((i : ℕ) → i < k + 1 → AllLeave plan l [] i) → Resistant plan k l
 unfolding Resistant

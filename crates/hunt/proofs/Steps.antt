@@ -14,10 +14,10 @@ use Rattle.scope.specs.Cycle.{arrivals}
 use Rattle.scope.specs.Verdict.{earlier}
 use Rattle.scope.proofs.Order.{earlier-self}
 use Rattle.touch.specs.Bound.{harm, weightIn, Bound}
-use Rattle.resist.specs.Search.{code, codeAt, Chosen, AllLeave, FirstOf, Leave, FirstFrom}
-use Rattle.resist.proofs.Pairs.{slot-right, link-right, Next, next-pair, one-more}
-use Rattle.resist.proofs.Before.{earlier-under, not-earlier}
-use Rattle.resist.proofs.Weigh.{all-later, then-later}
+use Rattle.hunt.specs.Search.{code, codeAt, Chosen, AllLeave, FirstOf, Leave, FirstFrom}
+use Rattle.hunt.proofs.Pairs.{slot-right, link-right, Next, next-pair, one-more}
+use Rattle.hunt.proofs.Before.{earlier-under, not-earlier}
+use Rattle.hunt.proofs.Weigh.{all-later, then-later}
 
 -- pairs of the same code are the same
 pub same-pair : (a b c d : ℕ) → b < 64 → d < 64 → code a b ≡ code c d → (a ≡ c) × (b ≡ d)

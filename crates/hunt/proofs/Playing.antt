@@ -18,26 +18,13 @@ use Rattle.step.specs.declared.Position as P
 use Rattle.cycle.specs.Stand.{positionsOf, Stand, Become}
 use Rattle.cycle.specs.Slot.{ownerOf}
 use Rattle.cycle.specs.Play.{endsWith}
-use Rattle.resist.specs.declared.Asked.{Asked}
-use Rattle.resist.specs.declared.Picked.{Picked}
-use Rattle.resist.specs.declared.Found.{Found}
-use Rattle.resist.specs.Hunt.{cutsOf, Playable, Holding, StandAt, MaySettle, MayAdvance, Sought}
-use Rattle.resist.proofs.Prefix.{played-from, one-slot}
-use Rattle.resist.proofs.Steps.{nothing-more, itself}
-
--- what is down and who holds what in the slots played is all that matters
-agree : (rank : ℕ → ℕ) (down other : ℕ → ℕ → Bool) (owner holder : ℕ → ℕ → ℕ) (n i : ℕ) (ps : List Position) →
-    ((j e : ℕ) → i ≤ j → j < i + n → (down j e ≡ other j e) × (owner j e ≡ holder j e)) →
-    positions rank down owner i n ps ≡ positions rank other holder i n ps
-unfolding positions slot
-agree rank down other owner holder zero i ps same = refl
-agree rank down other owner holder (suc n) i ps same =
-    let a : down i ≡ other i = fun-ext (λ e. same i e (omega arith) (omega arith) .0) in
-    let b : owner i ≡ holder i = fun-ext (λ e. same i e (omega arith) (omega arith) .1) in
-    let here : slot rank down owner i ps ≡ slot rank other holder i ps =
-    ap₂ (λ (d : ℕ → Bool) (o : ℕ → ℕ). moves rank d o i (map (tries d) (map (turn d) ps)) 0 (map (turn d) ps)) a b in
-    agree rank down other owner holder n (i + 1) (nexts (slot rank down owner i ps)) (λ j e l h. same j e (omega arith) (omega arith)) ∙
-    ap (λ ms. positions rank other holder (i + 1) n (nexts ms)) here
+use Rattle.cycle.proofs.Agree.{positions-same}
+use Rattle.hunt.specs.declared.Asked.{Asked}
+use Rattle.hunt.specs.declared.Picked.{Picked}
+use Rattle.hunt.specs.declared.Found.{Found}
+use Rattle.hunt.specs.Hunt.{cutsOf, Playable, Holding, StandAt, MaySettle, MayAdvance, Sought}
+use Rattle.hunt.proofs.Prefix.{played-from, one-slot}
+use Rattle.hunt.proofs.Steps.{nothing-more, itself}
 
 module _ (row table : List ℕ) (a : Asked) (p : Picked) (y : Playable row table a) (h : Holding row a p) where
   -- links from 64 on are never down
@@ -55,8 +42,8 @@ module _ (row table : List ℕ) (a : Asked) (p : Picked) (y : Playable row table
   plays : (s n : ℕ) (qs : List Position) → s + n ≤ 64 →
       endsWith table (p .from) s n qs ≡ positions byNumber (isCut (cutsOf p)) (tableOf (planOf row)) s n qs
   plays s n qs l =
-      agree byNumber (downOf (p .from)) (isCut (cutsOf p)) (ownerOf table) (tableOf (planOf row)) n s qs
-      (λ j e u v. (down-is j e (omega arith), y .owner j e (omega arith)))
+      positions-same byNumber (downOf (p .from)) (isCut (cutsOf p)) (ownerOf table) (tableOf (planOf row)) n s qs
+      (λ j u. (fun-ext (λ e. down-is j e (omega arith)), y .owner j (omega arith)))
 
   -- a list that was played to the end
   pub played : (ps : List P.Position) (r : ℕ) → StandAt row (a .messages) (cutsOf p) (p .slot) ps →

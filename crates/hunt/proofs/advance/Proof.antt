@@ -1,10 +1,10 @@
--- `resist::advance` meets its contract.
-use Rattle.resist.proofs.Playing.{advanced}
+-- `hunt::advance` meets its contract.
+use Rattle.hunt.proofs.Playing.{advanced}
 use borrow.Author.Needs.{needs}
-use Rattle.resist.proofs.advance.Statement.{statement}
-use Rattle.resist.proofs.advance.Tie as tie
-use Rattle.resist.proofs.advance.Reads as reads
-use Rattle.resist.proofs.advance.Lts as lts
+use Rattle.hunt.proofs.advance.Statement.{statement}
+use Rattle.hunt.proofs.advance.Tie as tie
+use Rattle.hunt.proofs.advance.Reads as reads
+use Rattle.hunt.proofs.advance.Lts as lts
 use Rattle.onward.proofs.next.Reads as next-reads
 
 -- src/lib.rt:138:46

@@ -18,14 +18,14 @@ use Rattle.cuts.specs.From.{never, cutFrom, downOf, Tells}
 use Rattle.cuts.proofs.From.{getD-any}
 use Rattle.step.specs.declared.Position as P
 use Rattle.touch.specs.Bound.{harm, weightIn}
-use Rattle.resist.specs.declared.Asked.{Asked}
-use Rattle.resist.specs.declared.Picked.{Picked}
-use Rattle.resist.specs.Search.{code, Chosen}
-use Rattle.resist.specs.Hunt.{cutsOf, withPair, Playable, Holding, Weighed, StandAt}
-use Rattle.resist.proofs.Some.{some-one}
-use Rattle.resist.proofs.Prefix.{cut-more, same-before}
-use Rattle.resist.proofs.Weigh.{harm-next}
-use Rattle.resist.proofs.Steps.{picked}
+use Rattle.hunt.specs.declared.Asked.{Asked}
+use Rattle.hunt.specs.declared.Picked.{Picked}
+use Rattle.hunt.specs.Search.{code, Chosen}
+use Rattle.hunt.specs.Hunt.{cutsOf, withPair, Playable, Holding, Weighed, StandAt}
+use Rattle.hunt.proofs.Some.{some-one}
+use Rattle.hunt.proofs.Prefix.{cut-more, same-before}
+use Rattle.hunt.proofs.Weigh.{harm-next}
+use Rattle.hunt.proofs.Steps.{picked}
 
 -- two numbers more at the front of a list
 take-two : (l : List ℕ) (d s e : ℕ) → 2 * d + 1 < length l → take (2 * (d + 1)) (set (set l (2 * d) s) (2 * d + 1) e) ≡ take (2 * d) l ++ s ∷ e ∷ []

@@ -1,15 +1,15 @@
--- `resist::next_link` meets its contract: what is still to look at gives what the whole gives.
+-- `hunt::next_link` meets its contract: what is still to look at gives what the whole gives.
 use Prim.Native.Nat.{_-_, _≤_}
 use mathlib.Core.Path.{_≡_, refl, sym, _∙_}
 use borrow.Author.Needs.{needs}
 use Rattle.scope.specs.Lowest.{seek}
 use Rattle.scope.proofs.Lowest.{seek-found, seek-next, seek-done}
-use Rattle.resist.specs.Hunt.{passes}
-use Rattle.resist.proofs.next_link.Statement.{statement}
-use Rattle.resist.proofs.next_link.Tie as tie
-use Rattle.resist.proofs.next_link.Reads as reads
-use Rattle.resist.proofs.next_link.Lts as lts
-use Rattle.resist.proofs.may.Reads as may-reads
+use Rattle.hunt.specs.Hunt.{passes}
+use Rattle.hunt.proofs.next_link.Statement.{statement}
+use Rattle.hunt.proofs.next_link.Tie as tie
+use Rattle.hunt.proofs.next_link.Reads as reads
+use Rattle.hunt.proofs.next_link.Lts as lts
+use Rattle.hunt.proofs.may.Reads as may-reads
 
 abbrev Inv-loop : tie.InvT-loop
 Inv-loop from weights base floor e links i₀ i = (i ≤ links) × (seek (passes from weights base floor) (links - i) i ≡ seek (passes from weights base floor) (links - e) e)

@@ -4,25 +4,25 @@ use Prim.Native.Nat.{_+_, _-_, _*_}
 use mathlib.Core.Path.{refl, sym}
 use native.Mathlib.Omega.{arith}
 use borrow.Author.Needs.{needs}
-use Rattle.resist.proofs.Levels.{goes-up, Looking, Climbing, may-go-on, looks-first, looks-some, looks-on, look-done, climbs-first, may-look, may-advance, climbs-light, climbs-over, climbs-some, climbs-on}
+use Rattle.hunt.proofs.Levels.{goes-up, Looking, Climbing, may-go-on, looks-first, looks-some, looks-on, look-done, climbs-first, may-look, may-advance, climbs-light, climbs-over, climbs-some, climbs-on}
 use Prim.Native.Nat.{ℕ, _<_}
 use borrow.Fn.Kinds.{In}
 use borrow.Fn.PlainCycle.{Measures, is, falls, and}
-use Rattle.resist.proofs.in_slot.Reads as in-slot
-use Rattle.resist.proofs.in_slot.Kinds as in-slot-kinds
-use Rattle.resist.proofs.+in_slot+level.Lts-in_slot as in-slot-lts
-use Rattle.resist.proofs.level.Reads as level
-use Rattle.resist.proofs.level.Kinds as level-kinds
-use Rattle.resist.proofs.+in_slot+level.Lts-level as level-lts
-use Rattle.resist.proofs.advance.Reads as advance-reads
-use Rattle.resist.proofs.heaviest.Reads as heaviest-reads
-use Rattle.resist.proofs.lacking.Reads as lacking-reads
-use Rattle.resist.proofs.next_link.Reads as next-link-reads
-use Rattle.resist.proofs.nothing.Reads as nothing-reads
-use Rattle.resist.proofs.pick.Reads as pick-reads
-use Rattle.resist.proofs.settle.Reads as settle-reads
-use Rattle.resist.proofs.+in_slot+level.{statement}
-use Rattle.resist.proofs.+in_slot+level.Tie.{close}
+use Rattle.hunt.proofs.in_slot.Reads as in-slot
+use Rattle.hunt.proofs.in_slot.Kinds as in-slot-kinds
+use Rattle.hunt.proofs.+in_slot+level.Lts-in_slot as in-slot-lts
+use Rattle.hunt.proofs.level.Reads as level
+use Rattle.hunt.proofs.level.Kinds as level-kinds
+use Rattle.hunt.proofs.+in_slot+level.Lts-level as level-lts
+use Rattle.hunt.proofs.advance.Reads as advance-reads
+use Rattle.hunt.proofs.heaviest.Reads as heaviest-reads
+use Rattle.hunt.proofs.lacking.Reads as lacking-reads
+use Rattle.hunt.proofs.next_link.Reads as next-link-reads
+use Rattle.hunt.proofs.nothing.Reads as nothing-reads
+use Rattle.hunt.proofs.pick.Reads as pick-reads
+use Rattle.hunt.proofs.settle.Reads as settle-reads
+use Rattle.hunt.proofs.+in_slot+level.{statement}
+use Rattle.hunt.proofs.+in_slot+level.Tie.{close}
 
 abbrev μ-in-slot : Measures 4 in-slot-kinds.ps ℕ
 μ-in-slot κs a = 2 * a .1 .1 .1 .1 .1 .1 .1 .0

@@ -1,12 +1,12 @@
--- `resist::may` meets its contract, test by test.
+-- `hunt::may` meets its contract, test by test.
 use Prim.Native.Nat.{_+_}
 use native.Mathlib.Omega.{arith}
 use borrow.Author.Tests.{eq-eqb, ne-eqb}
 use borrow.Author.Needs.{needs}
-use Rattle.resist.proofs.may.Statement.{statement}
-use Rattle.resist.proofs.may.Tie as tie
-use Rattle.resist.proofs.may.Reads as reads
-use Rattle.resist.proofs.may.Lts as lts
+use Rattle.hunt.proofs.may.Statement.{statement}
+use Rattle.hunt.proofs.may.Tie as tie
+use Rattle.hunt.proofs.may.Reads as reads
+use Rattle.hunt.proofs.may.Lts as lts
 
 -- src/lib.rt:71:8
 mul-if1 : tie.Need-mul-if1

@@ -1,13 +1,13 @@
--- `resist::settle` meets its contract: the list was played to the end.
+-- `hunt::settle` meets its contract: the list was played to the end.
 use mathlib.Core.Path.{refl}
-use Rattle.resist.proofs.Playing.{played, settled-none, settled-some}
+use Rattle.hunt.proofs.Playing.{played, settled-none, settled-some}
 use borrow.Author.Needs.{needs}
-use Rattle.resist.proofs.settle.Statement.{statement}
-use Rattle.resist.proofs.settle.Tie as tie
-use Rattle.resist.proofs.settle.Reads as reads
-use Rattle.resist.proofs.settle.Lts as lts
+use Rattle.hunt.proofs.settle.Statement.{statement}
+use Rattle.hunt.proofs.settle.Tie as tie
+use Rattle.hunt.proofs.settle.Reads as reads
+use Rattle.hunt.proofs.settle.Lts as lts
 use Rattle.onward.proofs.finish.Reads as finish-reads
-use Rattle.resist.proofs.nothing.Reads as nothing-reads
+use Rattle.hunt.proofs.nothing.Reads as nothing-reads
 
 -- src/lib.rt:112:63
 slice-aggregate-finish : tie.Need-slice-aggregate-finish

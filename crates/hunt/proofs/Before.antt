@@ -7,7 +7,7 @@ use mathlib.Core.List.{List, [], _∷_, _++_}
 use lib.Dec.{ltb, eqb}
 use borrow.Author.Tests.{ltb-true, ltb-false, le-ltb, eq-eqb, ne-eqb, eqb-true, eqb-false}
 use Rattle.scope.specs.Verdict.{earlier}
-use Rattle.resist.specs.Search.{code}
+use Rattle.hunt.specs.Search.{code}
 
 pub earlier-under : (pre x y : List ℕ) → earlier (pre ++ x) (pre ++ y) ≡ earlier x y
 unfolding earlier

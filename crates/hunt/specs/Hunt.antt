@@ -2,21 +2,23 @@
 use Prim.Native.Nat.{ℕ, _+_, _-_, _*_, _≤_, _<_}
 use mathlib.Core.Path.{_≡_}
 use mathlib.Core.Bool.{Bool, true, false, _&&_}
-use mathlib.Core.List.{List}
-use lib.ListN.{length, getD, take, set}
+use mathlib.Core.List.{List, []}
+use lib.ListN.{length, getD, take, set, replicate}
 use lib.Dec.{leb, eqb}
 use Rattle.scope.specs.Plan.{planOf}
 use Rattle.scope.specs.Cuts.{isCut}
+use Rattle.scope.specs.Verdict.{FirstFailing}
 use Rattle.scope.specs.Cycle.{byNumber, tableOf, start, positions, arrivals}
 use Rattle.cuts.specs.From.{Tells}
 use Rattle.step.specs.declared.Position.{Position}
 use Rattle.cycle.specs.Stand.{Become}
 use Rattle.cycle.specs.Slot.{ownerOf}
 use Rattle.touch.specs.Bound.{harm, weightIn, Bound}
-use Rattle.resist.specs.declared.Asked.{Asked}
-use Rattle.resist.specs.declared.Picked.{Picked}
-use Rattle.resist.specs.declared.Found.{Found}
-use Rattle.resist.specs.Search.{code, Chosen, AllLeave, FirstOf, Leave, FirstFrom}
+use Rattle.hunt.specs.declared.Asked.{Asked}
+use Rattle.hunt.specs.declared.Picked.{Picked}
+use Rattle.hunt.specs.declared.Found.{Found}
+use Rattle.hunt.specs.declared.Hunted.{Hunted}
+use Rattle.hunt.specs.Search.{code, Chosen, AllLeave, FirstOf, Leave, FirstFrom}
 
 -- the pairs picked, as a list
 abbrev pub cutsOf : Picked → List ℕ
@@ -34,6 +36,10 @@ withPair p s e w =
       from = set (p .from) e s;
     }
 
+-- no pair
+abbrev pub noPair : Picked
+noPair = record { count = 0; slot = 0; link = 0; weight = 0; numbers = replicate 6 0; from = replicate 64 65535 }
+
 -- a link that is not cut already, and heavy enough in a slot
 abbrev pub passes : List ℕ → List ℕ → ℕ → ℕ → ℕ → Bool
 passes from weights base floor e = eqb (getD from e 0) 65535 && leb floor (getD weights (base + e) 0)
@@ -44,7 +50,7 @@ pub record Playable (row table : List ℕ) (a : Asked) : Type 0 where
   pub short : a .timeout ≤ 64
   pub links : a .links ≡ length (planOf row .links)
   pub few : a .links ≤ 64
-  pub owner : (i e : ℕ) → i < 64 → ownerOf table i e ≡ tableOf (planOf row) i e
+  pub owner : (i : ℕ) → i < 64 → ownerOf table i ≡ tableOf (planOf row) i
 
 -- and with a bound
 pub record Ready (row table weights most : List ℕ) (a : Asked) : Type 0 where
@@ -117,3 +123,20 @@ pub record SoughtIn (row : List ℕ) (l : ℕ) (p : Picked) (n s e : ℕ) (r : F
   pub none : r .found ≡ false → Leave (planOf row) l (cutsOf p) (n - 1) (code s e) (code (s + 1) 0)
   pub some : r .found ≡ true → FirstFrom (planOf row) l (cutsOf p) (n - 1) (code s e) (take (2 * (p .count + n)) (r .numbers))
   pub left : r .found ≡ true → r .arrivals ≡ arrivals (planOf row) (take (2 * (p .count + n)) (r .numbers))
+
+-- lists of at most k pairs may be sought, where those of fewer than `low` are known to leave enough
+pub record MayHunt (row table weights most : List ℕ) (a : Asked) (ps : List Position) (low k : ℕ) : Type 0 where
+  pub ready : Ready row table weights most a
+  pub stand : StandAt row (a .messages) [] 0 ps
+  pub few : k ≤ 3
+  pub within : low ≤ k + 1
+  pub before : (i : ℕ) → i < low → AllLeave (planOf row) (a .least) [] i
+
+-- none of them fails, or the first one that does has so many pairs and leaves so many arrivals
+pub record Hunts (row : List ℕ) (l k : ℕ) (r : Hunted) : Type 0 where
+  pub long : length (r .numbers) ≡ 6
+  pub few : r .pairs ≤ k
+  pub none : r .found ≡ false → (i : ℕ) → i < k + 1 → AllLeave (planOf row) l [] i
+  pub some : r .found ≡ true → FirstFailing (planOf row) k l (take (2 * r .pairs) (r .numbers))
+  pub left : r .found ≡ true → r .arrivals ≡ arrivals (planOf row) (take (2 * r .pairs) (r .numbers))
+  pub fewer : r .found ≡ true → (i : ℕ) → i < r .pairs → AllLeave (planOf row) l [] i

@@ -14,13 +14,13 @@ use Rattle.scope.specs.Cycle.{arrivals}
 use Rattle.scope.proofs.Lowest.{seek-from, seek-most, seek-is, seek-low}
 use Rattle.step.specs.declared.Position as P
 use Rattle.touch.specs.Bound.{harm, weightIn, Bound}
-use Rattle.resist.specs.declared.Asked.{Asked}
-use Rattle.resist.specs.declared.Picked.{Picked}
-use Rattle.resist.specs.declared.Found.{Found}
-use Rattle.resist.specs.Search.{code, Chosen, AllLeave, FirstOf, Leave, FirstFrom}
-use Rattle.resist.specs.Hunt.{cutsOf, withPair, passes, Playable, Ready, Holding, Weighed, StandAt, MayAdvance, MaySeek, MaySeekIn, Sought, SoughtIn}
-use Rattle.resist.proofs.Steps.{none-before, passed, cut-already, no-list-here, first-here, slot-over, joined, first-in-slot, all-over, first-of-all, too-light, too-light-now}
-use Rattle.resist.proofs.Picking.{named, cuts-more, holding-more, weighed-more, stand-more}
+use Rattle.hunt.specs.declared.Asked.{Asked}
+use Rattle.hunt.specs.declared.Picked.{Picked}
+use Rattle.hunt.specs.declared.Found.{Found}
+use Rattle.hunt.specs.Search.{code, Chosen, AllLeave, FirstOf, Leave, FirstFrom}
+use Rattle.hunt.specs.Hunt.{cutsOf, withPair, passes, Playable, Ready, Holding, Weighed, StandAt, MayAdvance, MaySeek, MaySeekIn, Sought, SoughtIn}
+use Rattle.hunt.proofs.Steps.{none-before, passed, cut-already, no-list-here, first-here, slot-over, joined, first-in-slot, all-over, first-of-all, too-light, too-light-now}
+use Rattle.hunt.proofs.Picking.{named, cuts-more, holding-more, weighed-more, stand-more}
 
 -- in slot s, from link e on: the lists whose next pair is there and before link i leave enough
 pub record Looking (row weights : List ℕ) (a : Asked) (p : Picked) (n s e i floor : ℕ) : Type 0 where

@@ -12,8 +12,8 @@ use Rattle.scope.specs.Lowest.{some}
 use Rattle.scope.specs.Plan.{Plan}
 use Rattle.scope.specs.Cuts.{pairs, cutSlot, cutLink, pairBefore, falls, badPair, isCutList}
 use Rattle.scope.proofs.Cuts.{not-bad, slot-below, link-below, rising, once, even}
-use Rattle.resist.specs.Search.{code, codeAt, Chosen}
-use Rattle.resist.proofs.Some.{none, none-below, some-same}
+use Rattle.hunt.specs.Search.{code, codeAt, Chosen}
+use Rattle.hunt.proofs.Some.{none, none-below, some-same}
 
 -- the pairs of a list that is put together
 module _ (pre x : List ℕ) (d : ℕ) (long : length pre ≡ 2 * d) where

@@ -1,11 +1,11 @@
--- `resist::heaviest` meets its contract: three times a byte fits.
+-- `hunt::heaviest` meets its contract: three times a byte fits.
 use native.Mathlib.Omega.{arith}
 use native.Mathlib.Nat.{mul-le-mul-right}
 use borrow.Author.Needs.{needs}
-use Rattle.resist.proofs.heaviest.Statement.{statement}
-use Rattle.resist.proofs.heaviest.Tie as tie
-use Rattle.resist.proofs.heaviest.Reads as reads
-use Rattle.resist.proofs.heaviest.Lts as lts
+use Rattle.hunt.proofs.heaviest.Statement.{statement}
+use Rattle.hunt.proofs.heaviest.Tie as tie
+use Rattle.hunt.proofs.heaviest.Reads as reads
+use Rattle.hunt.proofs.heaviest.Lts as lts
 
 -- src/lib.rt:111:14
 mul-result : tie.Need-mul-result
