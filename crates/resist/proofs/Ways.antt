@@ -87,8 +87,7 @@ module _ (row : List ℕ) (k l : ℕ) (entry exit exit′ : List ℕ) where
   pub failing-once : (n m : ℕ) → IsFailing row k l entry exit n → IsFailing row k l entry exit′ m → (n ≡ m) × (exit ≡ exit′)
   failing-once n m a b =
       let same : take (2 * n) exit ≡ take (2 * m) exit′ = first-once (planOf row) k l (take (2 * n) exit) (take (2 * m) exit′) (a .list) (b .list) in
-      let count : n ≡ m = sym (a .count) ∙ ap pairs same ∙ b .count in
-      (
+      let count : n ≡ m = sym (a .count) ∙ ap pairs same ∙ b .count in (
         count,
         sym (take-append-drop (2 * n) exit) ∙ ap₂ _++_ same (a .rest ∙ ap (λ (i : ℕ). drop (2 * i) entry) count ∙ sym (b .rest)) ∙
             take-append-drop (2 * m) exit′,

@@ -49,7 +49,10 @@ fn verdict_good(row: &[u16], k: usize, l: usize, list: &mut [u16]) -> Ruling
         return Ruling::Refused(Refusal { no: 11, place: 0 });
     }
     if list.len() < 2 * k {
-        return Ruling::Refused(Refusal { no: 13, place: 2 * k });
+        return Ruling::Refused(Refusal {
+            no: 13,
+            place: 2 * k,
+        });
     }
     let hunted = decide(row, k, l);
     if hunted.found {

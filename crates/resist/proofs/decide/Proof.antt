@@ -1,3 +1,7 @@
+-- `resist::decide` meets its contract: what the search is lent is right.
+use native.Mathlib.Omega.{arith}
+use Rattle.view.proofs.Parts.{message-count}
+use Rattle.resist.proofs.Asking.{lies, may-start, may-hunt}
 use borrow.Author.Needs.{needs}
 use Rattle.resist.proofs.decide.Statement.{statement}
 use Rattle.resist.proofs.decide.Tie as tie
@@ -19,7 +23,7 @@ slice-aggregate-fill-table c = search needs
 
 -- src/lib.rt:27:5
 fill-table-requires : tie.Need-fill-table-requires
-fill-table-requires c κs = ?
+fill-table-requires c κs = (search needs, lies (c .before .before .args .row .now) (c .before .before .pre .judged) .messages)
 
 -- src/lib.rt:29:18
 slice-aggregate-weigh : tie.Need-slice-aggregate-weigh
@@ -51,7 +55,7 @@ messages-requires c κs = search needs
 
 -- src/lib.rt:33:9
 start-all-requires : tie.Need-start-all-requires
-start-all-requires c κs = ?
+start-all-requires c κs = may-start (c .before .before .before .before .before .before .before .before .before .before .before .before .before .args .row .now) (c .before .before .before .before .before .before .before .before .before .before .before .before .before .pre .judged) _ (c .messages .ensures .is)
 
 -- src/lib.rt:35:18
 timeout-requires : tie.Need-timeout-requires
@@ -63,7 +67,7 @@ links-requires c κs = search needs
 
 -- src/lib.rt:39:15
 need-requires : tie.Need-need-requires
-need-requires c κs = ?
+need-requires c κs = omega (arith, c .before .before .before .messages .ensures .is, c .before .before .before .messages .ensures .small, c .before .before .before .before .before .before .before .before .before .before .before .before .before .before .before .before .pre .least, message-count (c .before .before .before .before .before .before .before .before .before .before .before .before .before .before .before .before .args .row .now))
 
 -- src/lib.rt:41:27
 slice-aggregate-first-list : tie.Need-slice-aggregate-first-list
@@ -79,7 +83,7 @@ slice-aggregate-first-list-3 c = search needs
 
 -- src/lib.rt:41:5
 first-list-requires : tie.Need-first-list-requires
-first-list-requires c κs = ?
+first-list-requires c κs = may-hunt (c .before .before .before .before .before .before .before .before .before .before .before .before .before .before .before .before .before .before .before .before .args .row .now) (c .before .before .before .before .before .before .before .before .before .before .before .before .before .before .before .before .before .before .before .before .pre .judged) _ _ _ (c .before .before .before .before .before .timeout .ensures .is) (c .before .before .before .before .links .ensures .is) (c .before .before .before .before .before .before .before .messages .ensures .is) _ _ _ _ (c .before .before .before .before .before .before .before .before .before .before .before .before .before .before .before .before .before .fill-table .ensures) (c .before .before .before .before .before .before .before .before .before .before .before .before .before .weigh .ensures) (c .before .before .before .before .before .before .before .before .before .tops .ensures) (c .before .before .before .before .before .before .start-all .ensures) _ _ _ (c .before .before .before .before .before .before .before .before .before .before .before .before .before .before .before .before .before .before .before .before .pre .few) (c .before .before .before .need .ensures)
 
 -- src/lib.rt:22:1
 returns : tie.Need-returns

@@ -1,3 +1,6 @@
+-- `resist::verdict` meets its contract: refusals 1 to 10, or what `verdict_good` answers.
+use Rattle.plan.proofs.Ways.{gave, refused-as}
+use Rattle.resist.proofs.Ways.{bad-row}
 use borrow.Author.Needs.{needs}
 use Rattle.resist.proofs.verdict.Statement.{statement}
 use Rattle.resist.proofs.verdict.Tie as tie
@@ -20,11 +23,11 @@ enum-told c = search needs
 
 -- src/lib.rt:72:29
 verdict-good-requires : tie.Need-verdict-good-requires
-verdict-good-requires c κs = ?
+verdict-good-requires c κs = record { size = _; good = gave _ (c .before .enum-told .given .1) (c .before .before .before .judge .ensures) }
 
 -- src/lib.rt:66:1
 returns : tie.Need-returns
-returns c = ?
+returns c = bad-row (c .before .before .before .before .before .before .args .row .now) (c .before .before .before .before .before .before .args .k) (c .before .before .before .before .before .before .args .l) (c .before .before .before .before .before .before .args .list .now) _ (refused-as _ (c .before .judged .given .1) (c .before .before .before .judge .ensures))
 
 -- src/lib.rt:66:1
 same-length : tie.Need-same-length
