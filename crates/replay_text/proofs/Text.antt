@@ -2,28 +2,18 @@
 -- comes first.
 use Prim.Native.Nat.{ℕ, zero, suc, _+_, _*_, _/_, _%_, _≤_, _<_}
 use mathlib.Core.Path.{_≡_, refl, sym, _∙_, ap}
-use mathlib.Core.Bool.{Bool, true, false, cond}
 use mathlib.Core.List.{List, [], _∷_, _++_}
 use native.Mathlib.Omega.{arith}
 use native.Mathlib.Nat.{mul-assoc}
 use lib.ListN.{length, getD, take, drop, length-append, List·getD-append}
 use lib.Seq.{take-all, take-at}
-use lib.Dec.{leb}
-use borrow.Author.Tests.{leb-true}
 use Rattle.scope.specs.declared.Answer.{Answer}
-use Rattle.scope.specs.declared.Answer.the-variants.{Gives, Refused}
-use Rattle.scope.specs.declared.Refusal.{Refusal}
-use Rattle.scope.specs.Outcome.{Outcome, outcomeOf, gives, refused, andThen, room}
+use Rattle.scope.specs.Outcome.{Outcome, outcomeOf, gives, refused}
 use Rattle.scope.specs.Plan.{Plan, planOf}
-use Rattle.scope.specs.File.{walkFile, rowOf}
-use Rattle.scope.specs.Good.{rules}
+use Rattle.scope.specs.File.{rowOf}
 use Rattle.scope.specs.Cycle.{eventRow}
 use Rattle.scope.specs.Questions.{after, readFile, replay}
 use Rattle.scope.specs.Lines.{cutsFrom, cutsOf, header, eventLine, eventLines, arrivedLine, refusedLine, listing, longestRow, longestEvents, replayText}
-use Rattle.listing.specs.Prints.{Prints}
-use Rattle.plan.specs.Answers.{Reads}
-use Rattle.plan.proofs.Outcomes.{then-back}
-use Rattle.plan.proofs.Ways.{gave, refused-as}
 use Rattle.cut_lines.specs.Reads.{Cuts}
 use Rattle.cut_lines.proofs.Replay.{replay-enough}
 use Rattle.replays.specs.Replay.{Replays}
@@ -83,44 +73,3 @@ text-given file input n e = rw e
 
 pub text-row : (file input row : List ℕ) (n : ℕ) → readFile file longestRow ≡ gives n → row ≡ rowOf file → textOf row (cutsOf input) ≡ replayText file input
 text-row file input row n e is = ap (λ (r : List ℕ). textOf r (cutsOf input)) is ∙ sym (text-given file input n e)
-
--- a text under another name
-pub prints-as : {text text′ entry exit : List ℕ} {r : Answer} → text ≡ text′ → Prints text entry exit r → Prints text′ entry exit r
-prints-as e p = rw e at p
-
--- what was read is the row, at the front of the buffer
-room-back : (needed lent n : ℕ) → room needed lent ≡ gives n → (n ≡ needed) × (needed ≤ lent)
-room-back needed lent n e = by (leb needed lent) refl e
-  where
-    by : (t : Bool) → leb needed lent ≡ t → cond t (gives needed) (refused 13 needed) ≡ gives n → (n ≡ needed) × (needed ≤ lent)
-    by true l e = (cc, leb-true needed lent l)
-    by false l e = let z : _≡_ {A = ℕ} 0 1 = cc in absurd (omega arith)
-
-pub read-room : (file : List ℕ) (lent n : ℕ) → readFile file lent ≡ gives n → (n ≡ length (rowOf file)) × (length (rowOf file) ≤ lent)
-unfolding readFile
-read-room file lent n e =
-    let w = then-back (walkFile file) (λ _. andThen (rules (planOf (rowOf file))) (λ _. room (length (rowOf file)) lent)) n e in
-    let r = then-back (rules (planOf (rowOf file))) (λ _. room (length (rowOf file)) lent) n (w .2) in
-    room-back (length (rowOf file)) lent n (r .2)
-
--- a file that was read into a buffer of the longest row
-module _ (file entry exit : List ℕ) (a : Answer) (l : length entry ≡ longestRow) (h : Reads file entry exit a) where
-  pub read-given : (n : ℕ) → a ≡ Gives n → readFile file longestRow ≡ gives n
-  read-given n e = ap (readFile file) (sym l) ∙ gave n e (h .answer)
-
-  pub read-refused : (r : Refusal) → a ≡ Refused r → readFile file longestRow ≡ refused (r .no) (r .place)
-  read-refused r e = ap (readFile file) (sym l) ∙ refused-as r e (h .answer)
-
-  pub read-row : (n : ℕ) → a ≡ Gives n → take n exit ≡ rowOf file
-  unfolding after
-  read-row n e =
-      let o : readFile file (length entry) ≡ gives n = gave n e (h .answer) in
-      let is : exit ≡ rowOf file ++ drop (length (rowOf file)) entry = h .buffer ∙ ap (λ (p : Outcome). after p (rowOf file) entry) o in
-      ap (take n) is ∙ take-at (rowOf file) _ n (sym (read-room file (length entry) n o .0))
-
-  pub read-fit : (n : ℕ) → a ≡ Gives n → n ≤ length exit
-  unfolding after
-  read-fit n e =
-      let o : readFile file (length entry) ≡ gives n = gave n e (h .answer) in
-      let is : exit ≡ rowOf file ++ drop (length (rowOf file)) entry = h .buffer ∙ ap (λ (p : Outcome). after p (rowOf file) entry) o in
-      omega (arith, simp length-append at (ap length is), read-room file (length entry) n o .0)

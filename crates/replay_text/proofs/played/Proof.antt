@@ -2,7 +2,8 @@
 use Prim.Native.Nat.{ℕ}
 use mathlib.Core.Path.{_≡_}
 use borrow.Author.Needs.{needs}
-use Rattle.replay_text.proofs.Text.{played-text, prints-as}
+use Rattle.listing.proofs.Printing.{prints-as}
+use Rattle.replay_text.proofs.Text.{played-text}
 use Rattle.replay_text.proofs.played.Statement.{statement}
 use Rattle.replay_text.proofs.played.Tie as tie
 

@@ -5,7 +5,8 @@ use borrow.Author.Needs.{needs}
 use lib.ListN.{length}
 use lib.Seq.{length-take-le}
 use Rattle.replay_text.specs.Text.{textOf}
-use Rattle.replay_text.proofs.Text.{cuts-fit, cuts-read, input-text, prints-as}
+use Rattle.listing.proofs.Printing.{prints-as}
+use Rattle.replay_text.proofs.Text.{cuts-fit, cuts-read, input-text}
 use Rattle.replay_text.proofs.played_input.Statement.{statement}
 use Rattle.replay_text.proofs.played_input.Tie as tie
 

@@ -3,7 +3,9 @@ use mathlib.Core.Path.{sym, _∙_}
 use borrow.Author.Needs.{needs}
 use lib.Seq.{length-take-le}
 use Rattle.listing.proofs.Lines.{refused-parts}
-use Rattle.replay_text.proofs.Text.{text-refused, text-row, read-given, read-refused, read-row, read-fit, prints-as}
+use Rattle.listing.proofs.Printing.{prints-as}
+use Rattle.plan.proofs.Reading.{read-given, read-refused, read-row, read-fit}
+use Rattle.replay_text.proofs.Text.{text-refused, text-row}
 use Rattle.replay_text.proofs.replay_text.Statement.{statement}
 use Rattle.replay_text.proofs.replay_text.Tie as tie
 
@@ -17,13 +19,13 @@ enum-known-read : tie.Need-enum-known-read
 enum-known-read c = search needs
 
 array-share-prefix-row : tie.Need-array-share-prefix-row
-array-share-prefix-row c = read-fit _ _ _ _ (search needs) (c .before .before .before .before .read-file .ensures) _ (c .before .read .given .1)
+array-share-prefix-row c = read-fit _ _ _ _ (c .before .before .before .before .read-file .ensures) _ (c .before .read .given .1)
 
 slice-aggregate-played-input : tie.Need-slice-aggregate-played-input
 slice-aggregate-played-input c =
     sym
     (length-take-le _ _
-    (read-fit _ _ _ _ (search needs) (c .before .before .before .before .before .read-file .ensures) _ (c .before .before .read .given .1)))
+    (read-fit _ _ _ _ (c .before .before .before .before .before .read-file .ensures) _ (c .before .before .read .given .1)))
 
 played-input-requires : tie.Need-played-input-requires
 played-input-requires c κs = search needs
@@ -48,7 +50,7 @@ returns c =
     let known = c .before .before .before .before .before in
     let read = known .before .before .before .before .read-file .ensures in
     let gave = known .before .read .given .1 in
-    prints-as (text-row _ _ _ _ (read-given _ _ _ _ (search needs) read _ gave) (read-row _ _ _ _ (search needs) read _ gave))
+    prints-as (text-row _ _ _ _ (read-given _ _ _ _ read _ _ (search needs) gave) (read-row _ _ _ _ read _ gave))
     (c .before .before .played-input .ensures)
 
 same-length-2 : tie.Need-same-length-2
@@ -59,7 +61,7 @@ returns-2 c =
     let known = c .before .before .before .before .before .before in
     let read = known .before .before .before .before .read-file .ensures in
     let refused = known .before .read2 .given .1 in
-    prints-as (refused-parts _ _ _ _ ∙ sym (text-refused _ _ _ _ (read-refused _ _ _ _ (search needs) read _ refused))) (c .before .before .listing .ensures)
+    prints-as (refused-parts _ _ _ _ ∙ sym (text-refused _ _ _ _ (read-refused _ _ _ _ read _ _ (search needs) refused))) (c .before .before .listing .ensures)
 
 pub replay-text-spec : {M : Type 1} → statement M
 replay-text-spec =
