@@ -2,6 +2,7 @@
 // lent for an answer is filled before the call, and what is lent has exactly the room that the question names; behind it lies a
 // margin, filled too, that no call may reach.
 ghost use Prim.Native.Nat.{_<_};
+use resist::Ruling;
 use scope::Answer;
 use scope::Refusal;
 use spare::Spare;
@@ -205,6 +206,64 @@ fn slack(line: &[u8], given: &mut [u16], out: &mut [u8], at: usize) -> usize {
     told_slack(spare::slack(&given[2..n], m, p), out, at)
 }
 
+// A verdict: resistant, or how many pairs with their numbers.
+fn told_ruling(ruling: Ruling, lent: &[u16], out: &mut [u8], at: usize) -> usize {
+    match ruling {
+        Ruling::Resistant => {
+            let last = put(out, at, b"ok resistant");
+            end(out, last, words::kept_16(lent, 0))
+        }
+        Ruling::Failing(pairs) => {
+            let first = put(out, at, b"ok failing ");
+            let next = put_number(out, first, pairs);
+            let written = numbers_of(pairs);
+            let last = put_numbers(out, next, lent, written);
+            end(out, last, words::kept_16(lent, written))
+        }
+        Ruling::Refused(r) => {
+            let last = refused(out, at, r);
+            end(out, last, words::kept_16(lent, 0))
+        }
+    }
+}
+
+// How many numbers so many pairs are; no list has more than three.
+fn numbers_of(pairs: usize) -> usize {
+    if pairs < 4 { 2 * pairs } else { 0 }
+}
+
+fn verdict_row(
+    row: &[u16],
+    k: usize,
+    l: usize,
+    room: usize,
+    lent: &mut [u16],
+    out: &mut [u8],
+    at: usize,
+) -> usize
+    requires { ⌜ room < 65536 ⌝ }
+{
+    let all = room + MARGIN;
+    if lent.len() < all {
+        return unknown(out, at);
+    }
+    words::fill_16(&mut lent[0..all]);
+    let ruling = resist::verdict(row, k, l, &mut lent[0..room]);
+    told_ruling(ruling, &lent[0..all], out, at)
+}
+
+// `verdict K L ROOM ROW...`
+fn verdict(line: &[u8], given: &mut [u16], lent: &mut [u16], out: &mut [u8], at: usize) -> usize {
+    let n = words::numbers(line, 7, given);
+    if n < 3 {
+        return unknown(out, at);
+    }
+    let k = view::number(given, 0);
+    let l = view::number(given, 1);
+    let room = view::number(given, 2);
+    verdict_row(&given[3..n], k, l, room, lent, out, at)
+}
+
 pub fn answer(
     line: &[u8],
     given: &mut [u16],
@@ -221,6 +280,9 @@ pub fn answer(
     }
     if begins(line, b"replay") {
         return replay(line, given, lent, out, at);
+    }
+    if begins(line, b"verdict") {
+        return verdict(line, given, lent, out, at);
     }
     if begins(line, b"slack") {
         return slack(line, given, out, at);
