@@ -68,7 +68,7 @@ module _ (row table weights most : List ℕ) (ps : List Position) (a : Asked) (k
     front : length (take (2 * h .pairs) (h .numbers)) ≡ 2 * h .pairs
     front = length-take-le (2 * h .pairs) (h .numbers) (omega (arith, g .hunts .long, g .hunts .few, k-small))
 
-    less : h .found ≡ true → h .arrivals < l
+    pub less : h .found ≡ true → h .arrivals < l
     less t = omega (arith, g .hunts .left t, g .hunts .some t .fails)
 
     pub may-put : h .found ≡ true → MayPut (length out) l h

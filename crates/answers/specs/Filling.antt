@@ -9,6 +9,7 @@ use Rattle.hunt.specs.declared.Asked.{Asked}
 use Rattle.hunt.specs.declared.Hunted.{Hunted}
 use Rattle.hunt.specs.Search.{AllLeave}
 use Rattle.hunt.specs.Hunt.{MayHunt}
+use Rattle.resist.specs.Verdict.{Judged}
 use Rattle.answers.specs.Answers.{seven, needed}
 
 -- the numbers of a list that was found, and zeros
@@ -44,3 +45,9 @@ pub record MayPut (room l : ℕ) (h : Hunted) : Type 0 where
   pub less : h .arrivals < l
   pub low : l ≤ 32
   pub enough : 7 * (l + 1) ≤ room
+
+-- all answers of a row may be filled
+pub record MayFillAll (row : List ℕ) (k room : ℕ) : Type 0 where
+  pub judged : Judged row
+  pub few : k ≤ 3
+  pub enough : needed (planOf row) ≤ room

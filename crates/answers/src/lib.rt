@@ -12,8 +12,9 @@ ghost use mathlib.Core.List.{_++_, _∷_};
 ghost use lib.ListN.{length, take, drop, replicate};
 ghost use Rattle.scope.specs.Plan.{planOf};
 ghost use Rattle.hunt.specs.Hunt.{Hunts};
+ghost use Rattle.resist.specs.Verdict.{Judged};
 ghost use Rattle.answers.specs.Answers.{AllSaid, AnswersAll};
-ghost use Rattle.answers.specs.Filling.{paddedOf, Filled, MayFill, MayAskOn, MayPut};
+ghost use Rattle.answers.specs.Filling.{paddedOf, Filled, MayFill, MayAskOn, MayPut, MayFillAll};
 
 // The first n of some numbers, and zeros.
 fn padded(numbers: [u16; 6], n: usize) -> [u16; 6]
@@ -107,4 +108,57 @@ fn descend(
     }
     let zeros = [0u16; 6];
     put_answers(out, 0, l + 1, 0, zeros);
+}
+
+// All answers of a good row for k, into a list with room for them.
+fn fill(row: &[u16], k: usize, out: &mut [u16])
+    requires { ⌜ MayFillAll (now row) k (length (now out)) ⌝ }
+    ensures { λ _. ⌜ AllSaid (planOf (now (row .entry))) k (now (out .entry)) (now (out .exit)) ⌝ }
+{
+    let mut table = [0u8; 4096];
+    table::fill_table(row, &mut table);
+    let mut weights = [0u8; 4096];
+    touch::weigh(&table, &mut weights);
+    let mut most = [0u8; 64];
+    touch::tops(&weights, &mut most);
+    let messages = view::messages(row);
+    let ps = cycle::start_all(row, messages);
+    let a = Asked {
+        timeout: view::timeout(row),
+        links: view::links(row),
+        messages,
+        least: 0,
+        need: 0,
+    };
+    descend(row, &table, &weights, &most, ps, a, k, out);
+}
+
+// All answers of a good row: refusals 11 and 13, or how many numbers they are.
+fn all_good(row: &[u16], k: usize, out: &mut [u16]) -> Answer
+    requires { ⌜ Judged (now row) ⌝ }
+    ensures { λ r. ⌜ AnswersAll (now (row .entry)) k (now (out .entry)) (now (out .exit)) r ⌝ }
+{
+    if 3 < k {
+        return Answer::Refused(Refusal { no: 11, place: 0 });
+    }
+    let needed = 7 * (view::messages(row) + 1);
+    if out.len() < needed {
+        return Answer::Refused(Refusal {
+            no: 13,
+            place: needed,
+        });
+    }
+    fill(row, k, out);
+    Answer::Gives(needed)
+}
+
+// All answers of a row for k: a refusal, or how many numbers stand at the front of `out`, seven for each l from 0 to M.
+pub fn all_answers(row: &[u16], k: usize, out: &mut [u16]) -> Answer
+    ensures { λ r. ⌜ AnswersAll (now (row .entry)) k (now (out .entry)) (now (out .exit)) r ⌝ }
+{
+    let judged = plan::judge(row);
+    match judged {
+        Answer::Refused(refusal) => Answer::Refused(refusal),
+        Answer::Gives(_) => all_good(row, k, out),
+    }
 }

@@ -1,3 +1,5 @@
+-- `answers::ask` meets its contract.
+use Rattle.answers.proofs.Descending.{ask-on}
 use borrow.Author.Needs.{needs}
 use Rattle.answers.proofs.ask.Statement.{statement}
 use Rattle.answers.proofs.ask.Tie as tie
@@ -12,7 +14,7 @@ need-requires c κs = search needs
 
 -- src/lib.rt:72:5
 first-list-requires : tie.Need-first-list-requires
-first-list-requires c κs = ?
+first-list-requires c κs = ask-on _ _ _ _ _ _ _ _ _ _ (c .before .before .before .before .before .pre) (c .need .ensures)
 
 -- src/lib.rt:51:1
 returns : tie.Need-returns

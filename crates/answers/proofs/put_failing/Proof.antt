@@ -1,3 +1,4 @@
+-- `answers::put_failing` meets its contract.
 use borrow.Author.Needs.{needs}
 use Rattle.answers.proofs.put_failing.Statement.{statement}
 use Rattle.answers.proofs.put_failing.Tie as tie
@@ -40,7 +41,7 @@ same-length c = search needs
 
 -- src/lib.rt:76:1
 returns : tie.Need-returns
-returns c = ?
+returns c = rw (c .before .before .before .before .before .padded .ensures) at (c .before .before .put-answers .ensures)
 
 pub put-failing-spec : {M : Type 1} → statement M
 put-failing-spec =

@@ -1,0 +1,52 @@
+use borrow.Author.Needs.{needs}
+use Rattle.answers.proofs.all_good.Statement.{statement}
+use Rattle.answers.proofs.all_good.Tie as tie
+use Rattle.answers.proofs.all_good.Reads as reads
+use Rattle.answers.proofs.all_good.Lts as lts
+use Rattle.answers.proofs.fill.Reads as fill-reads
+use Rattle.view.proofs.messages.Reads as messages-reads
+
+-- src/lib.rt:142:9
+returns : tie.Need-returns
+returns c = ?
+
+-- src/lib.rt:144:23
+messages-requires : tie.Need-messages-requires
+messages-requires c κs = search needs
+
+-- src/lib.rt:144:23
+add-needed : tie.Need-add-needed
+add-needed c = search needs
+
+-- src/lib.rt:144:18
+mul-needed : tie.Need-mul-needed
+mul-needed c = search needs
+
+-- src/lib.rt:146:9
+returns-2 : tie.Need-returns-2
+returns-2 c = ?
+
+-- src/lib.rt:151:5
+fill-requires : tie.Need-fill-requires
+fill-requires c κs = ?
+
+-- src/lib.rt:137:1
+same-length : tie.Need-same-length
+same-length c = search needs
+
+-- src/lib.rt:137:1
+returns-3 : tie.Need-returns-3
+returns-3 c = ?
+
+pub all-good-spec : {M : Type 1} → statement M
+all-good-spec =
+    tie.close
+    (tie.spec
+    returns
+    messages-requires
+    add-needed
+    mul-needed
+    returns-2
+    fill-requires
+    same-length
+    returns-3)
