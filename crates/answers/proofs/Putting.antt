@@ -53,8 +53,15 @@ module _ (out w final : List ℕ) (l : ℕ) (long : length w ≡ 7) (room : 7 * 
 
   size : length final ≡ length out
   size =
-      omega (arith, ap length is, length-append (take (7 * l) out) (w ++ drop (length w) (drop (7 * l) out)), front,
-      length-append w (drop (length w) (drop (7 * l) out)), length-drop (length w) (drop (7 * l) out), length-drop (7 * l) out)
+      omega (
+        arith,
+        ap length is,
+        length-append (take (7 * l) out) (w ++ drop (length w) (drop (7 * l) out)),
+        front,
+        length-append w (drop (length w) (drop (7 * l) out)),
+        length-drop (length w) (drop (7 * l) out),
+        length-drop (7 * l) out,
+      )
 
   there : seven l final ≡ w
   there =

@@ -1,3 +1,6 @@
+-- `answers::all_answers` meets its contract: refusals 1 to 10, or what `all_good` answers.
+use Rattle.plan.proofs.Ways.{gave, refused-as}
+use Rattle.answers.proofs.Ways.{bad-row}
 use borrow.Author.Needs.{needs}
 use Rattle.answers.proofs.all_answers.Statement.{statement}
 use Rattle.answers.proofs.all_answers.Tie as tie
@@ -20,11 +23,11 @@ enum-told c = search needs
 
 -- src/lib.rt:162:29
 all-good-requires : tie.Need-all-good-requires
-all-good-requires c κs = ?
+all-good-requires c κs = record { size = _; good = gave _ (c .before .enum-told .given .1) (c .before .before .before .judge .ensures) }
 
 -- src/lib.rt:156:1
 returns : tie.Need-returns
-returns c = ?
+returns c = bad-row (c .before .before .before .before .before .before .args .row .now) (c .before .before .before .before .before .before .args .k) (c .before .before .before .before .before .before .args .out .now) _ (refused-as _ (c .before .judged .given .1) (c .before .before .before .judge .ensures))
 
 -- src/lib.rt:156:1
 same-length : tie.Need-same-length

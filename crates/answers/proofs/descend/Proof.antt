@@ -18,7 +18,7 @@ abbrev μ-loop : tie.MeasureT-loop
 
 -- src/lib.rt:101:9
 ask-requires : tie.Need-ask-requires Inv-loop μ-loop
-ask-requires c κs = ask-first _ _ _ _ _ _ _ _ (c .before .before .before .before .before .pre) _ refl
+ask-requires c κs = ask-first _ _ _ _ _ _ _ (c .before .before .before .before .before .args .out .now) (c .before .before .before .before .before .pre) _ refl
 
 -- src/lib.rt:102:5
 loop-holds : tie.Need-loop-holds Inv-loop μ-loop

@@ -1,3 +1,6 @@
+-- `answers::fill` meets its contract: what the search is lent is right.
+use Rattle.resist.proofs.Asking.{lies, may-start}
+use Rattle.answers.proofs.Ways.{may-fill}
 use borrow.Author.Needs.{needs}
 use Rattle.answers.proofs.fill.Statement.{statement}
 use Rattle.answers.proofs.fill.Tie as tie
@@ -18,7 +21,7 @@ slice-aggregate-fill-table c = search needs
 
 -- src/lib.rt:119:5
 fill-table-requires : tie.Need-fill-table-requires
-fill-table-requires c κs = ?
+fill-table-requires c κs = (search needs, lies (c .before .before .before .args .row .now) (c .before .before .before .pre .judged) .messages)
 
 -- src/lib.rt:121:18
 slice-aggregate-weigh : tie.Need-slice-aggregate-weigh
@@ -50,7 +53,7 @@ messages-requires c κs = search needs
 
 -- src/lib.rt:125:9
 start-all-requires : tie.Need-start-all-requires
-start-all-requires c κs = ?
+start-all-requires c κs = may-start (c .before .before .before .before .before .before .before .before .before .before .before .before .before .before .args .row .now) (c .before .before .before .before .before .before .before .before .before .before .before .before .before .before .pre .judged) _ (c .messages .ensures .is)
 
 -- src/lib.rt:127:18
 timeout-requires : tie.Need-timeout-requires
@@ -74,7 +77,7 @@ slice-aggregate-descend-3 c = search needs
 
 -- src/lib.rt:133:5
 descend-requires : tie.Need-descend-requires
-descend-requires c κs = ?
+descend-requires c κs = may-fill (c .before .before .before .before .before .before .before .before .before .before .before .before .before .before .before .before .before .before .before .before .before .args .row .now) _ _ (c .before .before .before .before .before .before .before .before .before .before .before .before .before .before .before .before .before .before .before .before .before .pre) _ _ _ (c .before .before .before .before .before .timeout .ensures .is) (c .before .before .before .before .links .ensures .is) (c .before .before .before .before .before .before .before .messages .ensures .is) _ _ _ _ (c .before .before .before .before .before .before .before .before .before .before .before .before .before .before .before .before .before .fill-table .ensures) (c .before .before .before .before .before .before .before .before .before .before .before .before .before .weigh .ensures) (c .before .before .before .before .before .before .before .before .before .tops .ensures) (c .before .before .before .before .before .before .start-all .ensures) 0 0
 
 -- src/lib.rt:114:1
 same-length : tie.Need-same-length
