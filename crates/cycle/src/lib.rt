@@ -112,7 +112,7 @@ fn put_event(out: &mut [u16], k: usize, event: Event)
     ensures { λ _. ⌜ now (out .exit) ≡ set (set (now (out .entry)) k (eventOf event .kind)) (k + 1) (eventOf event .number) ⌝ }
 {
     out[k] = event.kind();
-    out[k + 1] = event.what();
+    out[k + 1] = event.number();
 }
 
 // All messages act, on what all try. Their events go to the front of `out`.

@@ -42,6 +42,10 @@ module _ {text b : List ℕ} {n : ℕ} (p : Puts text [] b 0 n) where
         buffer = q .buffer ∙ ap (λ (x : List ℕ). laid (x ++ entry) 0 text) counted ∙ laid-front entry text room;
       }
 
+-- a text under another name
+pub prints-as : {text text′ entry exit : List ℕ} {r : Answer} → text ≡ text′ → Prints text entry exit r → Prints text′ entry exit r
+prints-as e p = rw e at p
+
 -- two outcomes that the statement allows are equal
 same-answer : (r s : Answer) → outcomeOf r ≡ outcomeOf s → r ≡ s
 same-answer (Gives n) (Gives m) e = cc

@@ -1,0 +1,58 @@
+-- What a caller of `plan::read_file` learns whose buffer has a known length: the outcome, and that the front of the buffer is the row.
+use Prim.Native.Nat.{ℕ, _≤_}
+use mathlib.Core.Path.{_≡_, refl, sym, _∙_, ap}
+use mathlib.Core.Bool.{Bool, true, false, cond}
+use mathlib.Core.List.{List, _++_}
+use native.Mathlib.Omega.{arith}
+use lib.ListN.{length, take, drop, length-append}
+use lib.Seq.{take-at}
+use lib.Dec.{leb}
+use borrow.Author.Tests.{leb-true}
+use Rattle.scope.specs.declared.Answer.{Answer}
+use Rattle.scope.specs.declared.Answer.the-variants.{Gives, Refused}
+use Rattle.scope.specs.declared.Refusal.{Refusal}
+use Rattle.scope.specs.Outcome.{Outcome, gives, refused, andThen, room}
+use Rattle.scope.specs.File.{walkFile, rowOf}
+use Rattle.scope.specs.Plan.{planOf}
+use Rattle.scope.specs.Good.{rules}
+use Rattle.scope.specs.Questions.{after, readFile}
+use Rattle.plan.specs.Answers.{Reads}
+use Rattle.plan.proofs.Outcomes.{then-back}
+use Rattle.plan.proofs.Ways.{gave, refused-as}
+
+room-back : (needed lent n : ℕ) → room needed lent ≡ gives n → (n ≡ needed) × (needed ≤ lent)
+room-back needed lent n e = by (leb needed lent) refl e
+  where
+    by : (t : Bool) → leb needed lent ≡ t → cond t (gives needed) (refused 13 needed) ≡ gives n → (n ≡ needed) × (needed ≤ lent)
+    by true l e = (cc, leb-true needed lent l)
+    by false l e = let z : _≡_ {A = ℕ} 0 1 = cc in absurd (omega arith)
+
+-- how many numbers the row has, and that there is room for them
+pub read-room : (file : List ℕ) (lent n : ℕ) → readFile file lent ≡ gives n → (n ≡ length (rowOf file)) × (length (rowOf file) ≤ lent)
+unfolding readFile
+read-room file lent n e =
+    let w = then-back (walkFile file) (λ _. andThen (rules (planOf (rowOf file))) (λ _. room (length (rowOf file)) lent)) n e in
+    let r = then-back (rules (planOf (rowOf file))) (λ _. room (length (rowOf file)) lent) n (w .2) in
+    room-back (length (rowOf file)) lent n (r .2)
+
+-- a file that was read
+module _ (file entry exit : List ℕ) (a : Answer) (h : Reads file entry exit a) where
+  pub read-given : (lent n : ℕ) → length entry ≡ lent → a ≡ Gives n → readFile file lent ≡ gives n
+  read-given lent n l e = ap (readFile file) (sym l) ∙ gave n e (h .answer)
+
+  pub read-refused : (lent : ℕ) (r : Refusal) → length entry ≡ lent → a ≡ Refused r → readFile file lent ≡ refused (r .no) (r .place)
+  read-refused lent r l e = ap (readFile file) (sym l) ∙ refused-as r e (h .answer)
+
+  module _ (n : ℕ) (e : a ≡ Gives n) where
+    written : exit ≡ rowOf file ++ drop (length (rowOf file)) entry
+    unfolding after
+    written = h .buffer ∙ ap (λ (o : Outcome). after o (rowOf file) entry) (gave n e (h .answer))
+
+    count : n ≡ length (rowOf file)
+    count = read-room file (length entry) n (gave n e (h .answer)) .0
+
+    pub read-row : take n exit ≡ rowOf file
+    read-row = ap (take n) written ∙ take-at (rowOf file) (drop (length (rowOf file)) entry) n (sym count)
+
+    pub read-fit : n ≤ length exit
+    read-fit = omega (arith, simp length-append at (ap length written), count)

@@ -1,0 +1,46 @@
+-- `replay_text::played_input` meets its contract: the cuts of 65 lines print what the whole input prints.
+use Prim.Native.Nat.{ℕ}
+use mathlib.Core.Path.{_≡_, sym, _∙_, ap}
+use borrow.Author.Needs.{needs}
+use lib.ListN.{length}
+use lib.Seq.{length-take-le}
+use Rattle.replay_text.specs.Text.{textOf}
+use Rattle.listing.proofs.Printing.{prints-as}
+use Rattle.replay_text.proofs.Text.{cuts-fit, cuts-read, input-text}
+use Rattle.replay_text.proofs.played_input.Statement.{statement}
+use Rattle.replay_text.proofs.played_input.Tie as tie
+
+slice-aggregate-cuts : tie.Need-slice-aggregate-cuts
+slice-aggregate-cuts c = search needs
+
+cuts-requires : tie.Need-cuts-requires
+cuts-requires c κs = search needs
+
+array-share-prefix-pairs : tie.Need-array-share-prefix-pairs
+array-share-prefix-pairs c = cuts-fit _ _ _ _ (c .before .cuts .ensures)
+
+slice-aggregate-played : tie.Need-slice-aggregate-played
+slice-aggregate-played c = sym (length-take-le _ _ (cuts-fit _ _ _ _ (c .before .before .cuts .ensures)))
+
+played-requires : tie.Need-played-requires
+played-requires c κs = search needs
+
+same-length : tie.Need-same-length
+same-length c = search needs
+
+returns : tie.Need-returns
+returns c =
+    let read = c .before .before .before .before .before .before .cuts .ensures in
+    prints-as (ap (textOf _) (cuts-read _ _ _ _ (search needs) read) ∙ input-text _ _) (c .before .before .played .ensures)
+
+pub played-input-spec : {M : Type 1} → statement M
+played-input-spec =
+    tie.close
+    (tie.spec
+    slice-aggregate-cuts
+    cuts-requires
+    array-share-prefix-pairs
+    slice-aggregate-played
+    played-requires
+    same-length
+    returns)
