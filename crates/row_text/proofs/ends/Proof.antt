@@ -3,8 +3,6 @@ use borrow.Author.Needs.{needs}
 use borrow.Author.Tests.{eq-eqb, ne-eqb}
 use Rattle.row_text.proofs.ends.Statement.{statement}
 use Rattle.row_text.proofs.ends.Tie as tie
-use Rattle.row_text.proofs.ends.Reads as reads
-use Rattle.row_text.proofs.ends.Lts as lts
 
 returns : tie.Need-returns
 returns c = rw (c .before .if1 .taken, eq-eqb (c .before .before .args .b) 32 (c .if2 .taken))

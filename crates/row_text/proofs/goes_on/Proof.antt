@@ -3,8 +3,6 @@ use borrow.Author.Needs.{needs}
 use borrow.Author.Tests.{le-leb, lt-leb, lt-ltb, le-ltb}
 use Rattle.row_text.proofs.goes_on.Statement.{statement}
 use Rattle.row_text.proofs.goes_on.Tie as tie
-use Rattle.row_text.proofs.goes_on.Reads as reads
-use Rattle.row_text.proofs.goes_on.Lts as lts
 
 returns : tie.Need-returns
 returns c = rw (lt-leb 48 (c .before .args .b) (c .if1 .taken))
