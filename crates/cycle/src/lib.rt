@@ -112,7 +112,7 @@ fn put_event(out: &mut [u16], k: usize, event: Event)
     ensures { λ _. ⌜ now (out .exit) ≡ set (set (now (out .entry)) k (eventOf event .kind)) (k + 1) (eventOf event .number) ⌝ }
 {
     out[k] = event.kind();
-    out[k + 1] = event.what();
+    out[k + 1] = event.number();
 }
 
 // All messages act, on what all try. Their events go to the front of `out`.
@@ -143,7 +143,7 @@ fn act_all(
 }
 
 // One slot of all messages: they turn, they try, they act.
-fn run_slot(
+pub fn run_slot(
     ps: [Position; 32],
     n: usize,
     row: &[u16],
@@ -168,7 +168,7 @@ fn home_one(p: Position) -> usize
 }
 
 // How many of the first n messages are at their targets.
-fn count_home(ps: [Position; 32], n: usize) -> usize
+pub fn count_home(ps: [Position; 32], n: usize) -> usize
     requires { ⌜ n ≤ 32 ⌝ }
     ensures { λ r. ⌜ ((row : List ℕ) → r ≡ arrived (positionsOf row n ps)) ⌝ }
 {
@@ -183,7 +183,7 @@ fn count_home(ps: [Position; 32], n: usize) -> usize
 }
 
 // The first positions of n messages: "A message starts where its first path begins."
-fn start_all(row: &[u16], n: usize) -> [Position; 32]
+pub fn start_all(row: &[u16], n: usize) -> [Position; 32]
     requires { ⌜ MayStart (now row) n ⌝ }
     ensures { λ r. ⌜ Become (now (row .entry)) n (map onFirst (messagesAt (now (row .entry)) (firstMessage (now (row .entry))) n)) r ⌝ }
 {

@@ -34,7 +34,7 @@ pub fn judge(row: &[u16]) -> Answer
 }
 
 // One list of numbers into the front of another.
-fn copy(from: &[u16], to: &mut [u16])
+pub fn copy(from: &[u16], to: &mut [u16])
     requires { ⌜ length (now from) ≤ length (now to) ⌝ }
     ensures { λ r. ⌜ now (to .exit) ≡ now (from .entry) ++ drop (length (now (from .entry))) (now (to .entry)) ⌝ }
 {

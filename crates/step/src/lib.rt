@@ -72,7 +72,7 @@ impl Event {
         }
     }
 
-    pub fn what(self) -> u16
+    pub fn number(self) -> u16
         ensures { λ r. ⌜ r ≡ eventOf self .number ⌝ }
     {
         match self {

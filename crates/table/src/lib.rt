@@ -13,9 +13,9 @@ pub fn entry(table: &[u8], slot: usize, link: usize) -> usize
     requires { ⌜ (slot < 65536) × (link < 65536) ⌝ }
     ensures { λ r. ⌜ Is (entryAt (now (table .entry)) slot link) 255 r ⌝ }
 {
-    let k = slot * 64 + link;
-    if k < table.len() {
-        table[k] as usize
+    let at = slot * 64 + link;
+    if at < table.len() {
+        table[at] as usize
     } else {
         0
     }

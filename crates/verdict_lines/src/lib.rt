@@ -58,7 +58,7 @@ fn distance(z: i32) -> usize
 }
 
 // A number that may be below zero.
-fn put_signed(out: &mut [u8], at: usize, z: i32) -> usize
+pub fn put_signed(out: &mut [u8], at: usize, z: i32) -> usize
     requires { ⌜ Told at (signed z) ⌝ }
     ensures { λ r. ⌜ Puts (signed z) (now (out .entry)) (now (out .exit)) at r ⌝ }
 {

@@ -1,4 +1,4 @@
--- `cycle::put_event` meets its contract: what `kind` and `what` give is stored. Assumes nothing.
+-- `cycle::put_event` meets its contract: what `kind` and `number` give is stored. Assumes nothing.
 use borrow.Author.Needs.{needs}
 use Rattle.cycle.proofs.put_event.Statement.{statement}
 use Rattle.cycle.proofs.put_event.Tie as tie
@@ -12,8 +12,8 @@ mul-out c = search needs
 slice-write-out : tie.Need-slice-write-out
 slice-write-out c = search needs
 
-what-requires : tie.Need-what-requires
-what-requires c κs = search needs
+number-requires : tie.Need-number-requires
+number-requires c κs = search needs
 
 add-out : tie.Need-add-out
 add-out c = search needs
@@ -28,7 +28,7 @@ same-length : tie.Need-same-length
 same-length c = search needs
 
 returns : tie.Need-returns
-returns c = rw (← c .before .kind .ensures, ← c .what .ensures)
+returns c = rw (← c .before .kind .ensures, ← c .number .ensures)
 
 pub put-event-spec : {M : Type 1} → statement M
 put-event-spec =
@@ -37,7 +37,7 @@ put-event-spec =
     kind-requires
     mul-out
     slice-write-out
-    what-requires
+    number-requires
     add-out
     mul-out-2
     slice-write-out-2

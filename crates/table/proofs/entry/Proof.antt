@@ -7,11 +7,11 @@ use lib.ListN.{List·getD-eq-default}
 use Rattle.table.proofs.entry.Statement.{statement}
 use Rattle.table.proofs.entry.Tie as tie
 
-mul-k : tie.Need-mul-k
-mul-k c = search needs
+mul-at : tie.Need-mul-at
+mul-at c = search needs
 
-add-k : tie.Need-add-k
-add-k c = search needs
+add-at : tie.Need-add-at
+add-at c = search needs
 
 shared-slice-read-result : tie.Need-shared-slice-read-result
 shared-slice-read-result c = search needs
@@ -28,4 +28,4 @@ returns-2 c = record { is = sym (List·getD-eq-default (c .before .args .table .
 
 pub entry-spec : {M : Type 1} → statement M
 entry-spec =
-    tie.close (tie.spec mul-k add-k shared-slice-read-result cast-result returns returns-2)
+    tie.close (tie.spec mul-at add-at shared-slice-read-result cast-result returns returns-2)

@@ -1,0 +1,109 @@
+-- All answers at once: one law for each answer, that a row, k and a list allow one outcome, and that each answer is the verdict's.
+use Prim.Native.Nat.{ℕ, zero, suc, _+_, _-_, _*_, _/_, _≤_, _<_}
+use native.Mathlib.Omega.{arith}
+use mathlib.Core.Path.{_≡_, refl, sym, _∙_, ap, ap₂, subst}
+use mathlib.Core.Logic.{_⊎_, inl, inr, ⊎-elim}
+use mathlib.Core.Bool.{Bool, true, false, _||_}
+use mathlib.Core.List.{List, [], _∷_, _++_, map}
+use lib.ListN.{length, take, drop, take-append-drop}
+use lib.Seq.{take-add}
+use lib.Dec.{ltb, leb}
+use borrow.Author.Tests.{lt-ltb, le-ltb, le-leb, lt-leb}
+use Rattle.scope.specs.declared.Answer.{Answer}
+use Rattle.scope.specs.declared.Answer.the-variants.{Gives, Refused}
+use Rattle.scope.specs.declared.Refusal.{Refusal}
+use Rattle.scope.specs.Outcome.{Outcome, gives, refused, outcomeOf}
+use Rattle.scope.specs.Plan.{Plan, planOf, messageCount, linkCount, timeoutOf, firstMessage, messagesAt}
+use Rattle.scope.specs.Slot.{onFirst}
+use Rattle.scope.specs.Cycle.{tableOf}
+use Rattle.scope.specs.Questions.{judge}
+use Rattle.scope.proofs.Order.{first-once, resistant-or-failing}
+use Rattle.view.proofs.Parts.{message-count}
+use Rattle.table.specs.Table.{Table}
+use Rattle.touch.specs.Weights.{Weighs, Tops}
+use Rattle.plan.proofs.Outcomes.{same-answer}
+use Rattle.step.specs.declared.Position.{Position}
+use Rattle.cycle.specs.Stand.{Become}
+use Rattle.hunt.specs.declared.Asked.{Asked}
+use Rattle.resist.specs.Verdict.{Judged}
+use Rattle.resist.proofs.Asking.{lies, may-hunt}
+use Rattle.answers.specs.Answers.{Says, SaysResistant, SaysFailing, failing, seven, needed, mayAnswer, AllSaid, After, AnswersAll}
+use Rattle.answers.specs.Filling.{MayFill, MayFillAll}
+
+-- what the search is lent
+module _ (row : List ℕ) (k room : ℕ) (m : MayFillAll row k room) (t e n : ℕ) (ht : t ≡ timeoutOf row) (he : e ≡ linkCount row) (hn : n ≡ messageCount row)
+    (table weights most : List ℕ) (ps : List Position) (tab : Table (tableOf (planOf row)) table) (w : Weighs table weights) (top : Tops weights most)
+    (b : Become row n (map onFirst (messagesAt row (firstMessage row) n)) ps) where
+  pub may-fill : (l d : ℕ) → MayFill row table weights most ps (record { timeout = t; links = e; messages = n; least = l; need = d }) k room
+  may-fill l d =
+      record {
+        messages = hn ∙ sym (message-count row);
+        few = omega (arith, lies row (m .judged) .messages);
+        enough = m .enough;
+        hunt = λ l need h. may-hunt row (m .judged) t e n ht he hn table weights most ps tab w top b k l need (m .few) h;
+      }
+
+-- the answers
+written : (o : Outcome) (plan : Plan) (k n p : ℕ) (entry : List ℕ) → o ≡ refused n p → After o plan k entry entry
+written o plan k n p entry e = rw e refl
+
+pub bad-row : (row : List ℕ) (k : ℕ) (entry : List ℕ) (r : Refusal) → judge row ≡ refused (r .no) (r .place) → AnswersAll row k entry entry (Refused r)
+unfolding mayAnswer
+bad-row row k entry r e =
+    let o : mayAnswer row k (length entry) ≡ refused (r .no) (r .place) = rw e in
+    record { answer = sym o; buffer = written (mayAnswer row k (length entry)) (planOf row) k (r .no) (r .place) entry o }
+
+module _ (row : List ℕ) (k : ℕ) (entry : List ℕ) (j : Judged row) where
+  pub k-too-large : 3 < k → AnswersAll row k entry entry (Refused (record { no = 11; place = 0 }))
+  unfolding mayAnswer
+  k-too-large h =
+      let o : mayAnswer row k (length entry) ≡ refused 11 0 = rw (j .good, lt-ltb 3 k h) in
+      record { answer = sym o; buffer = written (mayAnswer row k (length entry)) (planOf row) k 11 0 entry o }
+
+  module _ (few : k ≤ 3) (m n : ℕ) (hm : m ≡ messageCount row) (hn : n ≡ 7 * (m + 1)) where
+    room-is : needed (planOf row) ≡ n
+    room-is = omega (arith, message-count row)
+
+    pub too-short : length entry < n → AnswersAll row k entry entry (Refused (record { no = 13; place = n }))
+    unfolding mayAnswer
+    too-short h =
+        let o : mayAnswer row k (length entry) ≡ refused 13 n = rw (j .good, le-ltb 3 k few, room-is, lt-leb n (length entry) h) in
+        record { answer = sym o; buffer = written (mayAnswer row k (length entry)) (planOf row) k 13 n entry o }
+
+    module _ (enough : n ≤ length entry) where
+      pub may-fill-all : MayFillAll row k (length entry)
+      may-fill-all = record { judged = j; few = few; enough = omega (arith, room-is) }
+
+      pub answered : (exit : List ℕ) → AllSaid (planOf row) k entry exit → AnswersAll row k entry exit (Gives n)
+      unfolding mayAnswer
+      answered exit all =
+          let o : mayAnswer row k (length entry) ≡ gives n = rw (j .good, le-ltb 3 k few, room-is, le-leb n (length entry) enough) in
+          record { answer = sym o; buffer = subst (λ (x : Outcome). After x (planOf row) k entry exit) (sym o) all }
+
+-- the seven numbers for an l follow from the plan
+pub says-once : (plan : Plan) (k l : ℕ) (a b : List ℕ) → Says plan k l a → Says plan k l b → a ≡ b
+says-once plan k l a b (inl x) (inl y) = x .is ∙ sym (y .is)
+says-once plan k l a b (inl x) (inr y) = absurd (resistant-or-failing plan k l (y .cuts) (x .resists) (y .first))
+says-once plan k l a b (inr x) (inl y) = absurd (resistant-or-failing plan k l (x .cuts) (y .resists) (x .first))
+says-once plan k l a b (inr x) (inr y) = x .is ∙ ap failing (first-once plan k l (x .cuts) (y .cuts) (x .first) (y .first)) ∙ sym (y .is)
+
+fronts : (plan : Plan) (k : ℕ) (x y : List ℕ) → ((l : ℕ) → l ≤ length (plan .messages) → Says plan k l (seven l x)) →
+    ((l : ℕ) → l ≤ length (plan .messages) → Says plan k l (seven l y)) → (n : ℕ) → n ≤ length (plan .messages) + 1 → take (7 * n) x ≡ take (7 * n) y
+fronts plan k x y f g zero h = refl
+fronts plan k x y f g (suc n) h =
+    let e : 7 * suc n ≡ 7 * n + 7 = omega arith in
+    ap (λ (i : ℕ). take i x) e ∙ take-add (7 * n) 7 x ∙
+    ap₂ _++_ (fronts plan k x y f g n (omega arith)) (says-once plan k n (seven n x) (seven n y) (f n (omega arith)) (g n (omega arith))) ∙
+    sym (take-add (7 * n) 7 y) ∙ ap (λ (i : ℕ). take i y) (sym e)
+
+said-once : (o : Outcome) (plan : Plan) (k : ℕ) (entry x y : List ℕ) → After o plan k entry x → After o plan k entry y → x ≡ y
+said-once (gives n) plan k entry x y a b =
+    sym (take-append-drop (needed plan) x) ∙
+    ap₂ _++_ (fronts plan k x y (a .each) (b .each) (length (plan .messages) + 1) (omega arith)) (a .rest ∙ sym (b .rest)) ∙
+    take-append-drop (needed plan) y
+said-once (refused n p) plan k entry x y a b = a ∙ sym b
+
+-- two outcomes that the statement allows are equal
+pub one-outcome : (row : List ℕ) (k : ℕ) (entry x y : List ℕ) (r s : Answer) → AnswersAll row k entry x r → AnswersAll row k entry y s → (r ≡ s) × (x ≡ y)
+one-outcome row k entry x y r s a b =
+    (same-answer r s (a .answer ∙ sym (b .answer)), said-once (mayAnswer row k (length entry)) (planOf row) k entry x y (a .buffer) (b .buffer))

@@ -1,0 +1,11 @@
+pub mod Some
+pub mod Pairs
+pub mod Prefix
+pub mod Before
+pub mod Weigh
+pub mod Steps
+pub mod Answer
+pub mod Playing
+pub mod Picking
+pub mod Levels
+pub mod Hunting

@@ -1,0 +1,90 @@
+-- What is lent to the play, the table and the first slot in which each link is cut, says what the plan and the list say.
+use Prim.Native.Nat.{ℕ, zero, suc, _+_, _-_, _*_, _/_, _≤_, _<_}
+use native.Mathlib.Omega.{arith}
+use mathlib.Core.Path.{_≡_, refl, sym, _∙_, ap, ap₂, fun-ext}
+use mathlib.Core.Bool.{Bool, true, false, true≢false}
+use mathlib.Core.List.{List, [], _∷_, _++_, map}
+use lib.ListN.{length, getD, take, List·getD-eq-default}
+use lib.Dec.{ltb, leb}
+use borrow.Author.Tests.{ltb-true, ltb-false, lt-leb}
+use Rattle.scope.specs.Plan.{Plan, planOf}
+use Rattle.scope.specs.Slot.{Position, turn, tries}
+use Rattle.scope.specs.Cuts.{pairs, cutLink, isCut, isCutList}
+use Rattle.scope.specs.Cycle.{byNumber, tableOf, start, moves, slot, nexts, positions, arrived, arrivals}
+use Rattle.scope.proofs.Cuts.{link-below}
+use Rattle.laws.proofs.Cuts.{not-cut}
+use Rattle.cuts.specs.From.{never, cutFrom, downOf, Tells}
+use Rattle.step.specs.declared.Position as P
+use Rattle.cycle.specs.Stand.{positionsOf, Stand, Become}
+use Rattle.cycle.specs.Slot.{ownerOf}
+use Rattle.cycle.specs.Play.{endsWith}
+use Rattle.cycle.proofs.Agree.{positions-same}
+use Rattle.hunt.specs.declared.Asked.{Asked}
+use Rattle.hunt.specs.declared.Picked.{Picked}
+use Rattle.hunt.specs.declared.Found.{Found}
+use Rattle.hunt.specs.Hunt.{cutsOf, Playable, Holding, StandAt, MaySettle, MayAdvance, Sought}
+use Rattle.hunt.proofs.Prefix.{played-from, one-slot}
+use Rattle.hunt.proofs.Steps.{nothing-more, itself}
+
+module _ (row table : List ℕ) (a : Asked) (p : Picked) (y : Playable row table a) (h : Holding row a p) where
+  -- links from 64 on are never down
+  down-is : (i e : ℕ) → i < 64 → downOf (p .from) i e ≡ isCut (cutsOf p) i e
+  down-is i e l = by (ltb e 64) refl
+    where
+      by : (b : Bool) → ltb e 64 ≡ b → downOf (p .from) i e ≡ isCut (cutsOf p) i e
+      by true t = h .tells .is i e (omega arith) (ltb-true e 64 t)
+      by false t =
+          let far : 64 ≤ e = ltb-false e 64 t in
+          ap (λ (s : ℕ). leb s i) (List·getD-eq-default (p .from) 65535 (omega (arith, h .tells .long))) ∙ lt-leb 65535 i (omega arith) ∙
+          sym (not-cut (cutsOf p) i e (λ j k same.
+          absurd (omega (arith, same, link-below (planOf row) (cutsOf p) (h .chosen .good) j k, y .links, y .few))))
+
+  plays : (s n : ℕ) (qs : List Position) → s + n ≤ 64 →
+      endsWith table (p .from) s n qs ≡ positions byNumber (isCut (cutsOf p)) (tableOf (planOf row)) s n qs
+  plays s n qs l =
+      positions-same byNumber (downOf (p .from)) (isCut (cutsOf p)) (ownerOf table) (tableOf (planOf row)) n s qs
+      (λ j u. (fun-ext (λ e. down-is j e (omega arith)), y .owner j (omega arith)))
+
+  -- a list that was played to the end
+  pub played : (ps : List P.Position) (r : ℕ) → StandAt row (a .messages) (cutsOf p) (p .slot) ps →
+      r ≡ arrived (endsWith table (p .from) (p .slot) (a .timeout - p .slot) (positionsOf row (a .messages) ps)) → r ≡ arrivals (planOf row) (cutsOf p)
+  played ps r stand e =
+      let t : a .timeout ≡ planOf row .timeout = y .timeout in
+      e ∙ ap arrived (plays (p .slot) (a .timeout - p .slot) (positionsOf row (a .messages) ps) (omega (arith, y .short, h .slot))) ∙
+      ap (λ (n : ℕ). arrived (positions byNumber (isCut (cutsOf p)) (tableOf (planOf row)) (p .slot) (n - p .slot) (positionsOf row (a .messages) ps))) t ∙
+      sym (played-from (planOf row) (cutsOf p) (p .slot) (positionsOf row (a .messages) ps) (omega (arith, h .slot)) (stand .is))
+
+  -- and one slot on
+  pub advanced : (s : ℕ) (ps qs : List P.Position) → s < a .timeout → StandAt row (a .messages) (cutsOf p) s ps →
+      Become row (a .messages) (nexts (slot byNumber (downOf (p .from)) (ownerOf table) s (positionsOf row (a .messages) ps))) qs →
+      StandAt row (a .messages) (cutsOf p) (s + 1) qs
+  unfolding positions
+  advanced s ps qs l stand b =
+      record {
+        is =
+            b .is ∙ plays s 1 (positionsOf row (a .messages) ps) (omega (arith, y .short)) ∙
+            ap (positions byNumber (isCut (cutsOf p)) (tableOf (planOf row)) s 1) (stand .is) ∙ sym (one-slot (planOf row) (cutsOf p) s);
+        stand = b .stand;
+      }
+
+  pub settled-none : (r : Found) (n : ℕ) → r .found ≡ false → length (r .numbers) ≡ 6 → n ≡ arrivals (planOf row) (cutsOf p) → a .least ≤ n →
+      Sought row (a .least) p 0 r
+  settled-none r n f l e enough =
+      record {
+        long = l;
+        none = λ g. nothing-more (planOf row) (a .least) (cutsOf p) (omega arith);
+        some = λ g. absurd (true≢false (sym g ∙ f));
+        left = λ g. absurd (true≢false (sym g ∙ f));
+      }
+
+  pub settled-some : (r : Found) (n : ℕ) → r .arrivals ≡ n → r .numbers ≡ p .numbers → r .found ≡ true → n ≡ arrivals (planOf row) (cutsOf p) →
+      n < a .least → Sought row (a .least) p 0 r
+  settled-some r n i m f e few =
+      let z : p .count + 0 ≡ p .count = omega arith in
+      let same : take (2 * (p .count + 0)) (r .numbers) ≡ cutsOf p = ap₂ (λ (k : ℕ) (l : List ℕ). take (2 * k) l) z m in
+      record {
+        long = ap length m ∙ h .long;
+        none = λ g. absurd (true≢false (sym f ∙ g));
+        some = λ g. rw same (itself (planOf row) (a .least) (cutsOf p) (h .chosen .good) (omega arith));
+        left = λ g. i ∙ e ∙ ap (arrivals (planOf row)) (sym same);
+      }

@@ -1,0 +1,66 @@
+-- A list with one pair more: what it cuts, and where the messages stand when that pair's slot begins.
+use Prim.Native.Nat.{ℕ, _+_, _-_, _*_, _/_, _≤_, _<_}
+use native.Mathlib.Omega.{arith}
+use mathlib.Core.Path.{_≡_, refl, sym, _∙_, ap, ap₂}
+use mathlib.Core.Bool.{Bool, true, false, _&&_, _||_, and-false, or-false}
+use mathlib.Core.List.{List, [], _∷_, _++_}
+use lib.ListN.{length, getD, length-append}
+use lib.Dec.{leb, eqb}
+use borrow.Author.Tests.{lt-leb}
+use Rattle.scope.specs.Lowest.{some}
+use Rattle.scope.specs.Plan.{Plan}
+use Rattle.scope.specs.Slot.{Position}
+use Rattle.scope.specs.Cuts.{pairs, cutSlot, cutLink, isCut}
+use Rattle.scope.specs.Cycle.{byNumber, tableOf, start, positions, arrived, arrivals}
+use Rattle.laws.proofs.Replay.{positions-follow, depends-on-these-slots}
+use Rattle.hunt.proofs.Some.{some-same, some-more}
+use Rattle.hunt.proofs.Pairs.{slot-left, link-left, slot-right, link-right, pairs-both}
+
+-- what a list with one pair more cuts
+pub cut-more : (pre : List ℕ) (d s e : ℕ) → length pre ≡ 2 * d → (i x : ℕ) →
+    isCut (pre ++ s ∷ e ∷ []) i x ≡ (isCut pre i x || (eqb e x && leb s i))
+unfolding isCut
+cut-more pre d s e long i x =
+    let y : List ℕ = s ∷ e ∷ [] in
+    let test : ℕ → Bool = λ j. eqb (cutLink (pre ++ y) j) x && leb (cutSlot (pre ++ y) j) i in
+    let old : ℕ → Bool = λ j. eqb (cutLink pre j) x && leb (cutSlot pre j) i in
+    let z : d + 0 ≡ d = omega arith in
+    let k : pairs pre ≡ d = omega arith in
+    let last : test d ≡ (eqb e x && leb s i) =
+    ap₂ (λ (u v : ℕ). eqb u x && leb v i) (rw z at (link-right pre y d long 0)) (rw z at (slot-right pre y d long 0)) in
+    let front : some test d ≡ some old d =
+    some-same test old d (λ j h. ap₂ (λ (u v : ℕ). eqb u x && leb v i) (link-left pre y d long j h) (slot-left pre y d long j h)) in
+    ap (some test) (pairs-both pre y d long 1 refl) ∙ some-more test d ∙ ap₂ _||_ (front ∙ ap (some old) (sym k)) last
+
+-- before that pair's slot nothing differs
+pub same-before : (plan : Plan) (pre : List ℕ) (d s e : ℕ) → length pre ≡ 2 * d →
+    positions byNumber (isCut (pre ++ s ∷ e ∷ [])) (tableOf plan) 0 s (start plan) ≡ positions byNumber (isCut pre) (tableOf plan) 0 s (start plan)
+same-before plan pre d s e long =
+    depends-on-these-slots byNumber (isCut (pre ++ s ∷ e ∷ [])) (isCut pre) (tableOf plan) 0 s (start plan)
+    (λ j x a b. cut-more pre d s e long j x ∙
+    ap (λ (t : Bool). isCut pre j x || (eqb e x && t)) (lt-leb s j (omega arith)) ∙
+    ap (λ (t : Bool). isCut pre j x || t) (and-false (eqb e x)) ∙ or-false (isCut pre j x))
+    .positionsAgree
+
+-- the arrivals, played from time s on
+pub played-from : (plan : Plan) (cuts : List ℕ) (s : ℕ) (ps : List Position) → s ≤ plan .timeout →
+    ps ≡ positions byNumber (isCut cuts) (tableOf plan) 0 s (start plan) →
+    arrivals plan cuts ≡ arrived (positions byNumber (isCut cuts) (tableOf plan) s (plan .timeout - s) ps)
+unfolding arrivals
+played-from plan cuts s ps h is =
+    let e : plan .timeout ≡ s + (plan .timeout - s) = omega arith in
+    let z : 0 + s ≡ s = omega arith in
+    let down = isCut cuts in
+    let owner = tableOf plan in
+    ap (λ (n : ℕ). arrived (positions byNumber down owner 0 n (start plan))) e ∙
+    ap arrived (positions-follow byNumber down owner 0 s (plan .timeout - s) (start plan)) ∙
+    ap₂ (λ (i : ℕ) (qs : List Position). arrived (positions byNumber down owner i (plan .timeout - s) qs)) z (sym is)
+
+-- one slot more
+pub one-slot : (plan : Plan) (cuts : List ℕ) (s : ℕ) →
+    positions byNumber (isCut cuts) (tableOf plan) 0 (s + 1) (start plan) ≡
+    positions byNumber (isCut cuts) (tableOf plan) s 1 (positions byNumber (isCut cuts) (tableOf plan) 0 s (start plan))
+one-slot plan cuts s =
+    let z : 0 + s ≡ s = omega arith in
+    positions-follow byNumber (isCut cuts) (tableOf plan) 0 s 1 (start plan) ∙
+    ap (λ (i : ℕ). positions byNumber (isCut cuts) (tableOf plan) i 1 (positions byNumber (isCut cuts) (tableOf plan) 0 s (start plan))) z

@@ -1,0 +1,23 @@
+-- `hunt::heaviest` meets its contract: three times a byte fits.
+use native.Mathlib.Omega.{arith}
+use native.Mathlib.Nat.{mul-le-mul-right}
+use borrow.Author.Needs.{needs}
+use Rattle.hunt.proofs.heaviest.Statement.{statement}
+use Rattle.hunt.proofs.heaviest.Tie as tie
+use Rattle.hunt.proofs.heaviest.Reads as reads
+use Rattle.hunt.proofs.heaviest.Lts as lts
+
+-- src/lib.rt:111:14
+mul-result : tie.Need-mul-result
+mul-result c = omega (arith, mul-le-mul-right (c .args .top) (c .pre .1))
+
+-- src/lib.rt:111:5
+add-result : tie.Need-add-result
+add-result c = omega (arith, mul-le-mul-right (c .args .top) (c .pre .1))
+
+-- src/lib.rt:107:1
+returns : tie.Need-returns
+returns c = search needs
+
+pub heaviest-spec : {M : Type 1} → statement M
+heaviest-spec = tie.close (tie.spec mul-result add-result returns)

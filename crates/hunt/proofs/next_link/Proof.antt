@@ -1,0 +1,51 @@
+-- `hunt::next_link` meets its contract: what is still to look at gives what the whole gives.
+use Prim.Native.Nat.{_-_, _≤_}
+use mathlib.Core.Path.{_≡_, refl, sym, _∙_}
+use borrow.Author.Needs.{needs}
+use Rattle.scope.specs.Lowest.{seek}
+use Rattle.scope.proofs.Lowest.{seek-found, seek-next, seek-done}
+use Rattle.hunt.specs.Hunt.{passes}
+use Rattle.hunt.proofs.next_link.Statement.{statement}
+use Rattle.hunt.proofs.next_link.Tie as tie
+use Rattle.hunt.proofs.next_link.Reads as reads
+use Rattle.hunt.proofs.next_link.Lts as lts
+use Rattle.hunt.proofs.may.Reads as may-reads
+
+abbrev Inv-loop : tie.InvT-loop
+Inv-loop from weights base floor e links i₀ i = (i ≤ links) × (seek (passes from weights base floor) (links - i) i ≡ seek (passes from weights base floor) (links - e) e)
+
+abbrev μ-loop : tie.MeasureT-loop
+μ-loop from weights base floor e links i₀ i = links - i
+
+-- src/lib.rt:83:5
+loop-holds : tie.Need-loop-holds Inv-loop μ-loop
+loop-holds c = (c .before .before .pre .0, refl)
+
+-- src/lib.rt:84:12
+may-requires : tie.Need-may-requires Inv-loop μ-loop
+may-requires c κs = search needs
+
+-- src/lib.rt:85:13
+returns : tie.Need-returns Inv-loop μ-loop
+returns c = sym (seek-found _ _ _ (c .before .before .loop-test .taken) (sym (c .before .may .ensures) ∙ c .if1 .taken)) ∙ c .before .before .before .loop .inv .1
+
+-- src/lib.rt:87:9
+add-i : tie.Need-add-i Inv-loop μ-loop
+add-i c = search needs
+
+-- src/lib.rt:83:5
+loop-less : tie.Need-loop-less Inv-loop μ-loop
+loop-less c = search needs
+
+-- src/lib.rt:83:5
+loop-again : tie.Need-loop-again Inv-loop μ-loop
+loop-again c = (search needs, sym (seek-next _ _ _ (c .before .before .loop-test .taken) (sym (c .before .may .ensures) ∙ c .if1 .left)) ∙ c .before .before .before .loop .inv .1)
+
+-- src/lib.rt:78:1
+returns-2 : tie.Need-returns-2 Inv-loop μ-loop
+returns-2 c = sym (seek-done _ _ _ (c .loop-test .left)) ∙ c .before .loop .inv .1
+
+pub next-link-spec : {M : Type 1} → statement M
+next-link-spec =
+    tie.close
+    (tie.spec Inv-loop μ-loop loop-holds may-requires returns add-i loop-less loop-again returns-2)

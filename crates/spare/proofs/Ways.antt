@@ -1,0 +1,117 @@
+-- One law for each way out of `slack_of_good` and `slack`, from what their callees ensure, and that what is allowed of a call is one outcome.
+use Prim.Native.Nat.{ℕ, _+_, _≤_, _<_, _^_}
+use native.Mathlib.Omega.{arith}
+use mathlib.Core.Path.{_≡_, refl, sym, _∙_, ap, ap₂}
+use mathlib.Core.Bool.{true, false}
+use mathlib.Core.List.{List}
+use lib.ListN.{length}
+use lib.IntN.{ℤ, pos, subℕ}
+use mir.Syntax.{w32}
+use mir.Val.{toZ, ofZ}
+use borrow.Author.Tests.{eq-eqb, ne-eqb}
+use Rattle.scope.specs.declared.Refusal.{Refusal}
+use Rattle.scope.specs.Outcome.{Outcome, gives, refused}
+use Rattle.scope.specs.Plan.{at, numbersAt, secondStart, secondCount, afterPlaces, placeCount, messageCount, timeoutOf, planOf}
+use Rattle.scope.specs.SecondPath.{messageIndex, placeIndex}
+use Rattle.scope.specs.Cycle.{byNumber}
+use Rattle.scope.specs.Spare.{delay, placeOf, noSecond}
+use Rattle.scope.specs.Questions.{judge, maySpare, slack}
+use Rattle.view.proofs.Parts.{timeout-is}
+use Rattle.plan.specs.Answers.{GoodRow}
+use Rattle.spare.specs.declared.Spare.{Spare}
+use Rattle.spare.specs.declared.Spare.the-variants.{Slots, Refused}
+use Rattle.spare.specs.Slack.{Slacks, said, value, unlessRefused}
+use Rattle.spare.proofs.There.{There, no-message, no-place, no-second, has-second, slot-is, second-is}
+use Rattle.spare.proofs.Signed.{sub-back}
+use Rattle.spare.proofs.Bounds.{small}
+
+-- an answer is known by its number, place and value
+same-answer : (a b : Spare) → said a ≡ said b → value a ≡ value b → a ≡ b
+same-answer (Slots y) (Slots z) e f = ap Slots f
+same-answer (Slots y) (Refused r) e f = let z : _≡_ {A = ℕ} 0 1 = cc in absurd (omega arith)
+same-answer (Refused r) (Slots z) e f = let z : _≡_ {A = ℕ} 0 1 = cc in absurd (omega arith)
+same-answer (Refused r) (Refused s) e f =
+    let g : r .no ≡ s .no = cc in
+    let h : r .place ≡ s .place = cc in
+    λ i. Refused (record { no = g i; place = h i })
+
+-- two outcomes that the promise of a slack allows are equal
+pub one-slack : (row : List ℕ) (m p : ℕ) (a b : Spare) → Slacks row m p a → Slacks row m p b → a ≡ b
+one-slack row m p a b h g = same-answer a b (h .answer ∙ sym (g .answer)) (h .value ∙ sym (g .value))
+
+-- what stands before a slack
+judged : (row : List ℕ) → GoodRow row → judge row ≡ gives (length row)
+unfolding judge
+judged row g = rw (g .form, g .keeps)
+
+module _ (row : List ℕ) (m p : ℕ) where
+  pub place-at : {i a : ℕ} → i ≡ messageIndex row m → a ≡ afterPlaces row (i + 1) p → a ≡ placeIndex row m p
+  place-at index stands = stands ∙ ap (λ (j : ℕ). afterPlaces row (j + 1) p) index
+
+  refuses : (r : Refusal) → maySpare row m p ≡ refused (r .no) (r .place) → Slacks row m p (Refused r)
+  refuses r e = record { answer = sym e; value = sym (ap (λ (o : Outcome). unlessRefused o (slack row m p)) e) }
+
+  -- refusals 1 to 10
+  pub bad-row : (r : Refusal) → judge row ≡ refused (r .no) (r .place) → Slacks row m p (Refused r)
+  unfolding maySpare
+  bad-row r e = refuses r (rw e)
+
+  module _ (g : GoodRow row) where
+    may-not : noSecond (placeOf (planOf row) m p .second) ≡ true → maySpare row m p ≡ refused 11 0
+    unfolding maySpare
+    may-not e = rw (judged row g, e)
+
+    may : noSecond (placeOf (planOf row) m p .second) ≡ false → maySpare row m p ≡ gives 0
+    unfolding maySpare
+    may e = rw (judged row g, e)
+
+    -- refusal 11: the number of messages is n
+    pub out-message : (n : ℕ) → n ≡ messageCount row → n ≤ m → Slacks row m p (Refused (record { no = 11; place = 0 }))
+    out-message n count h = refuses (record { no = 11; place = 0 }) (may-not (no-message row m p (omega arith)))
+
+    module _ (n i k : ℕ) (count : n ≡ messageCount row) (here : m < n) (index : i ≡ messageIndex row m) (places : k ≡ placeCount row i) where
+      message : m < messageCount row
+      message = omega arith
+
+      many : k ≡ placeCount row (messageIndex row m)
+      many = places ∙ ap (placeCount row) index
+
+      -- message m stands at index i and has k places
+      pub out-place : k ≤ p → Slacks row m p (Refused (record { no = 11; place = 0 }))
+      out-place h = refuses (record { no = 11; place = 0 }) (may-not (no-place row m p message (omega (arith, many))))
+
+      -- place p stands at index a and has the flag x
+      module _ (a x : ℕ) (below : p < k) (stands : a ≡ afterPlaces row (i + 1) p) (flag : x ≡ at row (a + 2)) where
+        place : p < placeCount row (messageIndex row m)
+        place = omega (arith, many)
+
+        flag-at : x ≡ at row (placeIndex row m p + 2)
+        flag-at = flag ∙ ap (λ (j : ℕ). at row (j + 2)) (place-at index stands)
+
+        pub out-second : (x ≡ 1 → ⊥) → Slacks row m p (Refused (record { no = 11; place = 0 }))
+        out-second other =
+            refuses (record { no = 11; place = 0 })
+            (may-not (no-second row m p message place (ne-eqb (at row (placeIndex row m p + 2)) 1 (λ same. other (flag-at ∙ same)))))
+
+        pub found : x ≡ 1 → There row m p
+        found one = record { message = message; place = place; second = eq-eqb (at row (placeIndex row m p + 2)) 1 (sym flag-at ∙ one) }
+
+    -- a second path is there, at index a, and of the timeout t so much is used
+    module _ (there : There row m p) (a t u : ℕ) (stands : a ≡ placeIndex row m p) (time : t ≡ timeoutOf row)
+        (uses : u ≡ at row (a + 1) + delay byNumber (planOf row .messages) m (numbersAt row (secondStart a) (secondCount row a))) where
+      used-is : u ≡ placeOf (planOf row) m p .slot + delay byNumber (planOf row .messages) m (placeOf (planOf row) m p .second)
+      used-is = rw (slot-is row m p there, second-is row m p there, ← stands) uses
+
+      pub fits : (t < 2 ^ 30) × (u < 2 ^ 30)
+      fits =
+          let s = small row m p g there in
+          let e : planOf row .timeout ≡ timeoutOf row = timeout-is row in
+          (omega (arith, s .timeout), omega (arith, used-is, s .slot, s .timeout, s .most))
+
+      -- the slack z, laid in 32 bits
+      pub spares : (z : ℤ) → z ≡ subℕ t u → Slacks row m p (Slots (toZ w32 (ofZ w32 z)))
+      unfolding slack
+      spares z is =
+          let e : maySpare row m p ≡ gives 0 = may (has-second row m p there) in
+          let f : toZ w32 (ofZ w32 z) ≡ slack row m p = sub-back t u (fits .0) (fits .1) z is ∙ ap₂ subℕ (time ∙ sym (timeout-is row)) used-is in
+          record { answer = sym e; value = f ∙ sym (ap (λ (o : Outcome). unlessRefused o (slack row m p)) e) }

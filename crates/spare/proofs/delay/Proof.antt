@@ -1,0 +1,86 @@
+-- `spare::delay` meets its contract. The invariant: what is summed and what is left to sum make the whole. Assumes nothing.
+use Prim.Native.Nat.{_+_, _-_, _*_, _≤_}
+use mathlib.Core.Path.{_≡_, sym, _∙_}
+use Rattle.scope.specs.Plan.{numbersAt, planOf}
+use Rattle.scope.specs.Cycle.{byNumber}
+use Rattle.scope.specs.Spare.{delay}
+use borrow.Author.Needs.{needs}
+use native.Mathlib.Omega.{arith}
+use Rattle.spare.proofs.Loops as law
+use Rattle.spare.proofs.delay.Statement.{statement}
+use Rattle.spare.proofs.delay.Tie as tie
+
+abbrev Inv-loop : tie.InvT-loop
+Inv-loop row m i n sum₀ k₀ sum k = (sum + delay byNumber (planOf row .messages) m (numbersAt row (i + k) (n - k)) ≡ delay byNumber (planOf row .messages) m (numbersAt row i n)) × (k ≤ n) × (sum ≤ k * 4295032833) × (m ≤ 65536)
+
+abbrev μ-loop : tie.MeasureT-loop
+μ-loop row m i n sum₀ k₀ sum k = n - k
+
+loop-holds : tie.Need-loop-holds Inv-loop μ-loop
+loop-holds c = let a = c .before .args in (law.delay-all (a .row .now) (a .m) (a .i) (a .n), omega arith, omega arith, omega (arith, c .shared-slice-known .given 3))
+
+add-number : tie.Need-add-number Inv-loop μ-loop
+add-number c = search needs
+
+number-requires : tie.Need-number-requires Inv-loop μ-loop
+number-requires c κs = search needs
+
+add-sum : tie.Need-add-sum Inv-loop μ-loop
+add-sum c = search needs
+
+entries-requires : tie.Need-entries-requires Inv-loop μ-loop
+entries-requires c κs = search needs
+
+add-sum-2 : tie.Need-add-sum-2 Inv-loop μ-loop
+add-sum-2 c = search needs
+
+lower-through-requires : tie.Need-lower-through-requires Inv-loop μ-loop
+lower-through-requires c κs = search needs
+
+add-sum-3 : tie.Need-add-sum-3 Inv-loop μ-loop
+add-sum-3 c = search needs
+
+add-k : tie.Need-add-k Inv-loop μ-loop
+add-k c = search needs
+
+loop-less : tie.Need-loop-less Inv-loop μ-loop
+loop-less c = search needs
+
+loop-again : tie.Need-loop-again Inv-loop μ-loop
+loop-again c =
+    let a = c .before .before .before .before .before .before .args in
+    let l = c .before .before .before .before .loop in (
+      law.delay-on (a .row .now) (a .m) (a .i) (a .n) (l .k) (c .before .before .number .result) (c .before .entries .result) (c .lower-through .result) (l .sum) _
+          (c .before .before .before .loop-test .taken) (c .before .before .number .ensures .is) (c .before .entries .ensures .is) (c .lower-through .ensures .is) (l .inv .0),
+      omega arith,
+      omega arith,
+      l .inv .3,
+    )
+
+returns : tie.Need-returns Inv-loop μ-loop
+returns c =
+    let a = c .before .before .before .args in
+    let l = c .before .loop in
+    record {
+      is = law.delay-none (a .row .now) (a .m) (a .i + l .k) (a .n) (l .k) (l .sum) _ (c .loop-test .left) (l .inv .0);
+      small = omega arith;
+    }
+
+pub delay-spec : {M : Type 1} → statement M
+delay-spec =
+    tie.close
+    (tie.spec
+    Inv-loop
+    μ-loop
+    loop-holds
+    add-number
+    number-requires
+    add-sum
+    entries-requires
+    add-sum-2
+    lower-through-requires
+    add-sum-3
+    add-k
+    loop-less
+    loop-again
+    returns)

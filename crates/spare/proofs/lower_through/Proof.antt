@@ -1,0 +1,83 @@
+-- `spare::lower_through` meets its contract. The invariant: what is counted and what is left to count make the whole. Assumes nothing.
+use Prim.Native.Nat.{_+_, _-_, _*_, _≤_}
+use mathlib.Core.Path.{_≡_, sym, _∙_}
+use Rattle.scope.specs.Plan.{messageCount, messagesAt, planOf}
+use Rattle.scope.specs.Cycle.{byNumber}
+use Rattle.scope.specs.Spare.{lowerThrough}
+use borrow.Author.Needs.{needs}
+use native.Mathlib.Omega.{arith}
+use Rattle.spare.proofs.Loops as law
+use Rattle.spare.proofs.lower_through.Statement.{statement}
+use Rattle.spare.proofs.lower_through.Tie as tie
+
+abbrev Inv-loop : tie.InvT-loop
+Inv-loop row m e sum₀ at₀ j₀ sum at j = (sum + lowerThrough byNumber m e j (messagesAt row at (messageCount row - j)) ≡ lowerThrough byNumber m e 0 (planOf row .messages)) × (at ≤ 131077 + j * 4295229441) × (j ≤ m) × (sum ≤ j) × (m ≤ 65536)
+
+abbrev μ-loop : tie.MeasureT-loop
+μ-loop row m e sum₀ at₀ j₀ sum at j = m - j
+
+message-index-requires : tie.Need-message-index-requires Inv-loop μ-loop
+message-index-requires c κs = search needs
+
+loop-holds : tie.Need-loop-holds Inv-loop μ-loop
+loop-holds c =
+    let a = c .before .before .args in (
+      law.lower-all (a .row .now) (a .e) (a .m) (c .message-index .result) (c .message-index .ensures .is),
+      omega arith,
+      omega arith,
+      omega arith,
+      omega (arith, c .before .shared-slice-known .given 3),
+    )
+
+message-through-requires : tie.Need-message-through-requires Inv-loop μ-loop
+message-through-requires c κs = search needs
+
+add-sum : tie.Need-add-sum Inv-loop μ-loop
+add-sum c = search needs
+
+after-message-requires : tie.Need-after-message-requires Inv-loop μ-loop
+after-message-requires c κs = search needs
+
+add-j : tie.Need-add-j Inv-loop μ-loop
+add-j c = search needs
+
+loop-less : tie.Need-loop-less Inv-loop μ-loop
+loop-less c = search needs
+
+loop-again : tie.Need-loop-again Inv-loop μ-loop
+loop-again c =
+    let a = c .before .before .before .before .before .before .args in
+    let l = c .before .before .before .loop in (
+      law.lower-on (a .row .now) (a .e) (a .m) (l .at) (l .j) (c .before .message-through .result) (c .after-message .result) (l .sum) _
+          (c .before .before .loop-test .taken) (c .before .before .before .before .before .before .pre) (c .before .message-through .ensures .is)
+          (c .after-message .ensures .is) (l .inv .0),
+      omega arith,
+      omega arith,
+      omega arith,
+      l .inv .4,
+    )
+
+returns : tie.Need-returns Inv-loop μ-loop
+returns c =
+    let a = c .before .before .before .before .args in
+    let l = c .before .loop in
+    record {
+      is = law.lower-done (a .row .now) (a .e) (a .m) (l .at) (l .j) (l .sum) _ (c .loop-test .left) (l .inv .0);
+      small = omega arith;
+    }
+
+pub lower-through-spec : {M : Type 1} → statement M
+lower-through-spec =
+    tie.close
+    (tie.spec
+    Inv-loop
+    μ-loop
+    message-index-requires
+    loop-holds
+    message-through-requires
+    add-sum
+    after-message-requires
+    add-j
+    loop-less
+    loop-again
+    returns)

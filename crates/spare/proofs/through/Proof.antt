@@ -1,0 +1,72 @@
+-- `spare::through` meets its contract. The invariant: the places left have such a second path exactly if all have one. Assumes nothing.
+use Prim.Native.Nat.{_+_, _-_, _*_, _≤_}
+use mathlib.Core.Path.{_≡_, sym, _∙_}
+use Rattle.scope.specs.Plan.{placesAt}
+use Rattle.scope.specs.Spare.{hasSecondThrough}
+use borrow.Author.Needs.{needs}
+use native.Mathlib.Omega.{arith}
+use Rattle.spare.proofs.Loops as law
+use Rattle.spare.proofs.through.Statement.{statement}
+use Rattle.spare.proofs.through.Tie as tie
+
+abbrev Inv-loop : tie.InvT-loop
+Inv-loop row e i n at₀ k₀ at k = (hasSecondThrough e (placesAt row at (n - k)) ≡ hasSecondThrough e (placesAt row i n)) × (at ≤ i + k * 65540) × (k ≤ n)
+
+abbrev μ-loop : tie.MeasureT-loop
+μ-loop row e i n at₀ k₀ at k = n - k
+
+loop-holds : tie.Need-loop-holds Inv-loop μ-loop
+loop-holds c = let a = c .before .args in (law.through-all (a .row .now) (a .e) (a .i) (a .n), omega arith, omega arith)
+
+place-through-requires : tie.Need-place-through-requires Inv-loop μ-loop
+place-through-requires c κs = search needs
+
+returns : tie.Need-returns Inv-loop μ-loop
+returns c =
+    let a = c .before .before .before .before .before .args in
+    let l = c .before .before .before .loop in
+    sym (law.through-here (a .row .now) (a .e) (l .at) (a .n) (l .k) (c .before .before .loop-test .taken) (sym (c .before .place-through .ensures) ∙ c .if1 .taken)) ∙ l .inv .0
+
+place-size-requires : tie.Need-place-size-requires Inv-loop μ-loop
+place-size-requires c κs = search needs
+
+add-at : tie.Need-add-at Inv-loop μ-loop
+add-at c = search needs
+
+add-k : tie.Need-add-k Inv-loop μ-loop
+add-k c = search needs
+
+loop-less : tie.Need-loop-less Inv-loop μ-loop
+loop-less c = search needs
+
+loop-again : tie.Need-loop-again Inv-loop μ-loop
+loop-again c =
+    let a = c .before .before .before .before .before .before .args in
+    let l = c .before .before .before .before .loop in (
+      law.through-on (a .row .now) (a .e) (l .at) (a .n) (l .k) (c .place-size .result) (c .before .before .before .loop-test .taken)
+          (sym (c .before .before .place-through .ensures) ∙ c .before .if1 .left) (c .place-size .ensures .is) ∙ l .inv .0,
+      omega arith,
+      omega arith,
+    )
+
+returns-2 : tie.Need-returns-2 Inv-loop μ-loop
+returns-2 c =
+    let a = c .before .before .before .args in
+    let l = c .before .loop in
+    sym (law.through-none (a .row .now) (a .e) (l .at) (a .n) (l .k) (c .loop-test .left)) ∙ l .inv .0
+
+pub through-spec : {M : Type 1} → statement M
+through-spec =
+    tie.close
+    (tie.spec
+    Inv-loop
+    μ-loop
+    loop-holds
+    place-through-requires
+    returns
+    place-size-requires
+    add-at
+    add-k
+    loop-less
+    loop-again
+    returns-2)

@@ -1,0 +1,4 @@
+pub mod Sums
+pub mod Touch
+pub mod Weights
+pub mod Bounds

@@ -1,0 +1,23 @@
+-- `touch::at` meets its contract: past the end there is 0.
+use mathlib.Core.Path.{sym}
+use lib.ListN.{List·getD-eq-default}
+use borrow.Author.Needs.{needs}
+use Rattle.touch.proofs.at.Statement.{statement}
+use Rattle.touch.proofs.at.Tie as tie
+use Rattle.touch.proofs.at.Reads as reads
+use Rattle.touch.proofs.at.Lts as lts
+
+-- src/lib.rt:13:28
+shared-slice-read-result : tie.Need-shared-slice-read-result
+shared-slice-read-result c = search needs
+
+-- src/lib.rt:10:1
+returns : tie.Need-returns
+returns c = search needs
+
+-- src/lib.rt:10:1
+returns-2 : tie.Need-returns-2
+returns-2 c = sym (List·getD-eq-default (c .before .args .weights .now) 0 (c .if1 .left))
+
+pub at-spec : {M : Type 1} → statement M
+at-spec = tie.close (tie.spec shared-slice-read-result returns returns-2)

@@ -1,0 +1,4 @@
+pub mod Sums
+pub mod Bound
+pub mod Touch
+pub mod Weights

@@ -1,0 +1,56 @@
+// How many messages a pair of a cut list can harm: it touches those that have its link before them in its slot or later, and a list
+// loses no more messages than it touches (specs/Touch). A search needs no more of this than specs/Bound says, so that a sharper
+// bound can take its place. It leans on the table of `table` and on the theorems of `laws`.
+ghost use mathlib.Core.Path.{_≡_};
+ghost use Prim.Native.Nat.{_+_, _-_, _≤_};
+ghost use lib.ListN.{length, getD};
+ghost use Rattle.touch.specs.Weights.{Weighs, Tops};
+
+// The number at an index, 0 past the end.
+fn at(weights: &[u8], k: usize) -> u8
+    ensures { λ r. ⌜ r ≡ getD (now (weights .entry)) k 0 ⌝ }
+{
+    if k < weights.len() { weights[k] } else { 0 }
+}
+
+// The weight of each slot and link: the entries of the table on that link from that slot on.
+pub fn weigh(table: &[u8], weights: &mut [u8])
+    requires { ⌜ (length (now table) ≡ 4096) × (length (now weights) ≡ 4096) ⌝ }
+    ensures { λ _. ⌜ Weighs (now (table .entry)) (now (weights .exit)) ⌝ }
+{
+    let mut k = 4096;
+    while 0 < k {
+        k -= 1;
+        let later = at(weights, k + 64);
+        if table[k] == 0 {
+            weights[k] = later;
+        } else {
+            weights[k] = later + 1;
+        }
+    }
+}
+
+// For each slot the most that a pair from there on weighs.
+pub fn tops(weights: &[u8], most: &mut [u8])
+    requires { ⌜ (length (now weights) ≡ 4096) × (length (now most) ≡ 64) ⌝ }
+    ensures { λ _. ⌜ Tops (now (weights .entry)) (now (most .exit)) ⌝ }
+{
+    let mut top = 0u8;
+    let mut k = 4096;
+    while 0 < k {
+        k -= 1;
+        let w = weights[k];
+        if top < w {
+            top = w;
+        }
+        most[k / 64] = top;
+    }
+}
+
+// What a list must weigh at least that leaves fewer than `least` of so many messages.
+pub fn need(messages: usize, least: usize) -> usize
+    requires { ⌜ (least ≤ messages) × (messages ≤ 65536) ⌝ }
+    ensures { λ r. ⌜ r ≡ messages + 1 - least ⌝ }
+{
+    messages + 1 - least
+}

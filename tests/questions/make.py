@@ -1,0 +1,238 @@
+#!/usr/bin/env python3
+"""Writes the questions of this folder, NAME.questions, from plans built by hand here. The answers, NAME.answers, come from the
+independent second program: oracle probe < NAME.questions > NAME.answers."""
+B = [1, 2, 2, 1, 3, 0, 1, 0, 2, 2, 1, 0, 0, 0, 1, 1, 1, 2, 0, 0, 1, 1, 1, 1, 2]
+A = [1, 3, 3, 1, 3, 0, 1, 1, 3, 0, 2, 2, 3, 1, 0, 0, 1, 1, 2, 3, 1, 1, 0, 1, 2, 0, 1, 1, 0, 1, 3, 1, 0]
+
+
+def bits(row):
+    out = []
+
+    def put(v, w):
+        for i in range(w - 1, -1, -1):
+            out.append(v >> i & 1)
+
+    it = iter(row)
+    put(next(it), 4)
+    put(next(it), 6)
+    e = next(it)
+    put(e, 6)
+    m = next(it)
+    put(m, 5)
+    put(next(it), 6)
+    for _ in range(e + 1):
+        put(next(it), 6)
+        put(next(it), 6)
+    for _ in range(m + 1):
+        n = next(it)
+        put(n, 4)
+        for _ in range(n + 1):
+            put(next(it), 6)
+            put(next(it), 6)
+            f = next(it)
+            put(f, 1)
+            if f:
+                k = next(it)
+                put(k, 4)
+                for _ in range(k + 1):
+                    put(next(it), 6)
+    return out
+
+
+def file(row):
+    b = bits(row)
+    b += [0] * (-len(b) % 8)
+    return [int("".join(map(str, b[i : i + 8])), 2) for i in range(0, len(b), 8)]
+
+
+def hexed(data):
+    return "".join("%02x" % x for x in data) or "-"
+
+
+def nums(row):
+    return " ".join(map(str, row))
+
+
+def read(data, room=10405):
+    return "read %d %s" % (room, hexed(data))
+
+
+def write(row, room=7348):
+    return ("write %d %s" % (room, nums(row))).rstrip()
+
+
+def line(v, e, m, t, links, messages):
+    """A row from its parts: links as pairs, a message as a list of (link, slot, second path or None)."""
+    row = [1, v - 1, e - 1, m - 1, t - 1]
+    for a, b in links:
+        row += [a, b]
+    for path in messages:
+        row.append(len(path) - 1)
+        for l, s, second in path:
+            row += [l, s]
+            row += [1, len(second) - 1] + second if second else [0]
+    return row
+
+
+# The longest row that has the form of a plan. Its second paths begin with the link they replace, so it is refused for that alone.
+def longest():
+    row = [1, 63, 63, 31, 63]
+    for i in range(64):
+        row += [i, (i + 1) % 64]
+    for m in range(32):
+        row.append(15)
+        for p in range(16):
+            row += [p, p + m, 1, 15] + list(range(16))
+    return row
+
+
+def questions_files():
+    q = [read(file(B)), read(file(B), 25), read(file(B), 24), read(file(B), 0), write(B), write(B, 17), write(B, 16), write(B, 0)]
+    q += [read(file(A)), write(A)]
+    f = file(B)
+    q += [read(f[:-1] + [1]), read([]), read([0x20] + f[1:]), read([0x10]), read([0]), read([0xFF])]
+    q += [read(f + [0]), read(f + [1]), read(f[:-1]), read(f[:1]), read(f[:2]), read(f[:16])]
+    for cut in range(len(f)):
+        q.append(read(f[:cut]))
+    for bit in range(129, 136):
+        g = list(f)
+        g[bit // 8] ^= 128 >> bit % 8
+        q.append(read(g))
+    big = longest()
+    q += [read(file(big)), write(big), read(file(big) + [0]), read(file(big)[:-1]), write(big + [0]), write(big[:-1])]
+    return q
+
+
+def questions_rows():
+    q = [write([]), write([1]), write([2]), write([65535]), write([0])]
+    for n in range(len(B)):
+        q.append(write(B[:n]))
+    q += [write(B + [0]), write(B + [65535])]
+    # a number too large for its field, at each index; and the last number alone at fault
+    limit = [None, 64, 64, 32, 64] + [64] * 6 + [16, 64, 64, 2, 16, 64, 64, 16, 64, 64, 2, 16, 64, 64]
+    for i in range(1, len(B)):
+        row = list(B)
+        row[i] = limit[i]
+        q.append(write(row))
+        row[i] = 65535
+        q.append(write(row))
+    q.append(write(B[:-1] + [3]))
+    return q
+
+
+# a ring of n vertices with m messages of one link each, as a base to break
+def ring(n, m, t):
+    links = [(i, (i + 1) % n) for i in range(n)]
+    messages = [[(i % n, i // n, None)] for i in range(m)]
+    return n, n, m, t, links, messages
+
+
+def questions_rules():
+    q = []
+    n, m, t = 64, 32, 64
+    v, e, mm, tt, links, messages = ring(n, m, t)
+    q.append(write(line(v, e, mm, tt, links, messages)))
+    for k in (0, e - 1):  # 5 at the first and the last link, in each way
+        for bad in ((links[k][0], links[k][0]), (63, 63)):
+            ls = list(links)
+            ls[k] = bad
+            q.append(write(line(v, e, mm, tt, ls, messages)))
+    small = [(0, 1), (1, 0)] + [(i, i + 1) for i in range(1, 30)]
+    for bad in ((30, 1), (1, 31), (63, 0)):  # an end not below V
+        ls = list(small)
+        ls[0] = bad
+        q.append(write(line(31, len(ls), 1, 4, ls, [[(2, 0, None)]])))
+    for k in (1, e - 1):  # 6 at the first and the last possible link
+        ls = list(links)
+        ls[k] = ls[0]
+        q.append(write(line(v, e, mm, tt, ls, messages)))
+    for k in (0, m - 1):  # 7: links that do not join, a vertex twice, a link not below E
+        ms = [list(x) for x in messages]
+        ms[k] = [(0, 1, None), (2, 2, None)]
+        q.append(write(line(v, e, mm, tt, links, ms)))
+        two = [(0, 1), (1, 0)]
+        q.append(write(line(2, 2, 1, 4, two, [[(0, 0, None), (1, 1, None)]])))
+        ms[k] = [(63, 1, None)]
+        q.append(write(line(v, 63, mm, tt, links[:63], ms)))
+    for k in (0, m - 1):  # 8: slots that stand still, fall, or are not below t
+        ms = [list(x) for x in messages]
+        ms[k] = [(k, 5, None), ((k + 1) % n, 5, None)]
+        q.append(write(line(v, e, mm, tt, links, ms)))
+        ms[k] = [(k, 6, None), ((k + 1) % n, 5, None)]
+        q.append(write(line(v, e, mm, tt, links, ms)))
+        ms[k] = [(k, 40, None)]
+        q.append(write(line(v, e, mm, 40, links, ms)))
+        ms[k] = [(k, 39, None)]
+        q.append(write(line(v, e, mm, 40, links, ms)))
+    for k in (1, m - 1):  # 9 at the first and the last possible message, with message 0
+        ms = [list(x) for x in messages]
+        ms[k] = list(ms[0])
+        q.append(write(line(v, e, mm, tt, links, ms)))
+    # 10: in each way, at the first and the last message. Links 0:0-1 1:1-2 2:0-3 3:3-2 4:3-1 5:2-0 6:0-2
+    net = [(0, 1), (1, 2), (0, 3), (3, 2), (3, 1), (2, 0), (0, 2)]
+    for k in (0, 31):
+        for second in ([2, 3], [6], [2, 4, 1], [0, 1], [2], [3], [2, 4], [7], [2, 7], [2, 3, 5], [4, 1], [6, 5, 6], [63]):
+            ms = [[(0, i, None)] for i in range(32)]
+            ms[k] = [(0, 40, second), (1, 41, None)]
+            q.append(write(line(4, 7, 32, 64, net, ms)))
+            ms[k] = [(0, 40, None), (1, 41, second)]
+            q.append(write(line(4, 7, 32, 64, net, ms)))
+    return q
+
+
+def questions_second():
+    q = []
+    for m in (0, 1, 2, 65535):
+        for p in (0, 1, 2, 65535):
+            q.append("second %d %d %s" % (m, p, nums(B)))
+            q.append("second %d %d %s" % (m, p, nums(A)))
+    q += ["second 0 0", "second 0 0 2", "second 0 0 " + nums(B[:-1]), "second 0 0 " + nums(B + [0]), "second 0 0 " + nums(B[:-1] + [3])]
+    return q
+
+
+def questions_verdict():
+    short = list(A)
+    short[4] = 1
+    q = []
+    for plan in (A, B, short):
+        for k in range(5):
+            for l in range(4):
+                for room in (2 * k, 6):
+                    q.append("verdict %d %d %d %s" % (k, l, room, nums(plan)))
+    q += ["verdict 2 1 3 " + nums(A), "verdict 3 1 5 " + nums(A), "verdict 1 2 0 " + nums(A), "verdict 1 1 2 " + nums(A[:-1]), "verdict 65535 0 0 " + nums(A)]
+    # cuts before the cycle do no harm, and one in slot 2 does; and an order by slot before link
+    late = [1, 2, 2, 1, 2, 0, 1, 0, 2, 2, 1, 0, 0, 0, 1, 1, 1, 2, 0, 0, 2, 1, 1, 1, 2]
+    order = [1, 2, 3, 2, 2, 0, 1, 0, 2, 2, 1, 1, 0, 0, 0, 0, 1, 1, 1, 2, 0, 0, 2, 1, 1, 1, 2, 0, 3, 0, 0]
+    q += ["verdict 1 2 2 " + nums(late), "verdict 1 3 2 " + nums(order)]
+    return q
+
+
+def questions_slack():
+    q = []
+    for m in (0, 1, 2, 65535):
+        for p in (0, 1, 65535):
+            q += ["slack %d %d %s" % (m, p, nums(B)), "slack %d %d %s" % (m, p, nums(A))]
+    own = [1, 3, 3, 0, 3, 0, 1, 1, 3, 0, 2, 2, 1, 1, 0, 0, 1, 2, 2, 3, 1, 1, 2, 0]
+    twice = [1, 3, 4, 1, 7, 0, 1, 1, 2, 0, 3, 3, 2, 1, 3, 1, 0, 0, 1, 1, 2, 3, 1, 1, 1, 1, 4, 3, 1, 0, 1, 1, 1, 2, 3, 1, 2, 0]
+    q += ["slack 0 0 " + nums(own), "slack 1 0 " + nums(twice), "slack 0 1 " + nums(twice), "slack 0 0", "slack 0 0 " + nums(B[:-1])]
+    return q
+
+
+def questions_replay():
+    def ask(plan, cuts, room):
+        return ("replay %d %d %s" % (room, len(cuts), nums(list(cuts) + plan))).rstrip()
+
+    q = []
+    for plan in (A, B):
+        for cuts in ([], [0, 0], [1, 0], [1, 1], [0, 0, 0, 2], [3, 0], [3, 2]):
+            for room in (16, 15, 17, 0):
+                q.append(ask(plan, cuts, room))
+    for cuts in ([0], [0, 0, 1], [4, 0], [0, 4], [0, 3], [0, 1, 0, 0], [1, 0, 0, 1], [0, 0, 0, 0], [0, 0, 1, 0], [0, 0, 1, 1, 4, 2], [65535, 65535]):
+        q += [ask(A, cuts, 16), ask(B, cuts, 16), ask(A, cuts, 0)]
+    q += [ask(A, [0, 0] * 40, 16), ask([], [0, 0], 16), ask(B[:-1], [9], 0)]
+    return q
+
+
+for name, made in (("replay", questions_replay()), ("slack", questions_slack()), ("verdict", questions_verdict()), ("files", questions_files()), ("rows", questions_rows()), ("rules", questions_rules()), ("second", questions_second())):
+    with open(name + ".questions", "w") as f:
+        f.write("\n".join(made) + "\n")
