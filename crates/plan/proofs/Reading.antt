@@ -1,4 +1,5 @@
--- What a caller of `plan::read_file` learns whose buffer has a known length: the outcome, and that the front of the buffer is the row.
+-- What a caller of `plan::read_file` and `plan::write_file` learns: the outcome, that the front of the buffer is the row, that the row is
+-- good, and that what was written lies in the buffer.
 use Prim.Native.Nat.{ℕ, _≤_}
 use mathlib.Core.Path.{_≡_, refl, sym, _∙_, ap}
 use mathlib.Core.Bool.{Bool, true, false, cond}
@@ -12,11 +13,12 @@ use Rattle.scope.specs.declared.Answer.{Answer}
 use Rattle.scope.specs.declared.Answer.the-variants.{Gives, Refused}
 use Rattle.scope.specs.declared.Refusal.{Refusal}
 use Rattle.scope.specs.Outcome.{Outcome, gives, refused, andThen, room}
-use Rattle.scope.specs.File.{walkFile, rowOf}
+use Rattle.scope.specs.File.{walkFile, rowOf, fileOf}
 use Rattle.scope.specs.Plan.{planOf}
 use Rattle.scope.specs.Good.{rules}
-use Rattle.scope.specs.Questions.{after, readFile}
-use Rattle.plan.specs.Answers.{Reads}
+use Rattle.scope.specs.Questions.{after, judge, readFile, writeFile}
+use Rattle.flow.proofs.Theorems.{file-row}
+use Rattle.plan.specs.Answers.{Reads, Writes}
 use Rattle.plan.proofs.Outcomes.{then-back}
 use Rattle.plan.proofs.Ways.{gave, refused-as}
 
@@ -34,6 +36,14 @@ read-room file lent n e =
     let w = then-back (walkFile file) (λ _. andThen (rules (planOf (rowOf file))) (λ _. room (length (rowOf file)) lent)) n e in
     let r = then-back (rules (planOf (rowOf file))) (λ _. room (length (rowOf file)) lent) n (w .2) in
     room-back (length (rowOf file)) lent n (r .2)
+
+-- and that it is good
+pub read-judged : (file : List ℕ) (lent n : ℕ) → readFile file lent ≡ gives n → judge (rowOf file) ≡ gives (length (rowOf file))
+unfolding readFile judge
+read-judged file lent n e =
+    let w = then-back (walkFile file) (λ _. andThen (rules (planOf (rowOf file))) (λ _. room (length (rowOf file)) lent)) n e in
+    let r = then-back (rules (planOf (rowOf file))) (λ _. room (length (rowOf file)) lent) n (w .2) in
+    rw (file-row file (w .0) (w .1), r .1)
 
 -- a file that was read
 module _ (file entry exit : List ℕ) (a : Answer) (h : Reads file entry exit a) where
@@ -56,3 +66,17 @@ module _ (file entry exit : List ℕ) (a : Answer) (h : Reads file entry exit a)
 
     pub read-fit : n ≤ length exit
     read-fit = omega (arith, simp length-append at (ap length written), count)
+
+-- a row that was written
+write-room : (row : List ℕ) (lent n : ℕ) → writeFile row lent ≡ gives n → n ≡ length (fileOf row)
+unfolding writeFile
+write-room row lent n e =
+    let w = then-back (judge row) (λ _. room (length (fileOf row)) lent) n e in
+    room-back (length (fileOf row)) lent n (w .2) .0
+
+pub write-fit : (row entry exit : List ℕ) (a : Answer) → Writes row entry exit a → (n : ℕ) → a ≡ Gives n → n ≤ length exit
+unfolding after
+write-fit row entry exit a h n e =
+    let o : writeFile row (length entry) ≡ gives n = gave n e (h .answer) in
+    let is : exit ≡ fileOf row ++ drop (length (fileOf row)) entry = h .buffer ∙ ap (λ (o : Outcome). after o (fileOf row) entry) o in
+    omega (arith, simp length-append at (ap length is), write-room row (length entry) n o)

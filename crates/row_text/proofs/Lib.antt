@@ -1,0 +1,5 @@
+pub mod Lines
+pub mod Words
+pub mod Front
+pub mod Ways
+pub mod Theorems

@@ -1,0 +1,163 @@
+// A plan's row as text: a plan file as a line of decimals, and such a text as a plan file. Each function takes anything and refuses by
+// document 01's numbers. It leans on `plan` for both forms of a plan, and on `text` and `listing` for what is printed.
+ghost use mathlib.Core.Path.{_≡_};
+ghost use Prim.Native.Nat.{_+_, _≤_, _<_, _^_};
+ghost use lib.ListN.{length, drop};
+ghost use mathlib.Core.List.{[], _∷_};
+ghost use Rattle.text.specs.Text.{Puts, Told};
+ghost use Rattle.listing.specs.Prints.{Prints};
+ghost use Rattle.plan.specs.Answers.{Writes};
+ghost use Rattle.row_text.specs.Rows.{mark, rowLine, numbersOf, goesOn};
+ghost use Rattle.row_text.specs.Rows.{ends as Rows·ends, rowText as Rows·rowText};
+use scope::Answer;
+use scope::Refusal;
+use text::put_number;
+use view::number;
+
+// The longest row; and bytes enough for it as text, or for a refusal, with at most six bytes a number.
+const LONGEST_ROW: usize = 10405;
+
+pub const ROOM: usize = 62430;
+
+// A number more than the longest row has, and bytes enough for as many: no text needs more of them to be refused.
+const ROW_ROOM: usize = 10406;
+
+pub const TEXT_ROOM: usize = 62436;
+
+// The longest plan file.
+pub const FILE_ROOM: usize = 7348;
+
+// What a word counts as that is no number of 16 bits: no field can hold it.
+const NO_NUMBER: u16 = 65535;
+
+// The byte after the number at an index of a row.
+fn mark_after(row: &[u16], i: usize) -> u8
+    requires { ⌜ i < length (now row) ⌝ }
+    ensures { λ r. ⌜ r ≡ mark (drop (i + 1) (now (row .entry))) ⌝ }
+{
+    if i + 1 < row.len() { b' ' } else { b'\n' }
+}
+
+// The numbers of a row in decimal, with single spaces between them and a line feed at the end, as far as the buffer goes; and the
+// index after them.
+fn row_line(out: &mut [u8], row: &[u16]) -> usize
+    requires { ⌜ length (now row) < 2 ^ 32 ⌝ }
+    ensures { λ r. ⌜ Puts (rowLine (now (row .entry))) (now (out .entry)) (now (out .exit)) 0 r ⌝ }
+{
+    let mut next = 0;
+    let mut i = 0;
+    while i < row.len() {
+        let n = number(row, i);
+        let mark = mark_after(row, i);
+        next = put_number(out, next, n, mark);
+        i += 1;
+    }
+    next
+}
+
+// The line of a row: how many bytes, or refusal 13 with the bytes needed.
+fn listed(row: &[u16], out: &mut [u8]) -> Answer
+    requires { ⌜ length (now row) < 2 ^ 32 ⌝ }
+    ensures { λ r. ⌜ Prints (rowLine (now (row .entry))) (now (out .entry)) (now (out .exit)) r ⌝ }
+{
+    let needed = row_line(&mut out[..0], row);
+    if out.len() < needed {
+        return Answer::Refused(Refusal {
+            no: 13,
+            place: needed,
+        });
+    }
+    row_line(out, row);
+    Answer::Gives(needed)
+}
+
+// The row of a plan file as text, or the line of its refusal: how many bytes, or refusal 13 with the bytes needed.
+pub fn row_text(file: &[u8], out: &mut [u8]) -> Answer
+    ensures { λ r. ⌜ Prints (Rows·rowText (now (file .entry))) (now (out .entry)) (now (out .exit)) r ⌝ }
+{
+    let mut row = [0u16; LONGEST_ROW];
+    let read = plan::read_file(file, &mut row);
+    match read {
+        Answer::Gives(n) => listed(&row[..n], out),
+        Answer::Refused(refusal) => listing::listing(Answer::Refused(refusal), &row, &row, out),
+    }
+}
+
+// A digit goes on with a number.
+fn goes_on(begun: bool, a: usize, b: usize) -> bool
+    requires { ⌜ (a ≤ 65535) × (b < 256) ⌝ }
+    ensures { λ r. ⌜ r ≡ goesOn begun a b ⌝ }
+{
+    if b < 48 {
+        return false;
+    }
+    if 57 < b {
+        return false;
+    }
+    if begun {
+        return 0 < a && a * 10 + (b - 48) <= 65535;
+    }
+    a * 10 + (b - 48) <= 65535
+}
+
+// A space or a line feed ends a number.
+fn ends(begun: bool, b: usize) -> bool
+    ensures { λ r. ⌜ r ≡ Rows·ends begun b ⌝ }
+{
+    begun && (b == 32 || b == 10)
+}
+
+// One number, if the buffer goes so far, and the index after it.
+fn put(out: &mut [u16], at: usize, n: u16) -> usize
+    requires { ⌜ at + 1 < 2 ^ 64 ⌝ }
+    ensures { λ r. ⌜ Puts (n ∷ []) (now (out .entry)) (now (out .exit)) at r ⌝ }
+{
+    if at < out.len() {
+        out[at] = n;
+        return at + 1;
+    }
+    at + 1
+}
+
+// The numbers of a text, as far as the buffer goes, and how many the text has.
+fn numbers(text: &[u8], out: &mut [u16]) -> usize
+    ensures { λ r. ⌜ Puts (numbersOf (now (text .entry))) (now (out .entry)) (now (out .exit)) 0 r ⌝ }
+{
+    let mut begun = false;
+    let mut a = 0;
+    let mut n = 0;
+    let mut i = 0;
+    while i < text.len() {
+        let b = text[i] as usize;
+        if goes_on(begun, a, b) {
+            a = a * 10 + (b - 48);
+            begun = true;
+            i += 1;
+            continue;
+        }
+        if ends(begun, b) {
+            n = put(out, n, a as u16);
+            a = 0;
+            begun = false;
+            i += 1;
+            continue;
+        }
+        return put(out, n, NO_NUMBER);
+    }
+    if begun {
+        return put(out, n, a as u16);
+    }
+    n
+}
+
+// The plan file of the row that a text says: how many bytes, or refusal 1 to 10, 13.
+pub fn pack_text(text: &[u8], file: &mut [u8]) -> Answer
+    ensures { λ r. ⌜ Writes (numbersOf (now (text .entry))) (now (file .entry)) (now (file .exit)) r ⌝ }
+{
+    let mut row = [0u16; ROW_ROOM];
+    let n = numbers(text, &mut row);
+    if n <= ROW_ROOM {
+        return plan::write_file(&row[..n], file);
+    }
+    plan::write_file(&row, file)
+}
