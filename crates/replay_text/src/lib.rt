@@ -1,7 +1,7 @@
 // What the replay program prints for the bytes of a plan file and of its input: document 01, "Programs". `replay_text` takes any bytes,
 // lays the whole text into a lent buffer, and refuses with 13 where that is too short. It leans on `plan` (the row of a file), `cut_lines`
 // (the cuts of an input), `replays` (the replay) and `listing` (the text). That the first bytes of a long file and a long input print what
-// the whole prints, and that a text always has room in `listing::ROOM` bytes, is in proofs/Theorems.
+// the whole prints is in proofs/Theorems.
 ghost use Rattle.listing.specs.Prints.{Prints};
 ghost use Rattle.scope.specs.Lines.{cutsOf, replayText};
 ghost use Rattle.replay_text.specs.Text.{textOf};

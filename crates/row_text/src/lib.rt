@@ -19,7 +19,8 @@ const LONGEST_ROW: usize = 10405;
 
 pub const ROOM: usize = 62430;
 
-// A number more than the longest row has, and bytes enough for as many: no text needs more of them to be refused.
+// A number more than the longest row has, so that a longer row is seen to be too long (proofs/Front), and six bytes for each number: five
+// digits and the mark behind them.
 const ROW_ROOM: usize = 10406;
 
 pub const TEXT_ROOM: usize = 62436;
