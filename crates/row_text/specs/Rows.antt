@@ -1,0 +1,53 @@
+-- A row as a line of decimals, and the row that a text says: what the programs `row` and `pack` print and read.
+use Prim.Native.Nat.{ℕ, _+_, _-_, _*_}
+use mathlib.Core.Bool.{Bool, true, false, not, cond, _&&_, _||_}
+use mathlib.Core.List.{List, [], _∷_, _++_}
+use lib.Dec.{ltb, leb, eqb}
+use Rattle.scope.specs.Outcome.{Outcome, gives, refused}
+use Rattle.scope.specs.File.{rowOf}
+use Rattle.scope.specs.Questions.{readFile}
+use Rattle.scope.specs.Lines.{decimal, isDigit, refusedLine, longestRow}
+
+-- the byte after a number of a row: a space, or a line feed after the last
+abbrev pub mark : List ℕ → ℕ
+mark [] = 10
+mark (n ∷ row) = 32
+
+-- a row as text
+unfoldable pub rowLine : List ℕ → List ℕ
+rowLine [] = []
+rowLine (n ∷ row) = (decimal n ++ (mark row ∷ [])) ++ rowLine row
+
+-- what the program `row` prints for a plan file: its row, or its refusal
+unfoldable pub rowText : List ℕ → List ℕ
+rowText file = said (readFile file longestRow)
+  where
+    said : Outcome → List ℕ
+    said (refused k p) = refusedLine k p
+    said (gives n) = rowLine (rowOf file)
+
+-- A text is read byte by byte. `begun` says that a number has begun, and a is what its digits say so far.
+
+-- a digit goes on with it: the number has no needless zero, and 16 bits
+abbrev pub goesOn : Bool → ℕ → ℕ → Bool
+goesOn begun a b = isDigit b && ((not begun || ltb 0 a) && leb (a * 10 + (b - 48)) 65535)
+
+-- a space or a line feed ends it
+abbrev pub ends : Bool → ℕ → Bool
+ends begun b = begun && (eqb b 32 || eqb b 10)
+
+-- a word that is no number counts as this one, which no field can hold, and nothing is read behind it. So it is refusal 1 as the first
+-- word, 4 after the last field, and else 3, at its index
+abbrev pub noNumber : ℕ
+noNumber = 65535
+
+-- the numbers of a text from here on
+unfoldable pub numbersFrom : Bool → ℕ → List ℕ → List ℕ
+numbersFrom begun a [] = cond begun (a ∷ []) []
+numbersFrom begun a (b ∷ text) =
+    cond (goesOn begun a b) (numbersFrom true (a * 10 + (b - 48)) text)
+    (cond (ends begun b) (a ∷ numbersFrom false 0 text) (noNumber ∷ []))
+
+-- the row that a text says
+abbrev pub numbersOf : List ℕ → List ℕ
+numbersOf text = numbersFrom false 0 text
