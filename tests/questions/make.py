@@ -204,6 +204,20 @@ def questions_verdict():
     late = [1, 2, 2, 1, 2, 0, 1, 0, 2, 2, 1, 0, 0, 0, 1, 1, 1, 2, 0, 0, 2, 1, 1, 1, 2]
     order = [1, 2, 3, 2, 2, 0, 1, 0, 2, 2, 1, 1, 0, 0, 0, 0, 1, 1, 1, 2, 0, 0, 2, 1, 1, 1, 2, 0, 3, 0, 0]
     q += ["verdict 1 2 2 " + nums(late), "verdict 1 3 2 " + nums(order)]
+    # example 4.1 of document 000, with first paths that make all that its text claims true: at most two cuts before the cycle leave two
+    # messages, and two cuts in slot 1 leave fewer
+    net = [(0, 1), (1, 2), (2, 3), (1, 4), (1, 5), (1, 6), (1, 7), (7, 8), (8, 9), (9, 4), (4, 3), (0, 7), (8, 10), (10, 6), (0, 11), (11, 8), (9, 5), (0, 12), (12, 13), (13, 9)]
+    four = [
+        [(0, 0, None), (1, 1, [6, 7, 8, 9, 10]), (2, 2, None)],
+        [(0, 1, [17, 18, 19, 9]), (3, 2, None)],
+        [(0, 2, [14, 15, 8, 16]), (4, 3, None)],
+        [(0, 3, [11, 7, 12, 13]), (5, 4, None)],
+    ]
+    example = line(14, 20, 4, 5, net, four)
+    q += ["verdict %d %d 6 %s" % (k, l, nums(example)) for k in range(4) for l in range(5)]
+    # the accident of the mission: no cut before the cycle does harm, and one in slot 3 does
+    accident = [int(x) for x in open("../../samples/accident/row.txt").read().split()]
+    q += ["verdict %d %d 6 %s" % (k, l, nums(accident)) for k in range(4) for l in range(4)]
     return q
 
 
