@@ -1,0 +1,79 @@
+// Asks one question of the plan in `plan.bin` many times, for `./nuthatchet bench`: `bench read N`, `bench replay N` (link 0 cut in slot 0),
+// `bench verdict N` (all answers for k 2). It prints the sum of the answers, which the C program beside it (bench/bench.c) prints too.
+ghost use Prim.Native.Nat.{_<_};
+use scope::Answer;
+
+// An answer as a small number.
+fn small(answer: Answer) -> usize
+    ensures { λ r. ⌜ r < 65536 ⌝ }
+{
+    match answer {
+        Answer::Gives(n) => n % 65536,
+        Answer::Refused(r) => r.no % 65536,
+    }
+}
+
+fn read(file: &[u8], row: &mut [u16], turns: usize) -> usize {
+    let mut sum: usize = 0;
+    let mut i = 0;
+    while i < turns {
+        sum = (sum + small(plan::read_file(file, row))) % 65536;
+        i += 1;
+    }
+    sum
+}
+
+fn replay(row: &[u16], cuts: &[u16], events: &mut [u16], turns: usize) -> usize {
+    let mut sum: usize = 0;
+    let mut i = 0;
+    while i < turns {
+        sum = (sum + small(replays::replay(row, cuts, events))) % 65536;
+        i += 1;
+    }
+    sum
+}
+
+fn verdict(row: &[u16], answers: &mut [u16], turns: usize) -> usize {
+    let mut sum: usize = 0;
+    let mut i = 0;
+    while i < turns {
+        sum = (sum + small(answers::all_answers(row, 2, answers))) % 65536;
+        i += 1;
+    }
+    sum
+}
+
+// The number that the second argument says, behind a space.
+fn turns() -> usize {
+    let mut word = [0u8; 8];
+    let n = os::arg(2, &mut word);
+    words::number(&word[..n], 0).value
+}
+
+// The third letter tells the questions apart: reAd, rePlay, veRdict.
+fn ask(what: u8, file: &[u8], row: &mut [u16]) -> usize {
+    if what == b'a' {
+        return read(file, row, turns());
+    }
+    let n = small(plan::read_file(file, row));
+    if row.len() < n {
+        return 0;
+    }
+    if what == b'p' {
+        let mut events = [0u16; 4096];
+        return replay(&row[0..n], &[0, 0], &mut events, turns());
+    }
+    let mut answers = [0u16; 231];
+    verdict(&row[0..n], &mut answers, turns())
+}
+
+fn main() {
+    let mut file = [0u8; files::PLAN_ROOM];
+    let mut row = [0u16; flow::LONGEST_ROW];
+    let mut name = [0u8; 8];
+    let n = files::read_plan(&mut file);
+    os::arg(1, &mut name);
+    let sum = ask(name[2], &file[..n], &mut row);
+    io::print_decimal(libc::STDOUT_FILENO, sum as u64);
+    io::write_all(libc::STDOUT_FILENO, b"\n");
+}
