@@ -47,8 +47,28 @@ fn lines(k: usize, all: &[u16], out: &mut [u8], at: usize) -> usize {
     next
 }
 
+// Whether the clock shows another second than at the start.
+fn late(start: i64) -> bool {
+    let mut now: i64 = 0;
+    libc::time(&mut now) != start
+}
+
+// On standard error, how far it is, once it has taken a second.
+fn progress(k: usize, start: i64) {
+    if late(start) {
+        let mut said = [0u8; 64];
+        let first = put(&mut said, 0, b"verdict: trying lists of up to ");
+        let next = put_number(&mut said, first, k);
+        let end = put(&mut said, next, b" cuts\n");
+        if end <= 64 {
+            io::write_all(libc::STDERR_FILENO, &said[0..end]);
+        }
+    }
+}
+
 // The lines under k.
-fn under(row: &[u16], k: usize, out: &mut [u8], at: usize) -> usize {
+fn under(row: &[u16], k: usize, start: i64, out: &mut [u8], at: usize) -> usize {
+    progress(k, start);
     let mut all = [0u16; ANSWERS];
     let answer = answers::all_answers(row, k, &mut all);
     match answer {
@@ -64,12 +84,12 @@ fn under(row: &[u16], k: usize, out: &mut [u8], at: usize) -> usize {
 }
 
 // All k up to the highest that is printed.
-fn table(row: &[u16], highest: usize, out: &mut [u8]) -> usize {
+fn table(row: &[u16], highest: usize, start: i64, out: &mut [u8]) -> usize {
     let mut next = 0;
     let mut k = 0;
     while k <= highest {
         if highest < 4 {
-            next = under(row, k, out, next);
+            next = under(row, k, start, out, next);
             k += 1;
         } else {
             return next;
@@ -133,7 +153,9 @@ fn front(row: &[u16], n: usize) -> &[u16] {
 
 // All lines of a good row.
 fn all_lines(row: &[u16], out: &mut [u8]) -> usize {
-    let next = table(row, highest(row), out);
+    let mut start: i64 = 0;
+    libc::time(&mut start);
+    let next = table(row, highest(row), start, out);
     slacks(row, out, next)
 }
 

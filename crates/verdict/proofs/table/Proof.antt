@@ -7,10 +7,10 @@ use Rattle.verdict.proofs.table.Statement.{statement}
 use Rattle.verdict.proofs.table.Tie as tie
 
 abbrev Inv-loop : tie.InvT-loop
-Inv-loop row highest out₀ next₀ k₀ out next k = (k ≤ highest + 1) × (length out ≡ length out₀)
+Inv-loop row highest start out₀ next₀ k₀ out next k = (k ≤ highest + 1) × (length out ≡ length out₀)
 
 abbrev μ-loop : tie.MeasureT-loop
-μ-loop row highest out₀ next₀ k₀ out next k = highest + 1 - k
+μ-loop row highest start out₀ next₀ k₀ out next k = highest + 1 - k
 
 loop-holds : tie.Need-loop-holds Inv-loop μ-loop
 loop-holds c = search needs
