@@ -12,11 +12,11 @@ ours, c = sys.argv[1:split], sys.argv[split + 1 :]
 samples = os.path.join(os.path.dirname(os.path.abspath(__file__)), '..', 'samples')
 asked = [
     ('large', 'read', 20000),
-    ('large', 'replay', 4000),
-    ('large', 'verdict', 2),
-    ('accident', 'read', 60000),
-    ('accident', 'replay', 60000),
-    ('accident', 'verdict', 60),
+    ('large', 'replay', 10000),
+    ('large', 'verdict', 60),
+    ('accident', 'read', 65000),
+    ('accident', 'replay', 65000),
+    ('accident', 'verdict', 4000),
 ]
 repetitions = 7
 
