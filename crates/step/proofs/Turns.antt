@@ -7,7 +7,9 @@ use native.Mathlib.Omega.{arith}
 use borrow.Author.Tests.{eq-eqb, ne-eqb}
 use Rattle.scope.specs.Plan.{at, numbersAt}
 use Rattle.scope.specs.Slot.{onSecond, turn}
-use Rattle.step.specs.Where.{leftAt, endAt}
+use Rattle.step.specs.declared.Position.{Position}
+use Rattle.step.specs.declared.Met.{Met}
+use Rattle.step.specs.Where.{leftAt, positionOf, endAt, Leads, Faces, Meets}
 use Rattle.step.proofs.Left.{numbers-next, places-none, places-next, after-size, size-second}
 
 module _ (row : List ℕ) (down : ℕ → Bool) (i n : ℕ) where
@@ -41,3 +43,13 @@ module _ (row : List ℕ) (down : ℕ → Bool) (i n : ℕ) where
 
       pub turn-within : i + 4 + (k + 1) ≤ endAt row b i n
       turn-within = rw f (omega (arith, after-size row i n some, size-second row i flag))
+
+-- where it stands after its turn, it faces the link before it
+pub meets-by : (row : List ℕ) (down : ℕ → Bool) (p q : Position) (r : Met) → Leads row p (turn down (positionOf row p)) q → 0 < q .left → Faces row down q r → Meets row down p r
+meets-by row down p q r t l f =
+    record {
+      turned = rw (f .same) t;
+      left = rw (f .same) l;
+      link = rw (f .same) (f .link);
+      cut = f .cut;
+    }
