@@ -3,6 +3,7 @@ pub mod Going
 pub mod Tried
 pub mod Moves
 pub mod Acting
+pub mod Pass
 pub mod Start
 pub mod Slots
 pub mod Whole
