@@ -4,6 +4,9 @@ pub mod Tried
 pub mod Moves
 pub mod Acting
 pub mod Pass
+pub mod Passing
+pub mod Telling
+pub mod Moving
 pub mod Start
 pub mod Slots
 pub mod Whole
