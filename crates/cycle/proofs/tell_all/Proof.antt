@@ -1,63 +1,66 @@
+-- `cycle::tell_all` meets its contract. The loop's invariant: the events of the first m messages are told. Assumes nothing.
+use Prim.Native.Nat.{_-_, _<_}
+use mathlib.Core.Path.{_≡_, refl}
+use native.Mathlib.Omega.{arith}
+use lib.ListN.{length}
+use Rattle.cuts.specs.From.{downOf}
+use Rattle.cycle.specs.Stand.{Stand}
+use Rattle.cycle.specs.Slot.{ownerOf}
+use Rattle.cycle.proofs.Passing.{passing-notes}
+use Rattle.cycle.proofs.Telling.{Telling, telling-none, telling-length, telling-room, telling-more, telling-done}
+use borrow.Author.Needs.{needs}
 use Rattle.cycle.proofs.tell_all.Statement.{statement}
 use Rattle.cycle.proofs.tell_all.Tie as tie
-use Rattle.cycle.proofs.tell_all.Reads as reads
-use Rattle.cycle.proofs.tell_all.Lts as lts
-use Rattle.cycle.proofs.act_one.Reads as act-one-reads
-use Rattle.cycle.proofs.put_event.Reads as put-event-reads
 
 abbrev Inv-loop : tie.InvT-loop
-Inv-loop n row table from i out₀ ps tried₀ m₀ out tried m = ?
+Inv-loop n row table from i out₀ ps tried₀ m₀ out tried m = (i .0 < 65536) × Stand row n ps × Telling row (downOf from) (ownerOf table) (i .0) n ps tried₀ out₀ m tried out
 
 abbrev μ-loop : tie.MeasureT-loop
-μ-loop n row table from i out₀ ps tried₀ m₀ out tried m = ?
+μ-loop n row table from i out₀ ps tried₀ m₀ out tried m = n - m
 
--- src/lib.rt:208:5
 loop-holds : tie.Need-loop-holds Inv-loop μ-loop
-loop-holds c = ?
+loop-holds c =
+    let z : length (c .before .before .before .before .args .t1) ≡ 32 = search needs in
+    (c .before .before .before .before .pre .early, c .before .before .before .before .pre .stand, telling-none _ _ _ _ _ _ _ _ (c .before .before .before .before .pre .stand .few) (omega (arith, z, c .before .before .before .before .pre .stand .few)) (omega arith) refl (c .before .before .before .before .pre .enough))
 
--- src/lib.rt:209:17
 mul-p : tie.Need-mul-p Inv-loop μ-loop
-mul-p c = ?
+mul-p c = omega (arith, c .loop-test .taken, c .before .loop .inv .1 .few)
 
--- src/lib.rt:209:17
 array-copy-out-p : tie.Need-array-copy-out-p Inv-loop μ-loop
-array-copy-out-p c = ?
+array-copy-out-p c = omega (arith, c .loop-test .taken, c .before .loop .inv .1 .few)
 
--- src/lib.rt:210:56
 slice-aggregate-act-one : tie.Need-slice-aggregate-act-one Inv-loop μ-loop
-slice-aggregate-act-one c = ?
+slice-aggregate-act-one c = search needs
 
--- src/lib.rt:210:13
 act-one-requires : tie.Need-act-one-requires Inv-loop μ-loop
-act-one-requires c κs = ?
+act-one-requires c κs =
+    record {
+      fit = c .before .before .before .loop .inv .1 .fit _ (c .before .before .loop-test .taken);
+      early = c .before .before .before .loop .inv .0;
+      noting = passing-notes _ _ _ _ _ _ _ _ _ (c .before .before .before .loop .inv .2 .passing) (c .before .before .loop-test .taken);
+    }
 
--- src/lib.rt:212:24
 mul-put-event : tie.Need-mul-put-event Inv-loop μ-loop
-mul-put-event c = ?
+mul-put-event c = omega (arith, c .before .before .before .before .before .loop-test .taken, c .before .before .before .before .before .before .loop .inv .1 .few)
 
--- src/lib.rt:212:9
 put-event-requires : tie.Need-put-event-requires Inv-loop μ-loop
-put-event-requires c κs = ?
+put-event-requires c κs = telling-room _ _ _ _ _ _ _ _ _ _ _ (c .before .before .before .before .before .before .loop .inv .2) (c .before .before .before .before .before .loop-test .taken)
 
--- src/lib.rt:213:9
 add-m : tie.Need-add-m Inv-loop μ-loop
-add-m c = ?
+add-m c = omega (arith, c .before .before .before .before .before .before .before .before .loop-test .taken, c .before .before .before .before .before .before .before .before .before .loop .inv .1 .few)
 
--- src/lib.rt:208:5
 loop-less : tie.Need-loop-less Inv-loop μ-loop
-loop-less c = ?
+loop-less c = omega (arith, c .before .before .before .before .before .before .before .before .loop-test .taken)
 
--- src/lib.rt:208:5
 loop-again : tie.Need-loop-again Inv-loop μ-loop
-loop-again c = ?
+loop-again c =
+    (c .before .before .before .before .before .before .before .before .before .loop .inv .0, c .before .before .before .before .before .before .before .before .before .loop .inv .1, telling-more _ _ _ _ _ _ _ _ _ _ _ (c .before .before .before .before .before .before .before .before .before .loop .inv .2) (c .before .before .before .before .before .act-one .result) _ _ (c .before .before .before .before .before .before .before .before .loop-test .taken) (c .before .before .before .before .before .act-one .ensures) (c .before .before .put-event .ensures))
 
--- src/lib.rt:194:1
 same-length : tie.Need-same-length Inv-loop μ-loop
-same-length c = ?
+same-length c = telling-length _ _ _ _ _ _ _ _ _ _ _ (c .before .loop .inv .2)
 
--- src/lib.rt:194:1
 returns : tie.Need-returns Inv-loop μ-loop
-returns c = ?
+returns c = telling-done _ _ _ _ _ _ _ _ _ _ _ (c .before .loop .inv .2) (c .loop-test .left)
 
 pub tell-all-spec : {M : Type 1} → statement M
 tell-all-spec =
