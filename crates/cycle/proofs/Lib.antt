@@ -7,6 +7,7 @@ pub mod Pass
 pub mod Passing
 pub mod Telling
 pub mod Moving
+pub mod Again
 pub mod Start
 pub mod Slots
 pub mod Whole
