@@ -13,10 +13,10 @@ samples = os.path.join(os.path.dirname(os.path.abspath(__file__)), '..', 'sample
 asked = [
     ('large', 'read', 20000),
     ('large', 'replay', 10000),
-    ('large', 'verdict', 60),
+    ('large', 'verdict2', 60),
     ('accident', 'read', 65000),
     ('accident', 'replay', 65000),
-    ('accident', 'verdict', 4000),
+    ('accident', 'verdict2', 4000),
 ]
 repetitions = 7
 
