@@ -284,7 +284,7 @@ static int verdict(int k) { /* all answers: how many numbers they are */
     }
     begin();
     least = M;
-    for (int n = 0; n <= k;) {
+    for (int n = 0; n <= k && least;) { /* for l 0 nothing is to be asked */
         need = M + 1 - least;
         if (!hunt(n)) n++;
         else {
