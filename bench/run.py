@@ -8,6 +8,7 @@ import math, os, shutil, subprocess, sys, tempfile
 
 here = os.path.dirname(os.path.abspath(__file__))
 sys.path.insert(0, here)
+sys.dont_write_bytecode = True
 import encode
 
 split = sys.argv.index('--')
