@@ -28,6 +28,9 @@ asked = [
     ('network-1', 'verdict3', 1),
     ('network-2', 'verdict3', 1),
     ('network-3', 'verdict3', 1),
+    ('chain-1', 'verdict3', 10),
+    ('chain-2', 'verdict3', 10),
+    ('chain-3', 'verdict3', 10),
     ('small-1', 'verdict3', 200),
     ('small-2', 'verdict3', 200),
     ('small-3', 'verdict3', 200),
@@ -95,6 +98,11 @@ def against_c():
     return each
 
 
+def plan_of(plan):
+    with open(os.path.join(folder(plan), 'plan.bin'), 'rb') as file:
+        return encode.read(file.read())
+
+
 def walks(plan, k):
     """For each walk of the search: l, pairs, lists played, slots played, arrivals of the list found or -."""
     said, _ = ask(c, plan, 'count%d' % k, 1)
@@ -106,8 +114,7 @@ def lists_played():
     print('\n%-10s %1s %6s %12s %12s %18s %12s' % ('plan', 'k', 'walks', 'lists played', 'slots played', 'lists there are', 'played'), flush=True)
     edges = {}
     for plan in searched:
-        with open(os.path.join(folder(plan), 'plan.bin'), 'rb') as file:
-            timeout, links, _ = encode.read(file.read())
+        timeout, links, _ = plan_of(plan)
         for k in 1, 2, 3:
             rows = walks(plan, k)
             lists, slots = sum(int(row[2]) for row in rows), sum(int(row[3]) for row in rows)
@@ -116,6 +123,17 @@ def lists_played():
         last = rows[-1]
         edges[plan] = int(last[0] if last[4] == '-' else last[4])
     return edges
+
+
+def each_walk():
+    """The walks of two plans one by one."""
+    print('\n%-10s %2s %5s %12s %12s %18s   %s' % ('plan, k 3', 'l', 'pairs', 'lists played', 'slots played', 'lists there are', 'found'), flush=True)
+    for plan in 'network-1', 'wide-1':
+        timeout, links, _ = plan_of(plan)
+        for l, pairs, lists, slots, found in walks(plan, 3):
+            there = math.comb(links, int(pairs)) * timeout ** int(pairs)
+            arrivals = '-' if found == '-' else 'a list that leaves ' + found
+            print('%-10s %2s %5s %12s %12s %18d   %s' % (plan, l, pairs, lists, slots, there, arrivals), flush=True)
 
 
 def against_solver(each, edges):
@@ -128,10 +146,9 @@ def against_solver(each, edges):
     with tempfile.TemporaryDirectory() as work:
         question = os.path.join(work, 'question.smt2')
         for plan in searched:
-            with open(os.path.join(folder(plan), 'plan.bin'), 'rb') as file:
-                read = encode.read(file.read())
+            read = plan_of(plan)
             for l, expected in ((edges[plan] + 1, 'sat'), (edges[plan], 'unsat')):
-                if l > len(read[2]):
+                if l == 0 or l > len(read[2]):
                     continue
                 with open(question, 'w') as file:
                     file.write(encode.encode(*read, 3, l))
@@ -151,4 +168,6 @@ def against_solver(each, edges):
 
 make_plans()
 times = against_c()
-against_solver(times, lists_played())
+edges = lists_played()
+each_walk()
+against_solver(times, edges)
