@@ -158,11 +158,9 @@ def against_solver(each, edges):
                     sys.exit('%s, k 3, l %d: the solver says %s, and we say %s' % (plan, l, said, expected))
                 more = '> ' if said == 'timeout' else ''
                 meant = 'failing' if expected == 'sat' else 'resistant'
-                print(
-                    '%-10s %2d %-9s %10s %14.5f   %s%.1f'
-                    % (plan, l, meant, more + '%.2f' % seconds, each[plan], more, seconds / each[plan]),
-                    flush=True,
-                )
+                ratio = seconds / each[plan]
+                times = more + ('%.1f' if ratio >= 1 else '%.2f') % ratio
+                print('%-10s %2d %-9s %10s %14.5f   %s' % (plan, l, meant, more + '%.2f' % seconds, each[plan], times), flush=True)
                 note('%s, l %d: done' % (plan, l))
 
 
