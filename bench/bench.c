@@ -1,7 +1,7 @@
 /* The questions of `crates/bench` in plain C, with the same algorithms as far as they are known, compiled for the same target: reading a
    plan file into a row with every rule, one replay, and all answers for one k by the same search, in place. `bench QUESTION N` prints a
    checksum of the answers and of the numbers that the last one wrote. `bench countK 1` tells instead, for each walk of the search, l, how
-   many pairs its lists have, how many lists it plays to the end, how many slots it plays, and the arrivals of the list it finds, or -.
+   many pairs its lists have, how many lists it plays, how many slots it plays, and the arrivals of the list it finds, or -.
    No header is used, since the kit has none. */
 typedef unsigned char u8;
 typedef unsigned short u16;
@@ -216,33 +216,45 @@ static int replay(void) {
     return arrived(ps);
 }
 
+static unsigned touches[64 * 64]; /* the messages that have a link before them in a slot or later */
 static u8 weight[64 * 64], top[64];
 static u16 pairs[6], answers[231];
 static int need, least, best, counting;
 static long lists, slots;
 
-static int finish(const position *ps, int s) { /* the list picked, played from its last pair on */
+static int at_risk(const position *ps, unsigned touched) { /* how many messages are touched and not home */
+    int n = 0;
+    for (int m = 0; m < M; m++) n += ps[m].left && touched >> m & 1;
+    return n;
+}
+
+static int finish(const position *ps, int s, unsigned touched) { /* the list picked, played from its last pair on as long as it can fail */
     position play[32];
     copy(play, ps);
-    for (int i = s; i < T; i++) slot(play, i);
-    lists++, slots += T - s;
+    for (int i = s; i < T; i++) {
+        if (at_risk(play, touched) < need) return 0;
+        lists += i == s;
+        slot(play, i);
+        slots++;
+    }
     best = arrived(play);
     return best < least;
 }
 
 /* The first list of n more pairs, from slot s and link e on, that leaves fewer than `least`. */
-static int level(const position *ps, int n, int at, int s, int e, int sum) {
+static int level(const position *ps, int n, int at, int s, int e, unsigned touched) {
     position now[32];
     copy(now, ps);
     for (; s < T; s++, e = 0) {
-        if (sum + n * top[s] < need) return 0;
-        int floor = need - sum - (n - 1) * top[s];
+        int risk = at_risk(now, touched);
+        if (risk + n * top[s] < need) return 0;
+        int floor = need - risk - (n - 1) * top[s];
         for (; e < E; e++) {
-            int w = weight[s * 64 + e];
-            if (w < floor || cut_from[e] != 65535) continue;
+            if (weight[s * 64 + e] < floor || cut_from[e] != 65535) continue;
             cut_from[e] = pairs[at] = s;
             pairs[at + 1] = e;
-            int found = n == 1 ? finish(now, s) : level(now, n - 1, at + 2, s, e + 1, sum + w);
+            unsigned all = touched | touches[s * 64 + e];
+            int found = n == 1 ? finish(now, s, all) : level(now, n - 1, at + 2, s, e + 1, all);
             cut_from[e] = 65535;
             if (found) return 1;
         }
@@ -254,7 +266,7 @@ static int level(const position *ps, int n, int at, int s, int e, int sum) {
 
 static int hunt(int n) { /* one walk: the lists of n pairs */
     lists = slots = 0;
-    int found = n ? level(start, n, 0, 0, 0, 0) : finish(start, 0);
+    int found = n ? level(start, n, 0, 0, 0, 0) : finish(start, 0, 0);
     if (counting) {
         printf("%d %d %ld %ld ", least, n, lists, slots);
         if (found) printf("%d\n", best);
@@ -275,8 +287,14 @@ static int verdict(int k) { /* all answers: how many numbers they are */
     int r = rules();
     if (r) return r;
     clear_cuts();
-    for (int e = 0; e < E; e++)
-        for (int s = T - 1, n = 0; s >= 0; s--) weight[s * 64 + e] = n += table[s * 64 + e] != 0;
+    for (int e = 0; e < E; e++) {
+        unsigned set = 0;
+        for (int s = T - 1, n = 0; s >= 0; s--) {
+            if (table[s * 64 + e]) set |= 1u << (table[s * 64 + e] - 1), n++;
+            touches[s * 64 + e] = set;
+            weight[s * 64 + e] = n;
+        }
+    }
     for (int s = 0; s < T; s++) {
         top[s] = 0;
         for (int e = 0; e < E; e++)

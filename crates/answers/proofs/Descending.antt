@@ -1,11 +1,11 @@
 -- From the highest l down: the first failing list for l is that for every l above its arrivals, and a plan that is resistant for l is so
 -- for every lower l.
-use Prim.Native.Nat.{ℕ, _+_, _-_, _*_, _/_, _≤_, _<_}
+use Prim.Native.Nat.{ℕ, _+_, _-_, _*_, _≤_, _<_}
 use native.Mathlib.Omega.{arith}
-use mathlib.Core.Path.{_≡_, refl, sym, _∙_, ap, ap₂}
-use mathlib.Core.Logic.{_⊎_, inl, inr}
-use mathlib.Core.Bool.{Bool, true, false, true≢false}
-use mathlib.Core.List.{List, [], _∷_, _++_}
+use mathlib.Core.Path.{_≡_, refl, sym, _∙_, ap₂}
+use mathlib.Core.Logic.{inl, inr}
+use mathlib.Core.Bool.{Bool, true, false}
+use mathlib.Core.List.{List, _∷_, _++_}
 use lib.ListN.{length, take, drop, replicate}
 use lib.Seq.{length-take-le}
 use lib.Dec.{ltb}
@@ -17,10 +17,9 @@ use Rattle.scope.specs.Verdict.{Resistant, FirstFailing}
 use Rattle.step.specs.declared.Position.{Position}
 use Rattle.hunt.specs.declared.Asked.{Asked}
 use Rattle.hunt.specs.declared.Hunted.{Hunted}
-use Rattle.hunt.specs.Search.{AllLeave}
 use Rattle.hunt.specs.Hunt.{MayHunt, Hunts}
 use Rattle.hunt.proofs.Answer.{all-leave}
-use Rattle.answers.specs.Answers.{resistant, failing, SaysResistant, SaysFailing, Says, seven, needed, AllSaid}
+use Rattle.answers.specs.Answers.{resistant, failing, Says, seven, needed, AllSaid}
 use Rattle.answers.specs.Filling.{paddedOf, Filled, MayFill, MayAskOn, MayPut}
 
 lower-first : (plan : Plan) (k l m : ℕ) (cuts : List ℕ) → FirstFailing plan k l cuts → arrivals plan cuts < m → m ≤ l → FirstFailing plan k m cuts

@@ -1,27 +1,29 @@
 -- The loop over the number of pairs.
-use Prim.Native.Nat.{ℕ, _+_, _*_, _/_, _≤_, _<_}
+use Prim.Native.Nat.{ℕ, _+_, _*_, _≤_, _<_}
 use native.Mathlib.Omega.{arith}
 use mathlib.Core.Path.{_≡_, refl, sym, _∙_, ap, subst}
 use mathlib.Core.Bool.{Bool, true, false, true≢false}
 use mathlib.Core.List.{List, []}
-use lib.ListN.{length, getD, take, getD-replicate}
+use lib.ListN.{length, take, getD-replicate}
 use lib.Dec.{ltb}
 use borrow.Author.Tests.{ltb-true, ltb-false, lt-leb}
 use Rattle.scope.specs.Plan.{planOf}
-use Rattle.scope.specs.Cuts.{pairs, isCut, badPair}
+use Rattle.scope.specs.Cuts.{pairs, isCut}
 use Rattle.scope.specs.Cycle.{arrivals}
 use Rattle.laws.proofs.Cuts.{no-cuts}
-use Rattle.cuts.specs.From.{never, downOf, Tells}
+use Rattle.cuts.specs.From.{never, downOf}
 use Rattle.step.specs.declared.Position as P
-use Rattle.touch.specs.Sums.{sum}
+use Rattle.touch.specs.Marks.{Marks}
 use Rattle.hunt.specs.declared.Asked.{Asked}
 use Rattle.hunt.specs.declared.Picked.{Picked}
 use Rattle.hunt.specs.declared.Found.{Found}
 use Rattle.hunt.specs.declared.Hunted.{Hunted}
 use Rattle.hunt.specs.Search.{AllLeave}
-use Rattle.hunt.specs.Hunt.{noPair, Ready, Holding, Weighed, MaySeek, Sought, MayHunt, Hunts}
+use Rattle.hunt.specs.Hunt.{cutsOf, noPair, Holding, MaySeek, Sought, MayHunt, Hunts}
+use Rattle.hunt.specs.Risk.{MayMarkPicked}
 use Rattle.hunt.proofs.Pairs.{is-cut-list}
 use Rattle.hunt.proofs.Answer.{first-failing}
+use Rattle.hunt.proofs.Risk.{may-mark-picked}
 
 holding-none : (row table weights most : List ℕ) (a : Asked) → Holding row a noPair
 holding-none row table weights most a =
@@ -42,10 +44,6 @@ holding-none row table weights most a =
   where
     by : (i e : ℕ) → i < never → e < 64 → downOf (noPair .from) i e ≡ isCut [] i e
     by i e h g = rw (getD-replicate {A = ℕ} 64 e 65535 65535 g, lt-leb 65535 i h, no-cuts)
-
-weighed-none : (weights : List ℕ) → Weighed weights noPair
-unfolding sum
-weighed-none weights = record { is = refl; light = omega arith }
 
 -- for l 0 every list leaves enough
 pub none-for-nought : (row : List ℕ) (l k : ℕ) (h : Hunted) → l ≡ 0 → h .found ≡ false → h .pairs ≡ 0 → length (h .numbers) ≡ 6 → Hunts row l k h
@@ -68,16 +66,19 @@ module _ (row table weights most : List ℕ) (a : Asked) (ps : List P.Position) 
   pub hunt-first : Hunting row a low k low
   hunt-first = record { within = m .within; leave = m .before }
 
-  pub may-seek : (n : ℕ) (p : Picked) → n ≤ k → p ≡ noPair → MaySeek row table weights most a ps p n
-  may-seek n p h is =
-      rw is
-      (record {
+  pub may-mark-none : (p : Picked) → p ≡ noPair → MayMarkPicked table p
+  may-mark-none p is =
+      rw is (may-mark-picked row table a noPair (m .ready .play) (holding-none row table weights most a) (omega arith))
+
+  pub may-seek : (n : ℕ) (p : Picked) (marks : List ℕ) → n ≤ k → p ≡ noPair → Marks table (cutsOf p) marks → MaySeek row table weights most marks a ps p n
+  may-seek n p marks h is marked =
+      record {
         ready = m .ready;
-        holding = holding-none row table weights most a;
-        weighed = weighed-none weights;
-        stand = m .stand;
-        few = omega (arith, m .few);
-      })
+        holding = rw is (holding-none row table weights most a);
+        marked = marked;
+        stand = rw is (m .stand);
+        few = rw is (omega (arith, m .few));
+      }
 
   module _ (n : ℕ) (g : Hunting row a low k n) (p : Picked) (r : Found) (is : p ≡ noPair) (f : Sought row (a .least) p n r) where
     found : Sought row (a .least) noPair n r

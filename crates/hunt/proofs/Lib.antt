@@ -4,8 +4,8 @@ pub mod Before
 pub mod Weigh
 pub mod Steps
 pub mod Answer
-pub mod Playing
 pub mod Picking
+pub mod Risk
+pub mod Playing
 pub mod Levels
 pub mod Hunting
-pub mod Risk

@@ -1,18 +1,17 @@
 -- Cut lists, pair by pair: a list with one pair more, and what a list says of the pair after a part of it.
-use Prim.Native.Nat.{ℕ, zero, suc, _+_, _-_, _*_, _/_, _≤_, _<_}
+use Prim.Native.Nat.{ℕ, zero, suc, _+_, _-_, _*_, _≤_, _<_}
 use native.Mathlib.Omega.{arith}
 use mathlib.Core.Path.{_≡_, refl, sym, _∙_, ap, ap₂}
 use mathlib.Core.Bool.{Bool, true, false, not, _&&_, _||_, true≢false}
-use mathlib.Core.List.{List, [], _∷_, _++_, append-assoc}
+use mathlib.Core.List.{List, [], _∷_, _++_}
 use lib.ListN.{length, length-append}
 use lib.Dec.{ltb, eqb}
-use borrow.Author.Tests.{ltb-true, ltb-false, lt-ltb, le-ltb, eq-eqb, ne-eqb, eqb-true, eqb-false, not-true, not-false}
-use Rattle.scope.specs.Lowest.{some}
+use borrow.Author.Tests.{ltb-true, ltb-false, lt-ltb, eq-eqb, ne-eqb, eqb-true, eqb-false, not-false}
 use Rattle.scope.specs.Plan.{Plan}
 use Rattle.scope.specs.Cuts.{pairs, cutSlot, cutLink, pairBefore, falls, badPair, isCutList}
-use Rattle.scope.proofs.Cuts.{not-bad, slot-below, link-below, rising, once, even}
-use Rattle.hunt.specs.Search.{code, codeAt, Chosen}
-use Rattle.touch.proofs.Some.{none, none-below, some-same}
+use Rattle.scope.proofs.Cuts.{slot-below, link-below, rising, once, even}
+use Rattle.hunt.specs.Search.{code, codeAt}
+use Rattle.touch.proofs.Some.{none, none-below}
 use Rattle.touch.proofs.Parts.{slot-left, link-left, slot-right, link-right}
 
 -- pairs rise as their codes do

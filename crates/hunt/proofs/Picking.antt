@@ -1,30 +1,27 @@
--- One pair more: the numbers, the first cuts, the weight and the positions.
-use Prim.Native.Nat.{ℕ, zero, suc, _+_, _-_, _*_, _/_, _≤_, _<_}
+-- One pair more: the numbers, the first cuts and the positions.
+use Prim.Native.Nat.{ℕ, suc, _+_, _*_, _≤_, _<_}
 use native.Mathlib.Omega.{arith}
-use native.Mathlib.Nat.{suc-mul}
-use mathlib.Core.Path.{_≡_, refl, sym, _∙_, ap, ap₂}
-use mathlib.Core.Bool.{Bool, true, false, _&&_, _||_, true≢false, or-false}
+use mathlib.Core.Path.{_≡_, refl, sym, _∙_, ap}
+use mathlib.Core.Bool.{Bool, true, false, _&&_, true≢false, or-false}
 use mathlib.Core.List.{List, [], _∷_, _++_, append-assoc}
-use lib.ListN.{length, getD, take, set, length-set, length-take}
-use lib.Seq.{take-suc-set, length-take-le, getD-set-same, getD-set-other}
-use lib.Dec.{ltb, leb, eqb}
-use borrow.Author.Tests.{eqb-true, eqb-false, eq-eqb, le-leb, lt-leb, leb-true}
+use lib.ListN.{length, getD, take, set, length-set}
+use lib.Seq.{take-suc-set, getD-set-same, getD-set-other}
+use lib.Dec.{leb, eqb}
+use borrow.Author.Tests.{eqb-true, eqb-false, eq-eqb, le-leb, lt-leb}
 use Rattle.scope.specs.Plan.{Plan, planOf}
 use Rattle.scope.specs.Cuts.{pairs, cutSlot, cutLink, isCut, isCutList}
-use Rattle.scope.specs.Cycle.{byNumber, tableOf, start, positions}
+use Rattle.scope.specs.Cycle.{positions}
 use Rattle.scope.proofs.Cuts.{slot-below}
 use Rattle.laws.proofs.Cuts.{cut-pair}
 use Rattle.cuts.specs.From.{never, cutFrom, downOf, Tells}
 use Rattle.cuts.proofs.From.{getD-any}
 use Rattle.step.specs.declared.Position as P
-use Rattle.touch.specs.Bound.{harm, weightIn}
 use Rattle.hunt.specs.declared.Asked.{Asked}
 use Rattle.hunt.specs.declared.Picked.{Picked}
-use Rattle.hunt.specs.Search.{code, Chosen}
-use Rattle.hunt.specs.Hunt.{cutsOf, withPair, Playable, Holding, Weighed, StandAt}
+use Rattle.hunt.specs.Search.{code}
+use Rattle.hunt.specs.Hunt.{cutsOf, withPair, Playable, Holding, StandAt}
 use Rattle.touch.proofs.Some.{some-one}
 use Rattle.hunt.proofs.Prefix.{cut-more, same-before}
-use Rattle.hunt.proofs.Weigh.{harm-next}
 use Rattle.hunt.proofs.Steps.{picked}
 
 -- two numbers more at the front of a list
@@ -80,11 +77,11 @@ tells-more pre from d s e long t h whole =
         ap (λ (k : ℕ). leb k i) (getD-set-other from e x s 65535 other) ∙ t .is i x l g ∙
         sym (cut-more pre d s e long i x ∙ rw (q, or-false (isCut pre i x)))
 
-module _ (row table : List ℕ) (a : Asked) (p : Picked) (y : Playable row table a) (h : Holding row a p) (s e w : ℕ) (room : p .count < 3) where
-  pub cuts-more : cutsOf (withPair p s e w) ≡ cutsOf p ++ s ∷ e ∷ []
+module _ (row table : List ℕ) (a : Asked) (p : Picked) (y : Playable row table a) (h : Holding row a p) (s e : ℕ) (room : p .count < 3) where
+  pub cuts-more : cutsOf (withPair p s e) ≡ cutsOf p ++ s ∷ e ∷ []
   cuts-more = take-two (p .numbers) (p .count) s e (omega (arith, h .long))
 
-  pub holding-more : code (p .slot) (p .link) ≤ code s e → s < a .timeout → e < a .links → getD (p .from) e 0 ≡ 65535 → Holding row a (withPair p s e w)
+  pub holding-more : code (p .slot) (p .link) ≤ code s e → s < a .timeout → e < a .links → getD (p .from) e 0 ≡ 65535 → Holding row a (withPair p s e)
   holding-more later hs he whole =
       record {
         long = length-set (set (p .numbers) (2 * p .count) s) (2 * p .count + 1) e ∙ length-set (p .numbers) (2 * p .count) s ∙ h .long;
@@ -105,16 +102,7 @@ module _ (row table : List ℕ) (a : Asked) (p : Picked) (y : Playable row table
       first x l true q = rw (eqb-true x e q, getD-set-same (p .from) e s 0 (omega (arith, h .tells .long, y .few))) (omega (arith, y .short))
       first x l false q = rw (getD-set-other (p .from) e x s 0 (eqb-false x e q)) (h .first x l)
 
-  pub weighed-more : (weights : List ℕ) → Weighed weights p → w ≡ weightIn weights s e → w < 256 → Weighed weights (withPair p s e w)
-  weighed-more weights d here small =
-      record {
-        is =
-            rw cuts-more
-            (ap₂ _+_ (d .is) here ∙ sym (harm-next (weightIn weights) (cutsOf p) (s ∷ e ∷ []) (p .count) (h .chosen .long)));
-        light = omega (arith, d .light);
-      }
-
-  pub stand-more : (n : ℕ) (ps : List P.Position) → StandAt row n (cutsOf p) s ps → StandAt row n (cutsOf (withPair p s e w)) s ps
+  pub stand-more : (n : ℕ) (ps : List P.Position) → StandAt row n (cutsOf p) s ps → StandAt row n (cutsOf (withPair p s e)) s ps
   stand-more n ps t =
       rw cuts-more
       (record { is = t .is ∙ sym (same-before (planOf row) (cutsOf p) (p .count) s e (h .chosen .long)); stand = t .stand })

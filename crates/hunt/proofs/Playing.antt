@@ -1,29 +1,32 @@
 -- What is lent to the play, the table and the first slot in which each link is cut, says what the plan and the list say.
-use Prim.Native.Nat.{ℕ, zero, suc, _+_, _-_, _*_, _/_, _≤_, _<_}
+use Prim.Native.Nat.{ℕ, _+_, _*_, _≤_, _<_}
 use native.Mathlib.Omega.{arith}
 use mathlib.Core.Path.{_≡_, refl, sym, _∙_, ap, ap₂, fun-ext}
 use mathlib.Core.Bool.{Bool, true, false, true≢false}
-use mathlib.Core.List.{List, [], _∷_, _++_, map}
-use lib.ListN.{length, getD, take, List·getD-eq-default}
+use mathlib.Core.List.{List, _++_}
+use lib.ListN.{length, take, List·getD-eq-default}
 use lib.Dec.{ltb, leb}
 use borrow.Author.Tests.{ltb-true, ltb-false, lt-leb}
-use Rattle.scope.specs.Plan.{Plan, planOf}
-use Rattle.scope.specs.Slot.{Position, turn, tries}
-use Rattle.scope.specs.Cuts.{pairs, cutLink, isCut, isCutList}
-use Rattle.scope.specs.Cycle.{byNumber, tableOf, start, moves, slot, nexts, positions, arrived, arrivals}
+use Rattle.scope.specs.Plan.{planOf}
+use Rattle.scope.specs.Slot.{Position}
+use Rattle.scope.specs.Cuts.{isCut, isCutList}
+use Rattle.scope.specs.Cycle.{byNumber, tableOf, start, slot, nexts, positions, arrived, arrivals}
 use Rattle.scope.proofs.Cuts.{link-below}
 use Rattle.laws.proofs.Cuts.{not-cut}
-use Rattle.cuts.specs.From.{never, cutFrom, downOf, Tells}
+use Rattle.cuts.specs.From.{never, downOf}
 use Rattle.step.specs.declared.Position as P
-use Rattle.cycle.specs.Stand.{positionsOf, Stand, Become}
+use Rattle.touch.specs.Sums.{sum}
+use Rattle.cycle.specs.Stand.{positionsOf, Become}
 use Rattle.cycle.specs.Slot.{ownerOf}
 use Rattle.cycle.specs.Play.{endsWith}
 use Rattle.cycle.proofs.Agree.{positions-same}
 use Rattle.hunt.specs.declared.Asked.{Asked}
 use Rattle.hunt.specs.declared.Picked.{Picked}
 use Rattle.hunt.specs.declared.Found.{Found}
-use Rattle.hunt.specs.Hunt.{cutsOf, Playable, Holding, StandAt, MaySettle, MayAdvance, Sought}
-use Rattle.hunt.proofs.Prefix.{played-from, one-slot}
+use Rattle.hunt.specs.Hunt.{cutsOf, Playable, Holding, StandAt, MayPlayOut, MayAdvance, Sought}
+use Rattle.hunt.specs.Risk.{atRisk}
+use Rattle.hunt.proofs.Prefix.{one-slot}
+use Rattle.hunt.proofs.Risk.{risk-is}
 use Rattle.hunt.proofs.Steps.{nothing-more, itself}
 
 module _ (row table : List ℕ) (a : Asked) (p : Picked) (y : Playable row table a) (h : Holding row a p) where
@@ -45,16 +48,7 @@ module _ (row table : List ℕ) (a : Asked) (p : Picked) (y : Playable row table
       positions-same byNumber (downOf (p .from)) (isCut (cutsOf p)) (ownerOf table) (tableOf (planOf row)) n s qs
       (λ j u. (fun-ext (λ e. down-is j e (omega arith)), y .owner j (omega arith)))
 
-  -- a list that was played to the end
-  pub played : (ps : List P.Position) (r : ℕ) → StandAt row (a .messages) (cutsOf p) (p .slot) ps →
-      r ≡ arrived (endsWith table (p .from) (p .slot) (a .timeout - p .slot) (positionsOf row (a .messages) ps)) → r ≡ arrivals (planOf row) (cutsOf p)
-  played ps r stand e =
-      let t : a .timeout ≡ planOf row .timeout = y .timeout in
-      e ∙ ap arrived (plays (p .slot) (a .timeout - p .slot) (positionsOf row (a .messages) ps) (omega (arith, y .short, h .slot))) ∙
-      ap (λ (n : ℕ). arrived (positions byNumber (isCut (cutsOf p)) (tableOf (planOf row)) (p .slot) (n - p .slot) (positionsOf row (a .messages) ps))) t ∙
-      sym (played-from (planOf row) (cutsOf p) (p .slot) (positionsOf row (a .messages) ps) (omega (arith, h .slot)) (stand .is))
-
-  -- and one slot on
+  -- one slot on
   pub advanced : (s : ℕ) (ps qs : List P.Position) → s < a .timeout → StandAt row (a .messages) (cutsOf p) s ps →
       Become row (a .messages) (nexts (slot byNumber (downOf (p .from)) (ownerOf table) s (positionsOf row (a .messages) ps))) qs →
       StandAt row (a .messages) (cutsOf p) (s + 1) qs
@@ -88,3 +82,47 @@ module _ (row table : List ℕ) (a : Asked) (p : Picked) (y : Playable row table
         some = λ g. rw same (itself (planOf row) (a .least) (cutsOf p) (h .chosen .good) (omega arith));
         left = λ g. i ∙ e ∙ ap (arrivals (planOf row)) (sym same);
       }
+
+-- the list picked stands at time i
+pub record Ending (row : List ℕ) (a : Asked) (p : Picked) (i : ℕ) (qs : List P.Position) : Type 0 where
+  pub stand : StandAt row (a .messages) (cutsOf p) i qs
+  pub early : i ≤ a .timeout
+
+module _ (row table marks : List ℕ) (a : Asked) (ps : List P.Position) (p : Picked) (m : MayPlayOut row table marks a ps p) where
+  pub ends-first : Ending row a p (p .slot) ps
+  ends-first = record { stand = m .stand; early = m .holding .slot }
+
+  module _ (i : ℕ) (qs : List P.Position) (g : Ending row a p i qs) where
+    pub ends-may : i < a .timeout → MayAdvance row table a qs p i
+    ends-may l = record { play = m .play; holding = m .holding; stand = g .stand; early = l }
+
+    pub ends-more : (rs : List P.Position) → i < a .timeout → StandAt row (a .messages) (cutsOf p) (i + 1) rs → Ending row a p (i + 1) rs
+    ends-more rs l s = record { stand = s; early = omega arith }
+
+    -- too few can be lost
+    pub ends-light : (r : Found) (risk : ℕ) → r .found ≡ false → length (r .numbers) ≡ 6 → risk ≡ atRisk marks qs (a .messages) → risk < a .need →
+        Sought row (a .least) p 0 r
+    unfolding sum
+    ends-light r risk t long is light =
+        record {
+          long = long;
+          none = λ u x rest good. by x rest good (ltb (arrivals (planOf row) (cutsOf p ++ x)) (a .least)) refl;
+          some = λ u. absurd (true≢false (sym u ∙ t));
+          left = λ u. absurd (true≢false (sym u ∙ t));
+        }
+      where
+        by : (x : List ℕ) → length x ≡ 2 * 0 → isCutList (planOf row) (cutsOf p ++ x) ≡ true → (b : Bool) → ltb (arrivals (planOf row) (cutsOf p ++ x)) (a .least) ≡ b →
+            a .least ≤ arrivals (planOf row) (cutsOf p ++ x)
+        by x rest good true e =
+            let count = is ∙ risk-is row table marks a p (m .play) (m .holding) (m .marked) i qs (g .stand) in
+            let enough = m .bound .enough (cutsOf p) x (p .count) 0 i (omega (arith, g .early, m .play .timeout)) (m .holding .chosen .long) rest
+            (λ j l. absurd (omega arith)) good (ltb-true (arrivals (planOf row) (cutsOf p ++ x)) (a .least) e) in
+            absurd (omega (arith, enough, count, light))
+        by x rest good false e = ltb-false (arrivals (planOf row) (cutsOf p ++ x)) (a .least) e
+
+    -- the end
+    pub ends-over : (n : ℕ) → a .timeout ≤ i → n ≡ arrived (positionsOf row (a .messages) qs) → n ≡ arrivals (planOf row) (cutsOf p)
+    unfolding arrivals
+    ends-over n l e =
+        let t : i ≡ planOf row .timeout = omega (arith, g .early, m .play .timeout) in
+        e ∙ ap arrived (g .stand .is) ∙ ap (λ (k : ℕ). arrived (positions byNumber (isCut (cutsOf p)) (tableOf (planOf row)) 0 k (start (planOf row)))) t

@@ -1,17 +1,16 @@
 -- A list with one pair more: what it cuts, and where the messages stand when that pair's slot begins.
-use Prim.Native.Nat.{ℕ, _+_, _-_, _*_, _/_, _≤_, _<_}
+use Prim.Native.Nat.{ℕ, _+_, _*_}
 use native.Mathlib.Omega.{arith}
 use mathlib.Core.Path.{_≡_, refl, sym, _∙_, ap, ap₂}
-use mathlib.Core.Bool.{Bool, true, false, _&&_, _||_, and-false, or-false}
+use mathlib.Core.Bool.{Bool, _&&_, _||_, and-false, or-false}
 use mathlib.Core.List.{List, [], _∷_, _++_}
-use lib.ListN.{length, getD, length-append}
+use lib.ListN.{length}
 use lib.Dec.{leb, eqb}
 use borrow.Author.Tests.{lt-leb}
 use Rattle.scope.specs.Lowest.{some}
 use Rattle.scope.specs.Plan.{Plan}
-use Rattle.scope.specs.Slot.{Position}
 use Rattle.scope.specs.Cuts.{pairs, cutSlot, cutLink, isCut}
-use Rattle.scope.specs.Cycle.{byNumber, tableOf, start, positions, arrived, arrivals}
+use Rattle.scope.specs.Cycle.{byNumber, tableOf, start, positions}
 use Rattle.laws.proofs.Replay.{positions-follow, depends-on-these-slots}
 use Rattle.touch.proofs.Some.{some-same, some-more}
 use Rattle.touch.proofs.Parts.{slot-left, link-left, slot-right, link-right, pairs-both}
@@ -41,20 +40,6 @@ same-before plan pre d s e long =
     ap (λ (t : Bool). isCut pre j x || (eqb e x && t)) (lt-leb s j (omega arith)) ∙
     ap (λ (t : Bool). isCut pre j x || t) (and-false (eqb e x)) ∙ or-false (isCut pre j x))
     .positionsAgree
-
--- the arrivals, played from time s on
-pub played-from : (plan : Plan) (cuts : List ℕ) (s : ℕ) (ps : List Position) → s ≤ plan .timeout →
-    ps ≡ positions byNumber (isCut cuts) (tableOf plan) 0 s (start plan) →
-    arrivals plan cuts ≡ arrived (positions byNumber (isCut cuts) (tableOf plan) s (plan .timeout - s) ps)
-unfolding arrivals
-played-from plan cuts s ps h is =
-    let e : plan .timeout ≡ s + (plan .timeout - s) = omega arith in
-    let z : 0 + s ≡ s = omega arith in
-    let down = isCut cuts in
-    let owner = tableOf plan in
-    ap (λ (n : ℕ). arrived (positions byNumber down owner 0 n (start plan))) e ∙
-    ap arrived (positions-follow byNumber down owner 0 s (plan .timeout - s) (start plan)) ∙
-    ap₂ (λ (i : ℕ) (qs : List Position). arrived (positions byNumber down owner i (plan .timeout - s) qs)) z (sym is)
 
 -- one slot more
 pub one-slot : (plan : Plan) (cuts : List ℕ) (s : ℕ) →

@@ -13,7 +13,8 @@ use Rattle.scope.specs.Cuts.{pairs, cutSlot, cutLink, isCutList}
 use Rattle.scope.specs.Cycle.{arrivals}
 use Rattle.scope.specs.Verdict.{earlier}
 use Rattle.scope.proofs.Order.{earlier-self}
-use Rattle.touch.specs.Bound.{harm, weightIn, Bound}
+use Rattle.touch.specs.Harmed.{harmed}
+use Rattle.touch.specs.Bound.{weightIn, Bound}
 use Rattle.hunt.specs.Search.{code, codeAt, Chosen, AllLeave, FirstOf, Leave, FirstFrom}
 use Rattle.touch.proofs.Parts.{slot-right, link-right}
 use Rattle.hunt.proofs.Pairs.{Next, next-pair, one-more}
@@ -173,7 +174,7 @@ module _ (plan : Plan) (l : ℕ) (small : length (plan .links) ≤ 64) (pre : Li
 
   module _ (need : ℕ) (weights most : List ℕ) (bound : Bound plan l need weights most) (time : plan .timeout ≤ 64) where
     -- a pair that is too light
-    pub too-light : (s b : ℕ) → harm (weightIn weights) pre d + weightIn weights s b + k * getD most s 0 < need → (x : List ℕ) → length x ≡ 2 * k →
+    pub too-light : (s b : ℕ) → harmed plan pre s + weightIn weights s b + k * getD most s 0 < need → (x : List ℕ) → length x ≡ 2 * k →
         isCutList plan (pre ++ s ∷ b ∷ x) ≡ true → l ≤ arrivals plan (pre ++ s ∷ b ∷ x)
     too-light s b light x long good =
         split (arrivals plan (pre ++ s ∷ b ∷ x)) l
@@ -181,7 +182,7 @@ module _ (plan : Plan) (l : ℕ) (small : length (plan .links) ≤ 64) (pre : Li
         (λ leaves. leaves)
 
     -- all pairs from a slot on are
-    pub too-light-now : (s e : ℕ) → e ≤ 64 → harm (weightIn weights) pre d + (1 + k) * getD most s 0 < need → Leave plan l pre k 0 (code s e) →
+    pub too-light-now : (s e : ℕ) → e ≤ 64 → harmed plan pre s + (1 + k) * getD most s 0 < need → Leave plan l pre k 0 (code s e) →
         AllLeave plan l pre (1 + k)
     too-light-now s e h light before [] long good = absurd (omega arith)
     too-light-now s e h light before (a ∷ []) long good = absurd (omega arith)

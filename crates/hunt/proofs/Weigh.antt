@@ -1,76 +1,73 @@
--- The weight of a list that extends another: what the pairs still to come can add.
-use Prim.Native.Nat.{ℕ, zero, suc, _+_, _*_, _/_, _≤_, _<_}
+-- What the pairs still to come can add to the messages that a list harms.
+use Prim.Native.Nat.{ℕ, zero, suc, _+_, _*_, _≤_, _<_}
 use native.Mathlib.Omega.{arith}
 use native.Mathlib.Nat.{suc-mul}
-use mathlib.Core.Path.{_≡_, refl, sym, _∙_, ap, ap₂}
+use mathlib.Core.Path.{_≡_}
 use mathlib.Core.Bool.{true}
-use mathlib.Core.List.{List, [], _∷_, _++_}
-use lib.ListN.{length, getD, length-append}
+use mathlib.Core.List.{List, _∷_, _++_}
+use lib.ListN.{length, getD}
 use Rattle.scope.specs.Plan.{Plan}
 use Rattle.scope.specs.Cuts.{pairs, cutSlot, cutLink, isCutList}
 use Rattle.scope.specs.Cycle.{arrivals}
 use Rattle.scope.proofs.Cuts.{slot-below, link-below}
 use Rattle.touch.specs.Sums.{sum}
-use Rattle.touch.specs.Bound.{harm, weightIn, Bound}
-use Rattle.touch.proofs.Parts.{slot-right, link-right, pairs-both, harm-front}
+use Rattle.touch.specs.Touch.{harm}
+use Rattle.touch.specs.Harmed.{harmed, NotBefore}
+use Rattle.touch.specs.Bound.{weightIn, Bound}
+use Rattle.touch.proofs.Parts.{slot-right, link-right, pairs-both}
 use Rattle.hunt.proofs.Pairs.{slots-from}
 
-module _ (weight : ℕ → ℕ → ℕ) (pre x : List ℕ) (d : ℕ) (long : length pre ≡ 2 * d) where
-  pub harm-next : harm weight (pre ++ x) (d + 1) ≡ harm weight pre d + weight (cutSlot x 0) (cutLink x 0)
-  unfolding sum
-  harm-next =
-      let z : d + 0 ≡ d = omega arith in
-      let one : d + 1 ≡ suc d = omega arith in
-      let last : weight (cutSlot (pre ++ x) d) (cutLink (pre ++ x) d) ≡ weight (cutSlot x 0) (cutLink x 0) =
-      ap₂ weight (rw z at (slot-right pre x d long 0)) (rw z at (link-right pre x d long 0)) in
-      ap (harm weight (pre ++ x)) one ∙ ap₂ _+_ (harm-front weight pre x d long) last
-
 module _ (plan : Plan) (l need : ℕ) (weights most : List ℕ) (bound : Bound plan l need weights most) (links : length (plan .links) ≤ 64) (time : plan .timeout ≤ 64) where
-  -- pairs from index i on, none of which is in a slot before s
-  pub harm-later : (cuts : List ℕ) → isCutList plan cuts ≡ true → (s i n : ℕ) → s ≤ cutSlot cuts i → i + n ≤ pairs cuts →
-      harm (weightIn weights) cuts (i + n) ≤ harm (weightIn weights) cuts i + n * getD most s 0
-  unfolding sum
-  harm-later cuts good s i zero h far = let z : i + 0 ≡ i = omega arith in rw z (omega arith)
-  harm-later cuts good s i (suc n) h far =
-      let e : i + suc n ≡ suc (i + n) = omega arith in
-      let more = harm-later cuts good s i n h (omega arith) in
-      let from = slots-from plan links cuts good i n (omega arith) in
-      let high = slot-below plan cuts good (i + n) (omega arith) in
-      let low = link-below plan cuts good (i + n) (omega arith) in
-      let last = bound .later s (cutSlot cuts (i + n)) (cutLink cuts (i + n)) (omega arith) (omega arith) (omega arith) in
-      rw e (omega (arith, more, last, suc-mul n (getD most s 0)))
+  -- pairs that are not in a slot before s
+  module _ (pre x : List ℕ) (d n s : ℕ) (long : length pre ≡ 2 * d) (rest : length x ≡ 2 * n) (good : isCutList plan (pre ++ x) ≡ true) where
+    not-before : s ≤ cutSlot x 0 → NotBefore s x n
+    not-before first j h =
+        let z : d + 0 ≡ d = omega arith in
+        let from = slots-from plan links (pre ++ x) good d j (omega (arith, pairs-both pre x d long n rest)) in
+        let here : cutSlot (pre ++ x) d ≡ cutSlot x 0 = rw z at (slot-right pre x d long 0) in
+        omega (arith, from, here, slot-right pre x d long j)
+
+    one-pair : (j : ℕ) → j < n → s ≤ cutSlot x j → weightIn weights (cutSlot x j) (cutLink x j) ≤ getD most s 0
+    one-pair j h low =
+        let there : d + j < pairs (pre ++ x) = omega (arith, pairs-both pre x d long n rest) in
+        let high = slot-below plan (pre ++ x) good (d + j) there in
+        let far = link-below plan (pre ++ x) good (d + j) there in
+        bound .later s (cutSlot x j) (cutLink x j) low (omega (arith, high, slot-right pre x d long j)) (omega (arith, far, link-right pre x d long j))
+
+    all-weigh : NotBefore s x n → (k : ℕ) → k ≤ n → harm (weightIn weights) x k ≤ k * getD most s 0
+    unfolding sum
+    all-weigh later zero h = omega arith
+    all-weigh later (suc k) h =
+        omega (arith, all-weigh later k (omega arith), one-pair k (omega arith) (later k (omega arith)), suc-mul k (getD most s 0))
+
+    -- the first pair by its own weight
+    then-weigh : NotBefore s x n → (k : ℕ) → k < n → harm (weightIn weights) x (suc k) ≤ weightIn weights (cutSlot x 0) (cutLink x 0) + k * getD most s 0
+    unfolding sum
+    then-weigh later zero h = omega arith
+    then-weigh later (suc k) h =
+        omega (arith, then-weigh later k (omega arith), one-pair (suc k) h (later (suc k) h), suc-mul k (getD most s 0))
 
   -- a list with k + 1 pairs more that fails has enough weight
   module _ (pre : List ℕ) (d k a b : ℕ) (x : List ℕ) (long : length pre ≡ 2 * d) (rest : length x ≡ 2 * k) (good : isCutList plan (pre ++ a ∷ b ∷ x) ≡ true)
       (fails : arrivals plan (pre ++ a ∷ b ∷ x) < l) where
-    count : pairs (pre ++ a ∷ b ∷ x) ≡ d + (1 + k)
-    count = pairs-both pre (a ∷ b ∷ x) d long (1 + k) (omega arith)
+    size : length {A = ℕ} (a ∷ b ∷ x) ≡ 2 * suc k
+    size = omega arith
 
-    whole : need ≤ harm (weightIn weights) (pre ++ a ∷ b ∷ x) (d + (1 + k))
-    whole = rw count at (bound .enough (pre ++ a ∷ b ∷ x) good fails)
-
-    pub all-later : (s : ℕ) → s ≤ a → need ≤ harm (weightIn weights) pre d + (1 + k) * getD most s 0
-    all-later s h =
+    early : a < plan .timeout
+    early =
         let z : d + 0 ≡ d = omega arith in
         let first : cutSlot (pre ++ a ∷ b ∷ x) d ≡ a = rw z at (slot-right pre (a ∷ b ∷ x) d long 0) in
-        omega (
-          arith,
-          whole,
-          harm-front (weightIn weights) pre (a ∷ b ∷ x) d long,
-          harm-later (pre ++ a ∷ b ∷ x) good s d (1 + k) (omega arith) (omega (arith, count)),
-        )
+        omega (arith, first, slot-below plan (pre ++ a ∷ b ∷ x) good d (omega (arith, pairs-both pre (a ∷ b ∷ x) d long (suc k) size)))
 
-    pub then-later : need ≤ harm (weightIn weights) pre d + weightIn weights a b + k * getD most a 0
+    pub all-later : (s : ℕ) → s ≤ a → need ≤ harmed plan pre s + (1 + k) * getD most s 0
+    all-later s h =
+        let e : 1 + k ≡ suc k = omega arith in
+        let later = not-before pre (a ∷ b ∷ x) d (suc k) s long size good h in
+        let enough = bound .enough pre (a ∷ b ∷ x) d (suc k) s (omega (arith, early)) long size later good fails in
+        rw e (omega (arith, enough, all-weigh pre (a ∷ b ∷ x) d (suc k) s long size good later (suc k) (omega arith)))
+
+    pub then-later : need ≤ harmed plan pre a + weightIn weights a b + k * getD most a 0
     then-later =
-        let e : d + (1 + k) ≡ d + 1 + k = omega arith in
-        let enough : need ≤ harm (weightIn weights) (pre ++ a ∷ b ∷ x) (d + 1 + k) = rw e at whole in
-        omega (arith, enough, harm-next (weightIn weights) pre (a ∷ b ∷ x) d long, by k refl)
-      where
-        by : (n : ℕ) → k ≡ n →
-            harm (weightIn weights) (pre ++ a ∷ b ∷ x) (d + 1 + k) ≤ harm (weightIn weights) (pre ++ a ∷ b ∷ x) (d + 1) + k * getD most a 0
-        by zero e = let z : d + 1 + k ≡ d + 1 = omega arith in rw z (omega arith)
-        by (suc n) e =
-            let z : d + 0 ≡ d = omega arith in
-            let first : cutSlot (pre ++ a ∷ b ∷ x) d ≡ a = rw z at (slot-right pre (a ∷ b ∷ x) d long 0) in
-            let from = slots-from plan links (pre ++ a ∷ b ∷ x) good d 1 (omega (arith, count)) in
-            harm-later (pre ++ a ∷ b ∷ x) good a (d + 1) k (omega arith) (omega (arith, count))
+        let later = not-before pre (a ∷ b ∷ x) d (suc k) a long size good (omega arith) in
+        let enough = bound .enough pre (a ∷ b ∷ x) d (suc k) a (omega (arith, early)) long size later good fails in
+        omega (arith, enough, then-weigh pre (a ∷ b ∷ x) d (suc k) a long size good later k (omega arith))

@@ -13,8 +13,9 @@ use Rattle.cuts.specs.From.{Tells}
 use Rattle.step.specs.declared.Position.{Position}
 use Rattle.cycle.specs.Stand.{Become}
 use Rattle.cycle.specs.Slot.{ownerOf}
-use Rattle.touch.specs.Bound.{harm, weightIn, Bound}
-use Rattle.touch.specs.Harmed.{BoundFrom}
+use Rattle.touch.specs.Bound.{Bound}
+use Rattle.touch.specs.Harmed.{harmed}
+use Rattle.touch.specs.Marks.{Marks}
 use Rattle.hunt.specs.declared.Asked.{Asked}
 use Rattle.hunt.specs.declared.Picked.{Picked}
 use Rattle.hunt.specs.declared.Found.{Found}
@@ -26,20 +27,19 @@ abbrev pub cutsOf : Picked → List ℕ
 cutsOf p = take (2 * p .count) (p .numbers)
 
 -- with one pair more
-abbrev pub withPair : Picked → ℕ → ℕ → ℕ → Picked
-withPair p s e w =
+abbrev pub withPair : Picked → ℕ → ℕ → Picked
+withPair p s e =
     record {
       count = p .count + 1;
       slot = s;
       link = e + 1;
-      weight = p .weight + w;
       numbers = set (set (p .numbers) (2 * p .count) s) (2 * p .count + 1) e;
       from = set (p .from) e s;
     }
 
 -- no pair
 abbrev pub noPair : Picked
-noPair = record { count = 0; slot = 0; link = 0; weight = 0; numbers = replicate 6 0; from = replicate 64 65535 }
+noPair = record { count = 0; slot = 0; link = 0; numbers = replicate 6 0; from = replicate 64 65535 }
 
 -- a link that is not cut already, and heavy enough in a slot
 abbrev pub passes : List ℕ → List ℕ → ℕ → ℕ → ℕ → Bool
@@ -51,7 +51,9 @@ pub record Playable (row table : List ℕ) (a : Asked) : Type 0 where
   pub short : a .timeout ≤ 64
   pub links : a .links ≡ length (planOf row .links)
   pub few : a .links ≤ 64
+  pub messages : a .messages ≡ length (planOf row .messages)
   pub owner : (i : ℕ) → i < 64 → ownerOf table i ≡ tableOf (planOf row) i
+  pub entries : length table ≡ 4096
 
 -- and with a bound
 pub record Ready (row table weights most : List ℕ) (a : Asked) : Type 0 where
@@ -59,8 +61,6 @@ pub record Ready (row table weights most : List ℕ) (a : Asked) : Type 0 where
   pub heavy : length weights ≡ 4096
   pub tops : length most ≡ 64
   pub bound : Bound (planOf row) (a .least) (a .need) weights most
-  pub entries : length table ≡ 4096
-  pub onward : BoundFrom (planOf row) (a .least) (a .need) most
 
 -- the pairs picked are a cut list, which its numbers and `from` tell
 pub record Holding (row : List ℕ) (a : Asked) (p : Picked) : Type 0 where
@@ -71,21 +71,19 @@ pub record Holding (row : List ℕ) (a : Asked) (p : Picked) : Type 0 where
   pub tells : Tells (cutsOf p) 64 (p .from)
   pub first : (e : ℕ) → e < 64 → getD (p .from) e 0 ≤ 65535
 
--- what they weigh
-pub record Weighed (weights : List ℕ) (p : Picked) : Type 0 where
-  pub is : p .weight ≡ harm (weightIn weights) (cutsOf p) (p .count)
-  pub light : p .weight ≤ p .count * 255
-
 -- the messages stand where they do at time s under a cut list
 abbrev pub StandAt : List ℕ → ℕ → List ℕ → ℕ → List Position → Type 0
 StandAt row n cuts s ps = Become row n (positions byNumber (isCut cuts) (tableOf (planOf row)) 0 s (start (planOf row))) ps
 
 -- a list may be played to the end, and one slot on
-pub record MaySettle (row table : List ℕ) (a : Asked) (ps : List Position) (p : Picked) : Type 0 where
+pub record MayPlayOut (row table marks : List ℕ) (a : Asked) (ps : List Position) (p : Picked) : Type 0 where
   pub play : Playable row table a
   pub holding : Holding row a p
   pub stand : StandAt row (a .messages) (cutsOf p) (p .slot) ps
-  pub few : p .count ≤ 3
+  pub marked : Marks table (cutsOf p) marks
+  pub weights : List ℕ
+  pub most : List ℕ
+  pub bound : Bound (planOf row) (a .least) (a .need) weights most
 
 pub record MayAdvance (row table : List ℕ) (a : Asked) (ps : List Position) (p : Picked) (s : ℕ) : Type 0 where
   pub play : Playable row table a
@@ -94,18 +92,19 @@ pub record MayAdvance (row table : List ℕ) (a : Asked) (ps : List Position) (p
   pub early : s < a .timeout
 
 -- n pairs more may be sought
-pub record MaySeek (row table weights most : List ℕ) (a : Asked) (ps : List Position) (p : Picked) (n : ℕ) : Type 0 where
+pub record MaySeek (row table weights most marks : List ℕ) (a : Asked) (ps : List Position) (p : Picked) (n : ℕ) : Type 0 where
   pub ready : Ready row table weights most a
   pub holding : Holding row a p
-  pub weighed : Weighed weights p
+  pub marked : Marks table (cutsOf p) marks
   pub stand : StandAt row (a .messages) (cutsOf p) (p .slot) ps
   pub few : p .count + n ≤ 3
 
--- in one slot, from a link on
-pub record MaySeekIn (row table weights most : List ℕ) (a : Asked) (ps : List Position) (p : Picked) (n s e : ℕ) : Type 0 where
+-- in one slot, from a link on, where so many messages are at risk
+pub record MaySeekIn (row table weights most : List ℕ) (a : Asked) (ps : List Position) (p : Picked) (n s e risk : ℕ) : Type 0 where
   pub ready : Ready row table weights most a
   pub holding : Holding row a p
-  pub weighed : Weighed weights p
+  pub count : risk ≡ harmed (planOf row) (cutsOf p) s
+  pub small : risk ≤ 65536
   pub stand : StandAt row (a .messages) (cutsOf p) s ps
   pub few : p .count + n ≤ 3
   pub some : 0 < n

@@ -1,6 +1,6 @@
 // The search over cut lists: lists are tried in the order of document 01's verdict, fewest pairs first; a list is played from its last
 // pair on, and lists that a bound shows to leave enough are passed over. Of the bound it knows only specs/Bound of `touch`. It leans on
-// `onward` for the play and on the theorems of `laws`.
+// `cycle` for a slot and on the theorems of `laws`.
 use step::Position;
 use step::Slot;
 ghost use Prim.Native.Nat.{ℕ, _+_, _-_, _*_, _<_, _≤_};
@@ -8,8 +8,9 @@ ghost use mathlib.Core.Path.{_≡_};
 ghost use mathlib.Core.Bool.{false};
 ghost use lib.ListN.{length};
 ghost use Rattle.scope.specs.Lowest.{seek};
-ghost use Rattle.hunt.specs.Hunt.{cutsOf, withPair, noPair, passes, StandAt, MaySettle, MayAdvance, MaySeek, MaySeekIn, Sought, SoughtIn, MayHunt, Hunts};
-ghost use Rattle.hunt.specs.Risk.{riskIf, atRisk, MayGiveUp, GivesUp};
+ghost use Rattle.hunt.specs.Hunt.{cutsOf, withPair, noPair, passes, StandAt, MayPlayOut, MayAdvance, MaySeek, MaySeekIn, Sought, SoughtIn, MayHunt, Hunts};
+ghost use Rattle.touch.specs.Marks.{Marks};
+ghost use Rattle.hunt.specs.Risk.{riskIf, atRisk, MayMarkPicked};
 
 // What is asked of a plan: its timeout, links and messages, the least number of arrivals, and what a list must weigh to leave fewer.
 pub struct Asked {
@@ -20,13 +21,12 @@ pub struct Asked {
     pub need: usize,
 }
 
-// The pairs picked so far: how many, the place from which the next one is to be picked, what they weigh, their numbers, and the first
-// slot in which each link is cut.
+// The pairs picked so far: how many, the place from which the next one is to be picked, their numbers, and the first slot in which
+// each link is cut.
 pub struct Picked {
     pub count: usize,
     pub slot: usize,
     pub link: usize,
-    pub weight: usize,
     pub numbers: [u16; 6],
     pub from: [u16; 64],
 }
@@ -63,23 +63,21 @@ fn no_pair() -> Picked
         count: 0,
         slot: 0,
         link: 0,
-        weight: 0,
         numbers: [0u16; 6],
         from: [65535u16; 64],
     }
 }
 
 // One pair more.
-fn pick(p: Picked, s: usize, e: usize, w: usize) -> Picked
-    requires { ⌜ (p .count < 3) × (s < 64) × (e < 64) × (p .weight ≤ 65536) × (w < 256) ⌝ }
-    ensures { λ r. ⌜ r ≡ withPair p s e w ⌝ }
+fn pick(p: Picked, s: usize, e: usize) -> Picked
+    requires { ⌜ (p .count < 3) × (s < 64) × (e < 64) ⌝ }
+    ensures { λ r. ⌜ r ≡ withPair p s e ⌝ }
 {
     let at = 2 * p.count;
     let mut q = p;
     q.count = p.count + 1;
     q.slot = s;
     q.link = e + 1;
-    q.weight = p.weight + w;
     q.numbers[at] = s as u16;
     q.numbers[at + 1] = e as u16;
     q.from[e] = s as u16;
@@ -126,12 +124,12 @@ fn lacking(need: usize, rest: usize) -> usize
     if rest < need { need - rest } else { 0 }
 }
 
-// What n pairs more can weigh, with those picked.
-fn heaviest(weight: usize, n: usize, top: usize) -> usize
-    requires { ⌜ (weight ≤ 65536) × (n ≤ 3) × (top < 256) ⌝ }
-    ensures { λ r. ⌜ r ≡ weight + n * top ⌝ }
+// How many messages can be lost where so many are at risk and n pairs more are to come.
+fn heaviest(risk: usize, n: usize, top: usize) -> usize
+    requires { ⌜ (risk ≤ 65536) × (n ≤ 3) × (top < 256) ⌝ }
+    ensures { λ r. ⌜ r ≡ risk + n * top ⌝ }
 {
-    weight + n * top
+    risk + n * top
 }
 
 // One where a message is marked and not at its target, else 0.
@@ -159,35 +157,15 @@ fn at_risk(ps: [Position; 32], n: usize, marks: &[u8]) -> usize
     count
 }
 
-// Too few messages can be lost: those that the pairs picked touch and that are not at their targets, and what n pairs more weigh.
-fn hopeless(table: &[u8], most: &[u8], a: Asked, ps: [Position; 32], p: Picked, n: usize) -> bool
-    requires { ⌜ MayGiveUp (now table) a p n ⌝ }
-    ensures { λ r. ⌜ GivesUp (now (table .entry)) (now (most .entry)) a ps p n r ⌝ }
+// The marks of the pairs picked.
+fn marks_of(table: &[u8], p: Picked) -> [u8; 256]
+    requires { ⌜ MayMarkPicked (now table) p ⌝ }
+    ensures { λ r. ⌜ Marks (now (table .entry)) (cutsOf p) r ⌝ }
 {
     let numbers = p.numbers;
     let mut marks = [0u8; 256];
     touch::mark_all(table, &numbers[..2 * p.count], &mut marks);
-    let top = touch::at(most, p.slot) as usize;
-    heaviest(at_risk(ps, a.messages, &marks), n, top) < a.need
-}
-
-// The list picked, played from its last pair on.
-fn settle(row: &[u16], table: &[u8], a: Asked, ps: [Position; 32], p: Picked) -> Found
-    requires { ⌜ MaySettle (now row) (now table) a ps p ⌝ }
-    ensures { λ r. ⌜ Sought (now (row .entry)) (a .least) p 0 r ⌝ }
-{
-    let from = p.from;
-    let arrivals = onward::finish(ps, a.messages, row, table, &from, p.slot, a.timeout);
-    if arrivals < a.least {
-        let numbers = p.numbers;
-        Found {
-            found: true,
-            arrivals,
-            numbers,
-        }
-    } else {
-        nothing()
-    }
+    marks
 }
 
 // The positions one slot on, under the list picked.
@@ -206,7 +184,42 @@ fn advance(
     cycle::after_slot(ps, a.messages, row, table, &from, Slot(s))
 }
 
-// All lists that go on with a pair of slot s, from link e on, and have n pairs more.
+// The list picked, played from its last pair on as long as enough messages can be lost.
+fn play_out(
+    row: &[u16],
+    table: &[u8],
+    marks: &[u8],
+    a: Asked,
+    ps: [Position; 32],
+    p: Picked,
+) -> Found
+    requires { ⌜ MayPlayOut (now row) (now table) (now marks) a ps p ⌝ }
+    ensures { λ r. ⌜ Sought (now (row .entry)) (a .least) p 0 r ⌝ }
+{
+    let mut qs = ps;
+    let mut i = p.slot;
+    while i < a.timeout {
+        if at_risk(qs, a.messages, marks) < a.need {
+            return nothing();
+        }
+        let rs = advance(row, table, a, qs, p, i);
+        qs = rs;
+        i += 1;
+    }
+    let arrivals = cycle::count_home(qs, a.messages);
+    if arrivals < a.least {
+        let numbers = p.numbers;
+        Found {
+            found: true,
+            arrivals,
+            numbers,
+        }
+    } else {
+        nothing()
+    }
+}
+
+// All lists that go on with a pair of slot s, from link e on, and have n pairs more, where so many messages are at risk already.
 fn in_slot(
     row: &[u16],
     table: &[u8],
@@ -218,20 +231,21 @@ fn in_slot(
     n: usize,
     s: usize,
     e: usize,
+    risk: usize,
 ) -> Found
-    requires { ⌜ MaySeekIn (now row) (now table) (now weights) (now most) a ps p n s e ⌝ }
+    requires { ⌜ MaySeekIn (now row) (now table) (now weights) (now most) a ps p n s e risk ⌝ }
     ensures { λ r. ⌜ SoughtIn (now (row .entry)) (a .least) p n s e r ⌝ }
 {
     let from = p.from;
     let links = a.links;
     let base = s * 64;
     let top = most[s] as usize;
-    let floor = lacking(a.need, heaviest(p.weight, n - 1, top));
+    let floor = lacking(a.need, heaviest(risk, n - 1, top));
     let mut i = next_link(&from, weights, base, floor, e, links);
     while i < links {
-        let w = weights[base + i] as usize;
-        let q = pick(p, s, i, w);
-        let r = level(row, table, weights, most, a, ps, q, n - 1);
+        let q = pick(p, s, i);
+        let marks = marks_of(table, q);
+        let r = level(row, table, weights, most, &marks, a, ps, q, n - 1);
         if r.found {
             return r;
         }
@@ -240,35 +254,34 @@ fn in_slot(
     nothing()
 }
 
-// All lists with n pairs more.
+// All lists with n pairs more, where the messages that those picked touch are marked.
 fn level(
     row: &[u16],
     table: &[u8],
     weights: &[u8],
     most: &[u8],
+    marks: &[u8],
     a: Asked,
     ps: [Position; 32],
     p: Picked,
     n: usize,
 ) -> Found
-    requires { ⌜ MaySeek (now row) (now table) (now weights) (now most) a ps p n ⌝ }
+    requires { ⌜ MaySeek (now row) (now table) (now weights) (now most) (now marks) a ps p n ⌝ }
     ensures { λ r. ⌜ Sought (now (row .entry)) (a .least) p n r ⌝ }
 {
-    if hopeless(table, most, a, ps, p, n) {
-        return nothing();
-    }
     if n == 0 {
-        return settle(row, table, a, ps, p);
+        return play_out(row, table, marks, a, ps, p);
     }
     let mut qs = ps;
     let mut s = p.slot;
     let mut e = p.link;
     while s < a.timeout {
         let top = most[s] as usize;
-        if heaviest(p.weight, n, top) < a.need {
+        let risk = at_risk(qs, a.messages, marks);
+        if heaviest(risk, n, top) < a.need {
             return nothing();
         }
-        let r = in_slot(row, table, weights, most, a, qs, p, n, s, e);
+        let r = in_slot(row, table, weights, most, a, qs, p, n, s, e, risk);
         if r.found {
             return r;
         }
@@ -303,9 +316,10 @@ pub fn first_list(
         };
     }
     let p = no_pair();
+    let marks = marks_of(table, p);
     let mut n = low;
     while n <= k {
-        let r = level(row, table, weights, most, a, ps, p, n);
+        let r = level(row, table, weights, most, &marks, a, ps, p, n);
         if r.found {
             let numbers = r.numbers;
             return Hunted {

@@ -1,8 +1,8 @@
 -- From a time on: a message that is not at its target at the end was harmed by the list's first part, and not at its target at that time
 -- either, or is touched by a later pair.
-use Prim.Native.Nat.{ℕ, zero, suc, _+_, _-_, _*_, _≤_, _<_}
+use Prim.Native.Nat.{ℕ, _+_, _-_, _*_, _≤_}
 use native.Mathlib.Omega.{arith}
-use mathlib.Core.Path.{_≡_, refl, sym, _∙_, ap}
+use mathlib.Core.Path.{_≡_, refl, _∙_, ap}
 use mathlib.Core.Bool.{Bool, true, false, not, _&&_}
 use mathlib.Core.List.{List, [], _++_}
 use lib.ListN.{length, length-map, List·getD-map}
@@ -13,7 +13,7 @@ use Rattle.scope.specs.Plan.{Plan, pathOf}
 use Rattle.scope.specs.Good.{rules}
 use Rattle.scope.specs.Slot.{Position, onFirst, atTarget}
 use Rattle.scope.specs.Cuts.{pairs, isCut}
-use Rattle.scope.specs.Cycle.{byNumber, tableOf, start, positions, arrived, arrivals}
+use Rattle.scope.specs.Cycle.{byNumber, tableOf, start, positions, arrivals}
 use Rattle.laws.specs.Message.{positionOf}
 use Rattle.laws.proofs.Good.{good-rises}
 use Rattle.laws.proofs.Table.{table-gives}
@@ -21,7 +21,7 @@ use Rattle.laws.proofs.Untouched.{untouched-arrives}
 use Rattle.laws.proofs.Turned.{at-target-stays}
 use Rattle.laws.proofs.Replay.{lengths-kept, positions-follow, depends-on-these-slots}
 use Rattle.touch.specs.Sums.{sum, one}
-use Rattle.touch.specs.Bound.{harm}
+use Rattle.touch.specs.Touch.{harm}
 use Rattle.touch.specs.Harmed.{hers, isTouched, stands, harmed, NotBefore, LosesNoMoreFrom}
 use Rattle.touch.proofs.Sums.{sum-le, sum-ones, sum-plus}
 use Rattle.touch.proofs.Touch.{all-harmed, unharmed, arrived-sum}

@@ -1,5 +1,5 @@
 -- The loops that mark: over the slots of a pair's link, and over the pairs.
-use Prim.Native.Nat.{ℕ, zero, suc, _+_, _-_, _*_, _/_, _≤_, _<_}
+use Prim.Native.Nat.{ℕ, zero, suc, _+_, _-_, _*_, _≤_, _<_}
 use native.Mathlib.Omega.{arith}
 use mathlib.Core.Path.{_≡_, refl, sym, _∙_, ap, ap₂}
 use mathlib.Core.Bool.{Bool, true, false}
@@ -10,7 +10,7 @@ use lib.Dec.{eqb}
 use borrow.Author.Tests.{eqb-true, eqb-false, eq-eqb, ne-eqb}
 use Rattle.scope.specs.Cuts.{pairs, cutSlot, cutLink}
 use Rattle.touch.specs.Sums.{sum, one}
-use Rattle.touch.specs.Bound.{harm}
+use Rattle.touch.specs.Touch.{harm}
 use Rattle.touch.specs.Marks.{entryFrom, MayMark, Marked, MayMarkAll, Marks}
 
 -- how often entry w stands on link e in the n slots from slot s on

@@ -1,5 +1,5 @@
 -- A list in two parts: its pairs, what they weigh, and what it cuts before the second part begins.
-use Prim.Native.Nat.{ℕ, zero, suc, _+_, _-_, _*_, _/_, _≤_, _<_}
+use Prim.Native.Nat.{ℕ, zero, suc, _+_, _-_, _*_, _≤_, _<_}
 use native.Mathlib.Omega.{arith}
 use mathlib.Core.Path.{_≡_, refl, sym, _∙_, ap, ap₂}
 use mathlib.Core.Bool.{Bool, true, false, _&&_, true≢false}
@@ -8,11 +8,10 @@ use lib.ListN.{length, getD, length-append, List·getD-append}
 use lib.Seq.{getD-append-add}
 use lib.Dec.{ltb, leb, eqb}
 use borrow.Author.Tests.{ltb-true, ltb-false, le-leb, eq-eqb}
-use Rattle.scope.specs.Lowest.{some}
 use Rattle.scope.specs.Cuts.{pairs, cutSlot, cutLink, isCut}
 use Rattle.laws.proofs.Cuts.{cut-pair, not-cut}
 use Rattle.touch.specs.Sums.{sum}
-use Rattle.touch.specs.Bound.{harm}
+use Rattle.touch.specs.Touch.{harm}
 use Rattle.touch.specs.Harmed.{NotBefore}
 use Rattle.touch.proofs.Sums.{sum-same}
 use Rattle.touch.proofs.Some.{some-one}

@@ -1,21 +1,21 @@
 -- A list loses no more messages than it touches: a message that is not at its target at the end has a pair that cuts a link of its first
 -- path in time, and the table gives each link and slot to one message at most.
-use Prim.Native.Nat.{ℕ, zero, suc, _+_, _-_, _≤_, _<_}
+use Prim.Native.Nat.{ℕ, _+_, _-_, _≤_, _<_}
 use native.Mathlib.Omega.{arith}
-use mathlib.Core.Path.{_≡_, refl, sym, _∙_, ap}
+use mathlib.Core.Path.{_≡_, refl, _∙_, ap}
 use mathlib.Core.Bool.{Bool, true, false}
 use mathlib.Core.List.{List, [], _∷_}
 use lib.ListN.{length, length-map, List·getD-map}
-use lib.Dec.{ltb, leb, eqb}
+use lib.Dec.{ltb, eqb}
 use borrow.Author.Tests.{ltb-true, ltb-false, eq-eqb}
 use Rattle.scope.specs.Outcome.{gives}
-use Rattle.scope.specs.Plan.{Plan, Place, pathOf}
-use Rattle.scope.specs.Good.{rules, slotsRise}
+use Rattle.scope.specs.Plan.{Place, pathOf}
+use Rattle.scope.specs.Good.{slotsRise}
 use Rattle.scope.specs.Slot.{Position, onFirst, atTarget}
 use Rattle.scope.specs.Cuts.{pairs, cutSlot, cutLink, isCut}
 use Rattle.scope.specs.Cycle.{byNumber, tableOf, start, positions, arrived, arrivals}
 use Rattle.laws.specs.Message.{positionOf}
-use Rattle.laws.specs.Untouched.{WholeInTime, NotCutInTime}
+use Rattle.laws.specs.Untouched.{WholeInTime}
 use Rattle.laws.specs.Links.{TableGives}
 use Rattle.laws.proofs.Rising.{rises}
 use Rattle.laws.proofs.Good.{good-rises}
@@ -24,10 +24,9 @@ use Rattle.laws.proofs.Untouched.{untouched-arrives}
 use Rattle.laws.proofs.Cuts.{not-cut}
 use Rattle.laws.proofs.Replay.{lengths-kept}
 use Rattle.touch.specs.Sums.{sum, one}
-use Rattle.touch.specs.Bound.{harm}
-use Rattle.touch.specs.Touch.{touchedIn, touches, LosesNoMore}
+use Rattle.touch.specs.Touch.{harm, touches, LosesNoMore}
 use Rattle.touch.specs.Harmed.{hers}
-use Rattle.touch.proofs.Sums.{sum-le, sum-same, sum-term, sum-first, sum-ones, sum-plus, sum-swap, one-of-them}
+use Rattle.touch.proofs.Sums.{sum-le, sum-term, sum-first, sum-ones, sum-plus, sum-swap, one-of-them}
 
 -- what all messages have of a link is what the link has
 all-hers : (owner : ℕ → ℕ → ℕ) (n s e : ℕ) → sum (λ m. hers owner m s e) n ≤ touches owner s e

@@ -2,20 +2,19 @@
 -- messages that its pairs touch and that are not at their targets, and those that later pairs touch.
 use Prim.Native.Nat.{ℕ, _+_, _-_, _*_, _≤_, _<_}
 use mathlib.Core.Path.{_≡_}
-use mathlib.Core.Bool.{Bool, true, not, _&&_}
+use mathlib.Core.Bool.{Bool, not, _&&_}
 use mathlib.Core.List.{List, _++_}
-use lib.ListN.{length, getD}
+use lib.ListN.{length}
 use lib.Dec.{ltb, eqb}
 use Rattle.scope.specs.Outcome.{gives}
 use Rattle.scope.specs.Plan.{Plan}
 use Rattle.scope.specs.Good.{rules}
 use Rattle.scope.specs.Slot.{Position, atTarget}
-use Rattle.scope.specs.Cuts.{pairs, cutSlot, isCut, isCutList}
+use Rattle.scope.specs.Cuts.{pairs, cutSlot, isCut}
 use Rattle.scope.specs.Cycle.{byNumber, tableOf, start, positions, arrivals}
 use Rattle.laws.specs.Message.{positionOf}
 use Rattle.touch.specs.Sums.{sum, one}
-use Rattle.touch.specs.Bound.{harm}
-use Rattle.touch.specs.Touch.{touches}
+use Rattle.touch.specs.Touch.{harm, touches}
 
 -- in how many slots from slot s on the table gives link e to message m
 abbrev pub hers : (ℕ → ℕ → ℕ) → ℕ → ℕ → ℕ → ℕ
@@ -42,9 +41,3 @@ abbrev pub LosesNoMoreFrom : Type 0
 LosesNoMoreFrom =
     (plan : Plan) (pre x : List ℕ) (d n s : ℕ) → rules plan ≡ gives 0 → plan .timeout ≤ 64 → s ≤ plan .timeout → length pre ≡ 2 * d → length x ≡ 2 * n →
     NotBefore s x n → length (plan .messages) ≤ arrivals plan (pre ++ x) + (harmed plan pre s + harm (touches (tableOf plan)) x n)
-
--- what a search needs to know of it: a list that leaves fewer than l arrivals harms at least `need` messages, its later pairs counted as
--- heavy as any from slot s on
-pub record BoundFrom (plan : Plan) (l need : ℕ) (most : List ℕ) : Type 0 where
-  pub enough : (pre x : List ℕ) (d n s : ℕ) → s ≤ plan .timeout → length pre ≡ 2 * d → length x ≡ 2 * n → NotBefore s x n →
-      isCutList plan (pre ++ x) ≡ true → arrivals plan (pre ++ x) < l → need ≤ harmed plan pre s + n * getD most s 0

@@ -1,6 +1,6 @@
 pub mod Sums
-pub mod Bound
 pub mod Touch
-pub mod Weights
 pub mod Harmed
+pub mod Bound
+pub mod Weights
 pub mod Marks

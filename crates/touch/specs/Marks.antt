@@ -1,12 +1,12 @@
 -- The marks that a search makes: for each entry of the table, how often it stands on the link of a pair in the pair's slot or later.
-use Prim.Native.Nat.{ℕ, _+_, _-_, _*_, _/_, _≤_, _<_}
+use Prim.Native.Nat.{ℕ, _+_, _-_, _*_, _≤_, _<_}
 use mathlib.Core.Path.{_≡_}
 use mathlib.Core.List.{List}
 use lib.ListN.{length, getD}
 use lib.Dec.{eqb}
 use Rattle.scope.specs.Cuts.{pairs, cutSlot, cutLink}
 use Rattle.touch.specs.Sums.{sum, one}
-use Rattle.touch.specs.Bound.{harm}
+use Rattle.touch.specs.Touch.{harm}
 
 -- how often a table of 64 slots and 64 links has entry w on link e in slot s or later
 abbrev pub entryFrom : List ℕ → ℕ → ℕ → ℕ → ℕ

@@ -7,10 +7,13 @@ use lib.Dec.{ltb}
 use Rattle.scope.specs.Outcome.{gives}
 use Rattle.scope.specs.Plan.{Plan}
 use Rattle.scope.specs.Good.{rules}
-use Rattle.scope.specs.Cuts.{pairs}
+use Rattle.scope.specs.Cuts.{pairs, cutSlot, cutLink}
 use Rattle.scope.specs.Cycle.{tableOf, arrivals}
 use Rattle.touch.specs.Sums.{sum, one}
-use Rattle.touch.specs.Bound.{harm}
+
+-- the weight of the first n pairs of a list
+abbrev pub harm : (ℕ → ℕ → ℕ) → List ℕ → ℕ → ℕ
+harm weight cuts n = sum (λ j. weight (cutSlot cuts j) (cutLink cuts j)) n
 
 -- how many messages the table gives link e in the n slots from slot s on: a good table gives each slot and link to one message at most
 abbrev pub touchedIn : (ℕ → ℕ → ℕ) → ℕ → ℕ → ℕ → ℕ

@@ -8,7 +8,7 @@ ghost use Rattle.touch.specs.Weights.{Weighs, Tops};
 ghost use Rattle.touch.specs.Marks.{MayMark, Marked, MayMarkAll, Marks};
 
 // The number at an index, 0 past the end.
-pub fn at(weights: &[u8], k: usize) -> u8
+fn at(weights: &[u8], k: usize) -> u8
     ensures { λ r. ⌜ r ≡ getD (now (weights .entry)) k 0 ⌝ }
 {
     if k < weights.len() { weights[k] } else { 0 }

@@ -1,6 +1,6 @@
 use borrow.Author.Needs.{needs}
 -- `hunt::at_risk` meets its contract: the messages below m are counted.
-use Prim.Native.Nat.{_+_, _-_}
+use Prim.Native.Nat.{_-_}
 use native.Mathlib.Omega.{arith}
 use lib.ListN.{getD}
 use Rattle.cycle.specs.Stand.{home}

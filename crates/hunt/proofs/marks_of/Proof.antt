@@ -1,0 +1,46 @@
+-- `hunt::marks_of` meets its contract: the pairs picked are marked on zeros.
+use native.Mathlib.Omega.{arith}
+use mathlib.Core.Path.{sym}
+use lib.Seq.{length-take-le}
+use Rattle.hunt.proofs.Risk.{may-mark-all}
+use borrow.Author.Needs.{needs}
+use Rattle.hunt.proofs.marks_of.Statement.{statement}
+use Rattle.hunt.proofs.marks_of.Tie as tie
+use Rattle.hunt.proofs.marks_of.Reads as reads
+use Rattle.hunt.proofs.marks_of.Lts as lts
+use Rattle.touch.proofs.mark_all.Reads as mark-all-reads
+
+-- src/lib.rt:167:39
+mul-numbers : tie.Need-mul-numbers
+mul-numbers c = search needs
+
+-- src/lib.rt:167:28
+array-share-prefix-numbers : tie.Need-array-share-prefix-numbers
+array-share-prefix-numbers c = search needs
+
+-- src/lib.rt:167:28
+slice-aggregate-mark-all : tie.Need-slice-aggregate-mark-all
+slice-aggregate-mark-all c = sym (length-take-le _ (c .before .before .before .before .args .p .numbers) (omega (arith, c .before .before .before .before .pre .few, c .before .before .before .before .pre .long)))
+
+-- src/lib.rt:167:53
+slice-aggregate-mark-all-2 : tie.Need-slice-aggregate-mark-all-2
+slice-aggregate-mark-all-2 c = search needs
+
+-- src/lib.rt:167:5
+mark-all-requires : tie.Need-mark-all-requires
+mark-all-requires c κs = may-mark-all _ _ (c .before .before .before .before .before .pre)
+
+-- src/lib.rt:161:1
+returns : tie.Need-returns
+returns c = search needs
+
+pub marks-of-spec : {M : Type 1} → statement M
+marks-of-spec =
+    tie.close
+    (tie.spec
+    mul-numbers
+    array-share-prefix-numbers
+    slice-aggregate-mark-all
+    slice-aggregate-mark-all-2
+    mark-all-requires
+    returns)
