@@ -1,7 +1,7 @@
 -- A loop over the messages that puts each at its next position: `next` says which, by the message's number and its position.
 use Prim.Native.Nat.{ℕ, zero, suc, _+_, _≤_, _<_}
 use mathlib.Core.Path.{_≡_, refl, _∙_, ap}
-use mathlib.Core.List.{List, [], _∷_, map}
+use mathlib.Core.List.{List, [], _∷_}
 use native.Mathlib.Omega.{arith}
 use lib.ListN.{length, getD, set}
 use Rattle.scope.specs.Slot as S
@@ -20,10 +20,10 @@ module _ (row : List ℕ) (next : ℕ → S.Position → S.Position) where
   pub record Going (n j : ℕ) (old new : List Position) : Type 0 where
     pub few : j ≤ n
     pub stand : Stand row n old
-    pub long : length old ≡ 32
+    pub long : n ≤ length old
     pub walk : Walk home (λ k p q. Leads row p (next k (positionOf row p)) q) j old new
 
-  pub going-none : (n : ℕ) (ps : List Position) → Stand row n ps → length ps ≡ 32 → Going n 0 ps ps
+  pub going-none : (n : ℕ) (ps : List Position) → Stand row n ps → n ≤ length ps → Going n 0 ps ps
   going-none n ps s l = record { few = omega arith; stand = s; long = l; walk = walk-none home _ ps }
 
   pub going-fits : (n j : ℕ) (old new : List Position) → Going n j old new → j < n → endOf row (getD new j home) < 65536
@@ -66,9 +66,3 @@ module _ (row : List ℕ) (next : ℕ → S.Position → S.Position) where
               fit = λ k i. omega (arith, g .walk .done k (omega arith) .within, g .stand .fit k i);
             };
       }
-
--- where the number does not matter
-pub next-map : (f : S.Position → S.Position) (m : ℕ) (ps : List S.Position) → nextFrom (λ k p. f p) m ps ≡ map f ps
-unfolding nextFrom
-next-map f m [] = refl
-next-map f m (p ∷ ps) = ap (λ r. f p ∷ r) (next-map f (m + 1) ps)

@@ -1,3 +1,4 @@
 pub mod Stand
 pub mod Slot
 pub mod Play
+pub mod Pass

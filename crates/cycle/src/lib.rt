@@ -2,7 +2,11 @@
 // `events` and `positions` of document 01 (specs/Cycle of `scope`), over the table and the first cuts that are lent, whatever they
 // are: proofs/Agree has when they are the plan's and the cut list's. All that `play` asks is that there are at most 32 messages, that
 // they end below index 65536 of the row, and that there is room for the events. It leans on `step` for one message.
+//
+// A slot is one pass over the messages, from the lowest on, in records that are lent: `move_all` and `lend` alone hold a slice of
+// records, and their proofs are walks by hand.
 use step::Event;
+use step::Met;
 use step::Moved;
 use step::Position;
 use step::Slot;
@@ -11,64 +15,18 @@ use view::number;
 ghost use Prim.Native.Nat.{ℕ, _+_, _*_, _<_, _≤_};
 ghost use mathlib.Core.Path.{_≡_};
 ghost use mathlib.Core.Bool.{cond};
-ghost use mathlib.Core.List.{List, map};
-ghost use lib.ListN.{length, take, set};
+ghost use mathlib.Core.List.{List, _++_, map};
+ghost use lib.ListN.{length, drop, set};
 ghost use lib.Dec.{eqb};
 ghost use Rattle.scope.specs.Plan.{messagesAt, firstMessage};
-ghost use Rattle.scope.specs.Slot.{onFirst, turn, tries};
-ghost use Rattle.scope.specs.Cycle.{byNumber, foremost, moves, slot, arrived};
+ghost use Rattle.scope.specs.Slot.{onFirst};
+ghost use Rattle.scope.specs.Cycle.{byNumber, slot, nexts, numbers, arrived};
 ghost use Rattle.cuts.specs.From.{downOf};
 ghost use Rattle.step.specs.Events.{eventOf};
-ghost use Rattle.step.specs.Where.{positionOf, Acts};
 ghost use Rattle.cycle.specs.Stand.{positionsOf, Stand, MayStart, Become};
-ghost use Rattle.cycle.specs.Slot.{ownerOf, moveOf, MayAct, MayMove, Done};
+ghost use Rattle.cycle.specs.Slot.{ownerOf, MayGo, MayMove, Done};
+ghost use Rattle.cycle.specs.Pass.{firstTrier, noted, Noting, MayActTurned, ActsTurned, MayAct, ActsIn, MovesIn, MayMoveAll, MovesAll};
 ghost use Rattle.cycle.specs.Play.{endsWith, tells, MayRun, Ran, MayPlay, Played};
-
-// All messages turn that must.
-fn turn_all(ps: [Position; 32], n: usize, row: &[u16], from: &[u16], slot: Slot) -> [Position; 32]
-    requires { ⌜ Stand (now row) n ps ⌝ }
-    ensures { λ r. ⌜ Become (now (row .entry)) n (map (turn (downOf (now (from .entry)) (slot .0))) (positionsOf (now (row .entry)) n ps)) r ⌝ }
-{
-    let mut qs = ps;
-    let mut j = 0;
-    while j < n {
-        let p = qs[j];
-        let q = p.turn_now(row, from, slot);
-        qs[j] = q;
-        j += 1;
-    }
-    qs
-}
-
-// What each message tries.
-fn tries_all(ps: [Position; 32], n: usize, row: &[u16], from: &[u16], slot: Slot) -> [u32; 32]
-    requires { ⌜ n ≤ 32 ⌝ }
-    ensures { λ r. ⌜ take n r ≡ map (tries (downOf (now (from .entry)) (slot .0))) (positionsOf (now (row .entry)) n ps) ⌝ }
-{
-    let mut tried = [0u32; 32];
-    let mut j = 0;
-    while j < n {
-        let p = ps[j];
-        tried[j] = p.tries(row, from, slot);
-        j += 1;
-    }
-    tried
-}
-
-// Of message m and those that try a link, the lowest.
-fn first_trier(tried: &[u32], link: usize, m: usize) -> usize
-    requires { ⌜ (m ≤ length (now tried)) × (link < 65536) ⌝ }
-    ensures { λ r. ⌜ (r ≡ foremost byNumber link m 0 (now (tried .entry))) × (r ≤ m) ⌝ }
-{
-    let mut j = 0;
-    while j < m {
-        if tried[j] as usize == link + 1 {
-            return j;
-        }
-        j += 1;
-    }
-    m
-}
 
 // What the table has for a slot and a link.
 fn owner(table: &[u8], slot: Slot, link: usize) -> u8
@@ -83,27 +41,147 @@ fn owner(table: &[u8], slot: Slot, link: usize) -> u8
     }
 }
 
-// What message m does. The messages are searched only for one that has turned.
+// The first of those who have tried a link in this slot, or m where nobody has.
+fn first_trier(tried: &[u16], link: u16, m: usize) -> usize
+    requires { ⌜ Noting (now tried) m ⌝ }
+    ensures { λ r. ⌜ (r ≡ firstTrier (now (tried .entry)) link m) × (r ≤ m) ⌝ }
+{
+    let n = tried[0] as usize;
+    let mut j = 0;
+    while j < n {
+        if tried[2 * j + 1] == link {
+            return tried[2 * j + 2] as usize;
+        }
+        j += 1;
+    }
+    m
+}
+
+// Message m tries a link too.
+fn note(tried: &mut [u16], link: u16, m: usize)
+    requires { ⌜ Noting (now tried) m ⌝ }
+    ensures { λ _. ⌜ now (tried .exit) ≡ noted (now (tried .entry)) link m ⌝ }
+{
+    let n = tried[0] as usize;
+    tried[2 * n + 1] = link;
+    tried[2 * n + 2] = m as u16;
+    tried[0] = (n + 1) as u16;
+}
+
+// What message m does on its second path: the messages that tried its link before it are lower ones.
+fn act_turned(met: Met, m: usize, row: &[u16], table: &[u8], slot: Slot, tried: &mut [u16]) -> Moved
+    requires { ⌜ MayActTurned (now row) met m (slot .0) (now tried) ⌝ }
+    ensures { λ r. ⌜ ActsTurned (now (row .entry)) (ownerOf (now (table .entry)) (slot .0)) met m (now (tried .entry)) (now (tried .exit)) r ⌝ }
+{
+    let p = met.position;
+    if met.down {
+        return p.act_second(row, met.link, true, 0, 0, 0);
+    }
+    let entry = owner(table, slot, met.link as usize);
+    let first = first_trier(tried, met.link, m);
+    note(tried, met.link, m);
+    p.act_second(row, met.link, false, entry, first as u16, m as u16)
+}
+
+// What message m does in a slot: it turns if it must, and acts. `tried` has what the lower messages try.
 fn act_one(
     p: Position,
     m: usize,
     row: &[u16],
     table: &[u8],
     from: &[u16],
-    tried: &[u32],
     slot: Slot,
+    tried: &mut [u16],
 ) -> Moved
-    requires { ⌜ MayAct (now row) p m (length (now tried)) (slot .0) ⌝ }
-    ensures { λ r. ⌜ Acts (now (row .entry)) p (moveOf byNumber (downOf (now (from .entry)) (slot .0)) (ownerOf (now (table .entry)) (slot .0)) (slot .0) (now (tried .entry)) m (positionOf (now (row .entry)) p)) r ⌝ }
+    requires { ⌜ MayAct (now row) p m (slot .0) (now tried) ⌝ }
+    ensures { λ r. ⌜ ActsIn (now (row .entry)) (downOf (now (from .entry)) (slot .0)) (ownerOf (now (table .entry)) (slot .0)) (slot .0) p m (now (tried .entry)) (now (tried .exit)) r ⌝ }
 {
-    if p.turned {
-        let link = p.next_second(row);
-        let entry = owner(table, slot, link);
-        let first = first_trier(tried, link, m);
-        p.act(row, from, slot, entry, first as u16, m as u16)
-    } else {
-        p.act(row, from, slot, 0, 0, 0)
+    if p.is_home() {
+        let event = Event::Arrived;
+        return Moved { next: p, event };
     }
+    let met = p.meets(row, from, slot);
+    let q = met.position;
+    if q.turned {
+        act_turned(met, m, row, table, slot, tried)
+    } else {
+        q.act_first(row, slot, met.link, met.down)
+    }
+}
+
+// The next position of message m.
+fn move_one(
+    p: Position,
+    m: usize,
+    row: &[u16],
+    table: &[u8],
+    from: &[u16],
+    slot: Slot,
+    tried: &mut [u16],
+) -> Position
+    requires { ⌜ MayAct (now row) p m (slot .0) (now tried) ⌝ }
+    ensures { λ r. ⌜ MovesIn (now (row .entry)) (downOf (now (from .entry)) (slot .0)) (ownerOf (now (table .entry)) (slot .0)) (slot .0) p m (now (tried .entry)) (now (tried .exit)) r ⌝ }
+{
+    let moved = act_one(p, m, row, table, from, slot, tried);
+    moved.next
+}
+
+// One slot of all messages, in the records that are lent: each moves, the lower ones first. One at its target stays as it is.
+fn move_all(
+    ps: &mut [Position],
+    n: usize,
+    row: &[u16],
+    table: &[u8],
+    from: &[u16],
+    i: Slot,
+    tried: &mut [u16],
+)
+    requires { ⌜ MayMoveAll (now row) (now ps) n (i .0) (now tried) ⌝ }
+    ensures { λ _. ⌜ MovesAll (now (row .entry)) n (downOf (now (from .entry))) (ownerOf (now (table .entry))) (i .0) (now (ps .entry)) (now (ps .exit)) (now (tried .entry)) (now (tried .exit)) ⌝ }
+{
+    let mut m = 0;
+    while m < n {
+        let p = ps[m];
+        if p.left != 0 {
+            let q = move_one(p, m, row, table, from, i, tried);
+            ps[m] = q;
+        }
+        m += 1;
+    }
+}
+
+// The same slot for positions of one's own, which are lent to it.
+fn lend(
+    ps: [Position; 32],
+    n: usize,
+    row: &[u16],
+    table: &[u8],
+    from: &[u16],
+    i: Slot,
+    tried: &mut [u16],
+) -> [Position; 32]
+    requires { ⌜ MayMoveAll (now row) ps n (i .0) (now tried) ⌝ }
+    ensures { λ r. ⌜ MovesAll (now (row .entry)) n (downOf (now (from .entry))) (ownerOf (now (table .entry))) (i .0) ps r (now (tried .entry)) (now (tried .exit)) ⌝ }
+{
+    let mut qs = ps;
+    move_all(&mut qs, n, row, table, from, i, tried);
+    qs
+}
+
+// The positions after one slot.
+pub fn after_slot(
+    ps: [Position; 32],
+    n: usize,
+    row: &[u16],
+    table: &[u8],
+    from: &[u16],
+    i: Slot,
+) -> [Position; 32]
+    requires { ⌜ MayGo (now row) n ps (i .0) ⌝ }
+    ensures { λ r. ⌜ Become (now (row .entry)) n (nexts (slot byNumber (downOf (now (from .entry))) (ownerOf (now (table .entry))) (i .0) (positionsOf (now (row .entry)) n ps))) r ⌝ }
+{
+    let mut tried = [0u16; 65];
+    lend(ps, n, row, table, from, i, &mut tried)
 }
 
 // An event in the row of events: "kind then number".
@@ -115,35 +193,32 @@ fn put_event(out: &mut [u16], k: usize, event: Event)
     out[k + 1] = event.number();
 }
 
-// All messages act, on what all try. Their events go to the front of `out`.
-fn act_all(
+// The events of one slot, at the front of `out`.
+fn tell_all(
     ps: [Position; 32],
+    n: usize,
     row: &[u16],
     table: &[u8],
     from: &[u16],
-    tried: &[u32],
-    slot: Slot,
+    i: Slot,
     out: &mut [u16],
-) -> [Position; 32]
-    requires { ⌜ MayMove (now row) ps (length (now tried)) (slot .0) (length (now out)) ⌝ }
-    ensures { λ r. ⌜ Done (now (row .entry)) (length (now (tried .entry))) (moves byNumber (downOf (now (from .entry)) (slot .0)) (ownerOf (now (table .entry)) (slot .0)) (slot .0) (now (tried .entry)) 0 (positionsOf (now (row .entry)) (length (now (tried .entry))) ps)) (now (out .entry)) (now (out .exit)) r ⌝ }
+)
+    requires { ⌜ MayMove (now row) ps n (i .0) (length (now out)) ⌝ }
+    ensures { λ _. ⌜ now (out .exit) ≡ numbers (slot byNumber (downOf (now (from .entry))) (ownerOf (now (table .entry))) (i .0) (positionsOf (now (row .entry)) n ps)) ++ drop (2 * n) (now (out .entry)) ⌝ }
 {
-    let mut qs = ps;
+    let mut tried = [0u16; 65];
     let mut m = 0;
-    while m < tried.len() {
-        let p = qs[m];
-        let moved = act_one(p, m, row, table, from, tried, slot);
-        let next = moved.next;
+    while m < n {
+        let p = ps[m];
+        let moved = act_one(p, m, row, table, from, i, &mut tried);
         let event = moved.event;
-        qs[m] = next;
         put_event(out, 2 * m, event);
         m += 1;
     }
-    qs
 }
 
-// One slot of all messages: they turn, they try, they act.
-pub fn run_slot(
+// One slot of all messages, with its events.
+fn run_slot(
     ps: [Position; 32],
     n: usize,
     row: &[u16],
@@ -155,9 +230,8 @@ pub fn run_slot(
     requires { ⌜ MayMove (now row) ps n (i .0) (length (now out)) ⌝ }
     ensures { λ r. ⌜ Done (now (row .entry)) n (slot byNumber (downOf (now (from .entry))) (ownerOf (now (table .entry))) (i .0) (positionsOf (now (row .entry)) n ps)) (now (out .entry)) (now (out .exit)) r ⌝ }
 {
-    let turned = turn_all(ps, n, row, from, i);
-    let tried = tries_all(turned, n, row, from, i);
-    act_all(turned, row, table, from, &tried[..n], i, out)
+    tell_all(ps, n, row, table, from, i, out);
+    after_slot(ps, n, row, table, from, i)
 }
 
 // One where a position is at its target, else 0.

@@ -2,6 +2,7 @@
 // pair on, and lists that a bound shows to leave enough are passed over. Of the bound it knows only specs/Bound of `touch`. It leans on
 // `onward` for the play and on the theorems of `laws`.
 use step::Position;
+use step::Slot;
 ghost use Prim.Native.Nat.{ℕ, _+_, _-_, _*_, _<_, _≤_};
 ghost use mathlib.Core.Path.{_≡_};
 ghost use mathlib.Core.Bool.{false};
@@ -164,7 +165,7 @@ fn advance(
     ensures { λ r. ⌜ StandAt (now (row .entry)) (a .messages) (cutsOf p) (s + 1) r ⌝ }
 {
     let from = p.from;
-    onward::next(ps, a.messages, row, table, &from, s)
+    cycle::after_slot(ps, a.messages, row, table, &from, Slot(s))
 }
 
 // All lists that go on with a pair of slot s, from link e on, and have n pairs more.

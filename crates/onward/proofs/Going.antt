@@ -1,9 +1,8 @@
 -- A cycle that is played on has come to slot j: what is still to play leads where the whole leads.
 use Prim.Native.Nat.{ℕ, _+_, _-_, _≤_, _<_}
-use native.Mathlib.Omega.{arith}
-use mathlib.Core.Path.{_≡_, refl, sym, _∙_, ap}
+use mathlib.Core.Path.{_≡_, sym, _∙_, ap}
 use mathlib.Core.List.{List}
-use Rattle.scope.specs.Cycle.{byNumber, slot, nexts, positions, arrived}
+use Rattle.scope.specs.Cycle.{byNumber, slot, nexts, arrived}
 use Rattle.cuts.specs.From.{downOf}
 use Rattle.step.specs.declared.Position.{Position}
 use Rattle.cycle.specs.Slot.{ownerOf}

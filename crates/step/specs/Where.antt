@@ -1,11 +1,12 @@
 -- What a position in a row says: the places or links that are left to it, and where they end.
-use Prim.Native.Nat.{ℕ, _+_, _≤_}
+use Prim.Native.Nat.{ℕ, _+_, _≤_, _<_}
 use mathlib.Core.Path.{_≡_}
 use mathlib.Core.Bool.{Bool, cond}
 use mathlib.Core.List.{List}
-use Rattle.scope.specs.Plan.{numbersAt, placesAt, afterPlaces}
+use Rattle.scope.specs.Plan.{at, numbersAt, placesAt, afterPlaces}
 use Rattle.scope.specs.Slot as S
 use Rattle.step.specs.declared.Position.{Position}
+use Rattle.step.specs.declared.Met.{Met}
 use Rattle.step.specs.declared.Moved.{Moved}
 use Rattle.step.specs.Events.{eventOf}
 
@@ -35,3 +36,16 @@ pub record Leads (row : List ℕ) (p : Position) (next : S.Position) (r : Positi
 pub record Acts (row : List ℕ) (p : Position) (does : S.Moved) (r : Moved) : Type 0 where
   pub is : movedOf row r ≡ does
   pub within : endOf row (r .next) ≤ endOf row p
+
+-- r is the position p, with the link before it
+pub record Faces (row : List ℕ) (down : ℕ → Bool) (p : Position) (r : Met) : Type 0 where
+  pub same : r .position ≡ p
+  pub link : r .link ≡ at row (p .at)
+  pub cut : r .down ≡ down (r .link)
+
+-- r is where a message at p stands after its turn, with the link before it: it is not yet at its target
+pub record Meets (row : List ℕ) (down : ℕ → Bool) (p : Position) (r : Met) : Type 0 where
+  pub turned : Leads row p (S.turn down (positionOf row p)) (r .position)
+  pub left : 0 < r .position .left
+  pub link : r .link ≡ at row (r .position .at)
+  pub cut : r .down ≡ down (r .link)

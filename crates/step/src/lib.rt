@@ -1,6 +1,6 @@
 // One message in one slot: a position goes in, and the next position and the event come out. Each promise is an equation with
-// `turn`, `tries` and `act` of document 01's section "One slot" (specs/Slot of `scope`), for any row of numbers, any cut list and any
-// table. All that is asked is that a position ends below index 65536, which no function here undoes.
+// `turn`, `onFirstPath` and `onSecondPath` of document 01's section "One slot" (specs/Slot of `scope`), for any row of numbers, any cut
+// list and any table. All that is asked is that a position ends below index 65536, which no function here undoes.
 use cuts::is_down;
 use view::number;
 ghost use Prim.Native.Nat.{_+_, _-_, _<_, _^_};
@@ -8,10 +8,10 @@ ghost use mathlib.Core.Path.{_≡_};
 ghost use mathlib.Core.Bool.{true, false};
 ghost use lib.Dec.{ltb, eqb};
 ghost use Rattle.scope.specs.Plan.{at, numbersAt, placeAt, placeSize, placesAt};
-ghost use Rattle.scope.specs.Slot.{turn, tries, nextSecond, onFirst, onFirstPath, onSecondPath, act};
+ghost use Rattle.scope.specs.Slot.{onFirst, onFirstPath, onSecondPath};
 ghost use Rattle.cuts.specs.From.{downOf};
 ghost use Rattle.step.specs.Events.{eventOf};
-ghost use Rattle.step.specs.Where.{positionOf, endOf, Leads, Acts};
+ghost use Rattle.step.specs.Where.{endOf, Leads, Acts, Faces, Meets};
 
 // "Slot numbers run from 0 to t − 1; times run from 0 to t. What happens in slot i leads from time i to time i + 1."
 pub struct Slot(pub usize);
@@ -96,6 +96,13 @@ pub struct Position {
     pub turned: bool,
 }
 
+// A position with the link before it, and whether that link is down.
+pub struct Met {
+    pub position: Position,
+    pub link: u16,
+    pub down: bool,
+}
+
 pub struct Moved {
     pub next: Position,
     pub event: Event,
@@ -109,63 +116,43 @@ impl Position {
         self.left == 0
     }
 
-    // The position after its turn, if the next link of its first path is cut and it has a second path there.
-    pub fn turn_now(self, row: &[u16], from: &[u16], slot: Slot) -> Position
-        requires { ⌜ endOf (now row) self < 65536 ⌝ }
-        ensures { λ r. ⌜ Leads (now (row .entry)) self (turn (downOf (now (from .entry)) (slot .0)) (positionOf (now (row .entry)) self)) r ⌝ }
+    // The link before it, and whether that link is down.
+    fn faces(self, row: &[u16], from: &[u16], slot: Slot) -> Met
+        requires { ⌜ 0 < self .left ⌝ }
+        ensures { λ r. ⌜ Faces (now (row .entry)) (downOf (now (from .entry)) (slot .0)) self r ⌝ }
     {
-        let at = self.at as usize;
+        let link = number(row, self.at as usize);
+        let down = is_down(from, slot.0, link);
+        Met {
+            position: self,
+            link: link as u16,
+            down,
+        }
+    }
+
+    // The position after its turn, if the next link of its first path is cut and it has a second path there, with the link before it.
+    pub fn meets(self, row: &[u16], from: &[u16], slot: Slot) -> Met
+        requires { ⌜ (0 < self .left) × (endOf (now row) self < 65536) ⌝ }
+        ensures { λ r. ⌜ Meets (now (row .entry)) (downOf (now (from .entry)) (slot .0)) self r ⌝ }
+    {
+        let here = self.faces(row, from, slot);
         if self.turned {
-            return self;
+            return here;
         }
-        if self.left == 0 {
-            return self;
-        }
-        if is_down(from, slot.0, number(row, at)) {
+        if here.down {
+            let at = self.at as usize;
             if number(row, at + 2) == 1 {
-                Position {
+                let turned = Position {
                     at: (at + 4) as u16,
                     left: (number(row, at + 3) + 1) as u16,
                     turned: true,
-                }
+                };
+                turned.faces(row, from, slot)
             } else {
-                self
+                here
             }
         } else {
-            self
-        }
-    }
-
-    // The link that it tries after its turn, plus one; 0 where it tries none.
-    pub fn tries(self, row: &[u16], from: &[u16], slot: Slot) -> u32
-        ensures { λ r. ⌜ r ≡ tries (downOf (now (from .entry)) (slot .0)) (positionOf (now (row .entry)) self) ⌝ }
-    {
-        if self.left == 0 {
-            return 0;
-        }
-        if self.turned {
-            let link = number(row, self.at as usize);
-            if is_down(from, slot.0, link) {
-                0
-            } else {
-                (link + 1) as u32
-            }
-        } else {
-            0
-        }
-    }
-
-    // The next link of the second path that it is on; 0 where there is none.
-    pub fn next_second(self, row: &[u16]) -> usize
-        ensures { λ r. ⌜ (r ≡ nextSecond (positionOf (now (row .entry)) self)) × (r < 65536) ⌝ }
-    {
-        if self.left == 0 {
-            return 0;
-        }
-        if self.turned {
-            number(row, self.at as usize)
-        } else {
-            0
+            here
         }
     }
 
@@ -183,12 +170,11 @@ impl Position {
     }
 
     // What it does on its first path, with its next link cut or whole: kinds 6, 2 and 1.
-    fn act_first(self, row: &[u16], slot: Slot, down: bool) -> Moved
-        requires { ⌜ (self .turned ≡ false) × (0 < self .left) × (endOf (now row) self < 65536) ⌝ }
+    pub fn act_first(self, row: &[u16], slot: Slot, link: u16, down: bool) -> Moved
+        requires { ⌜ (self .turned ≡ false) × (0 < self .left) × (endOf (now row) self < 65536) × (link ≡ at (now row) (self .at)) ⌝ }
         ensures { λ r. ⌜ Acts (now (row .entry)) self (onFirstPath down (slot .0) (placeAt (now (row .entry)) (self .at)) (placesAt (now (row .entry)) (self .at + placeSize (now (row .entry)) (self .at)) (self .left - 1))) r ⌝ }
     {
         let at = self.at as usize;
-        let link = number(row, at) as u16;
         if down {
             let event = Event::Stays(link);
             Moved { next: self, event }
@@ -204,11 +190,18 @@ impl Position {
 
     // What it does on its second path, with its next link cut or whole: the tests "go in the order 7, 4, 5, 3". `entry` is what the
     // table has for that link and slot, `first` the lowest message that tries the link, and `m` this message.
-    fn act_second(self, row: &[u16], down: bool, entry: u8, first: u16, m: u16) -> Moved
-        requires { ⌜ (self .turned ≡ true) × (0 < self .left) × (endOf (now row) self < 65536) ⌝ }
+    pub fn act_second(
+        self,
+        row: &[u16],
+        link: u16,
+        down: bool,
+        entry: u8,
+        first: u16,
+        m: u16,
+    ) -> Moved
+        requires { ⌜ (self .turned ≡ true) × (0 < self .left) × (endOf (now row) self < 65536) × (link ≡ at (now row) (self .at)) ⌝ }
         ensures { λ r. ⌜ Acts (now (row .entry)) self (onSecondPath down entry (ltb first m) first (at (now (row .entry)) (self .at)) (numbersAt (now (row .entry)) (self .at + 1) (self .left - 1))) r ⌝ }
     {
-        let link = number(row, self.at as usize) as u16;
         if down {
             let event = Event::StaysSecond(link);
             Moved { next: self, event }
@@ -226,23 +219,6 @@ impl Position {
             };
             let event = Event::CrossesSecond(link);
             Moved { next, event }
-        }
-    }
-
-    // What message m does in a slot, once it has turned if it must.
-    pub fn act(self, row: &[u16], from: &[u16], slot: Slot, entry: u8, first: u16, m: u16) -> Moved
-        requires { ⌜ endOf (now row) self < 65536 ⌝ }
-        ensures { λ r. ⌜ Acts (now (row .entry)) self (act (downOf (now (from .entry)) (slot .0)) (slot .0) entry (ltb first m) first (positionOf (now (row .entry)) self)) r ⌝ }
-    {
-        if self.left == 0 {
-            let event = Event::Arrived;
-            return Moved { next: self, event };
-        }
-        let down = is_down(from, slot.0, number(row, self.at as usize));
-        if self.turned {
-            self.act_second(row, down, entry, first, m)
-        } else {
-            self.act_first(row, slot, down)
         }
     }
 }

@@ -9,7 +9,6 @@ use Rattle.onward.proofs.finish.Tie as tie
 use Rattle.onward.proofs.finish.Reads as reads
 use Rattle.onward.proofs.finish.Lts as lts
 use Rattle.cycle.proofs.count_home.Reads as count-home-reads
-use Rattle.onward.proofs.next.Reads as next-reads
 
 abbrev Inv-loop : tie.InvT-loop
 Inv-loop n row table from i t qs₀ j₀ qs j = Going row n table from i t qs₀ j qs
@@ -17,31 +16,24 @@ Inv-loop n row table from i t qs₀ j₀ qs j = Going row n table from i t qs₀
 abbrev μ-loop : tie.MeasureT-loop
 μ-loop n row table from i t qs₀ j₀ qs j = t - j
 
--- src/lib.rt:44:5
 loop-holds : tie.Need-loop-holds Inv-loop μ-loop
 loop-holds c = record { stand = c .before .before .before .pre .stand; short = c .before .before .before .pre .short; ends = refl }
 
--- src/lib.rt:45:13
-next-requires : tie.Need-next-requires Inv-loop μ-loop
-next-requires c κs = record { stand = c .before .loop .inv .stand; early = omega (arith, c .before .loop .inv .short) }
+after-slot-requires : tie.Need-after-slot-requires Inv-loop μ-loop
+after-slot-requires c κs = record { stand = c .before .loop .inv .stand; early = omega (arith, c .before .loop .inv .short) }
 
--- src/lib.rt:47:9
 add-j : tie.Need-add-j Inv-loop μ-loop
 add-j c = search needs
 
--- src/lib.rt:44:5
 loop-less : tie.Need-loop-less Inv-loop μ-loop
 loop-less c = search needs
 
--- src/lib.rt:44:5
 loop-again : tie.Need-loop-again Inv-loop μ-loop
-loop-again c = going-more _ _ _ _ _ _ _ _ _ _ (c .before .before .loop .inv) (c .before .loop-test .taken) (c .next .ensures)
+loop-again c = going-more _ _ _ _ _ _ _ _ _ _ (c .before .before .loop .inv) (c .before .loop-test .taken) (c .after-slot .ensures)
 
--- src/lib.rt:49:5
 count-home-requires : tie.Need-count-home-requires Inv-loop μ-loop
 count-home-requires c κs = c .before .loop .inv .stand .few
 
--- src/lib.rt:30:1
 returns : tie.Need-returns Inv-loop μ-loop
 returns c = c .count-home .ensures (c .before .before .before .before .before .before .args .row .now) ∙ going-done _ _ _ _ _ _ _ _ _ (c .before .before .loop .inv) (c .before .loop-test .left)
 
@@ -52,7 +44,7 @@ finish-spec =
     Inv-loop
     μ-loop
     loop-holds
-    next-requires
+    after-slot-requires
     add-j
     loop-less
     loop-again

@@ -8,58 +8,30 @@ use Rattle.step.proofs.Position.act_first.Tie as tie
 cast-at : tie.Need-cast-at
 cast-at c = search needs
 
-number-requires : tie.Need-number-requires
-number-requires c κs = search needs
-
-cast-link : tie.Need-cast-link
-cast-link c = search needs
-
 add-number : tie.Need-add-number
 add-number c = search needs
 
-number-requires-2 : tie.Need-number-requires-2
-number-requires-2 c κs = search needs
+number-requires : tie.Need-number-requires
+number-requires c κs = search needs
 
 past-place-requires : tie.Need-past-place-requires
 past-place-requires c κs = search needs
 
 returns : tie.Need-returns
-returns c =
-    record {
-      is =
-          first-stays (c .before .before .before .before .args .row .now) (c .before .before .before .before .args .self .at) (c .before .before .before .before .args .self .left) (c .before .before .before .before .args .self .turned) (c .before .before .before .before .pre .0) (c .before .before .before .before .pre .1) (c .before .before .before .before .args .slot .0) _
-          (c .before .number .ensures .is) (c .before .before .before .before .args .down) (c .if1 .taken);
-      within = omega arith;
-    }
+returns c = record { is = first-stays (c .before .before .before .args .row .now) (c .before .before .before .args .self .at) (c .before .before .before .args .self .left) (c .before .before .before .args .self .turned) (c .before .before .before .pre .0) (c .before .before .before .pre .1) (c .before .before .before .args .slot .0) _ (c .before .before .before .pre .3) (c .before .before .before .args .down) (c .if1 .taken); within = omega arith }
 
 returns-2 : tie.Need-returns-2
 returns-2 c =
     record {
-      is =
-          first-crosses (c .before .before .before .before .before .before .before .before .args .row .now) (c .before .before .before .before .before .before .before .before .args .self .at) (c .before .before .before .before .before .before .before .before .args .self .left) (c .before .before .before .before .before .before .before .before .args .self .turned) (c .before .before .before .before .before .before .before .before .pre .0) (c .before .before .before .before .before .before .before .before .pre .1) (c .before .before .before .before .before .before .before .before .args .slot .0) _
-          (c .before .before .before .before .before .number .ensures .is) (c .before .before .before .before .before .before .before .before .args .down) (c .before .before .before .before .if1 .left) _ (c .before .before .before .number2 .ensures .is) (c .before .if2 .taken) _ (c .past-place .ensures .is);
+      is = first-crosses (c .before .before .before .before .before .before .before .args .row .now) (c .before .before .before .before .before .before .before .args .self .at) (c .before .before .before .before .before .before .before .args .self .left) (c .before .before .before .before .before .before .before .args .self .turned) (c .before .before .before .before .before .before .before .pre .0) (c .before .before .before .before .before .before .before .pre .1) (c .before .before .before .before .before .before .before .args .slot .0) _ (c .before .before .before .before .before .before .before .pre .3) (c .before .before .before .before .before .before .before .args .down) (c .before .before .before .before .if1 .left) _ (c .before .before .before .number .ensures .is) (c .before .if2 .taken) _ (c .past-place .ensures .is);
       within = c .past-place .ensures .within;
     }
 
 returns-3 : tie.Need-returns-3
 returns-3 c =
-    record {
-      is =
-          first-waits (c .before .before .before .before .before .before .before .args .row .now) (c .before .before .before .before .before .before .before .args .self .at) (c .before .before .before .before .before .before .before .args .self .left) (c .before .before .before .before .before .before .before .args .self .turned) (c .before .before .before .before .before .before .before .pre .0) (c .before .before .before .before .before .before .before .pre .1) (c .before .before .before .before .before .before .before .args .slot .0) _
-          (c .before .before .before .before .number .ensures .is) (c .before .before .before .before .before .before .before .args .down) (c .before .before .before .if1 .left) _ (c .before .before .number2 .ensures .is) (c .if2 .left);
-      within = omega arith;
-    }
+    record { is = first-waits (c .before .before .before .before .before .before .args .row .now) (c .before .before .before .before .before .before .args .self .at) (c .before .before .before .before .before .before .args .self .left) (c .before .before .before .before .before .before .args .self .turned) (c .before .before .before .before .before .before .pre .0) (c .before .before .before .before .before .before .pre .1) (c .before .before .before .before .before .before .args .slot .0) _ (c .before .before .before .before .before .before .pre .3) (c .before .before .before .before .before .before .args .down) (c .before .before .before .if1 .left) _ (c .before .before .number .ensures .is) (c .if2 .left); within = omega arith }
 
 pub act-first-spec : {M : Type 1} → statement M
 act-first-spec =
     tie.close
-    (tie.spec
-    cast-at
-    number-requires
-    cast-link
-    add-number
-    number-requires-2
-    past-place-requires
-    returns
-    returns-2
-    returns-3)
+    (tie.spec cast-at add-number number-requires past-place-requires returns returns-2 returns-3)

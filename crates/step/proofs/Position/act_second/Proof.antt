@@ -5,77 +5,32 @@ use borrow.Author.Needs.{needs}
 use Rattle.step.proofs.Position.act_second.Statement.{statement}
 use Rattle.step.proofs.Position.act_second.Tie as tie
 
-cast-number : tie.Need-cast-number
-cast-number c = search needs
+sub-t17 : tie.Need-sub-t17
+sub-t17 c = search needs
 
-number-requires : tie.Need-number-requires
-number-requires c κs = search needs
+cast-t18 : tie.Need-cast-t18
+cast-t18 c = search needs
 
-cast-link : tie.Need-cast-link
-cast-link c = search needs
+add-t21 : tie.Need-add-t21
+add-t21 c =
+    let w = second-within (c .before .before .before .before .args .row .now) (c .before .before .before .before .args .self .at) (c .before .before .before .before .args .self .left) (c .before .before .before .before .args .self .turned) (c .before .before .before .before .pre .0) (c .before .before .before .before .pre .1) in
+    omega (arith, w, c .before .before .before .before .pre)
 
-sub-t19 : tie.Need-sub-t19
-sub-t19 c = search needs
-
-cast-t20 : tie.Need-cast-t20
-cast-t20 c = search needs
-
-add-t23 : tie.Need-add-t23
-add-t23 c =
-    let w = second-within (c .before .before .before .before .before .before .before .args .row .now) (c .before .before .before .before .before .before .before .args .self .at) (c .before .before .before .before .before .before .before .args .self .left) (c .before .before .before .before .before .before .before .args .self .turned) (c .before .before .before .before .before .before .before .pre .0) (c .before .before .before .before .before .before .before .pre .1) in
-    omega (arith, w, c .before .before .before .before .before .before .before .pre)
-
-sub-t24 : tie.Need-sub-t24
-sub-t24 c = search needs
+sub-t22 : tie.Need-sub-t22
+sub-t22 c = search needs
 
 returns : tie.Need-returns
-returns c =
-    record {
-      is =
-          second-stays (c .before .before .before .before .args .row .now) (c .before .before .before .before .args .self .at) (c .before .before .before .before .args .self .left) (c .before .before .before .before .args .self .turned) (c .before .before .before .before .pre .0) (c .before .before .before .before .pre .1) (c .before .before .before .before .args .entry)
-          (c .before .before .before .before .args .first) (c .before .before .before .before .args .m) _ (c .before .number .ensures .is) (c .before .before .before .before .args .down) (c .if1 .taken);
-      within = omega arith;
-    }
+returns c = record { is = second-stays (c .before .args .row .now) (c .before .args .self .at) (c .before .args .self .left) (c .before .args .self .turned) (c .before .pre .0) (c .before .pre .1) (c .before .args .entry) (c .before .args .first) (c .before .args .m) _ (c .before .pre .3) (c .before .args .down) (c .if1 .taken); within = omega arith }
 
 returns-2 : tie.Need-returns-2
-returns-2 c =
-    record {
-      is =
-          second-table (c .before .before .before .before .before .args .row .now) (c .before .before .before .before .before .args .self .at) (c .before .before .before .before .before .args .self .left) (c .before .before .before .before .before .args .self .turned) (c .before .before .before .before .before .pre .0) (c .before .before .before .before .before .pre .1) (c .before .before .before .before .before .args .entry)
-          (c .before .before .before .before .before .args .first) (c .before .before .before .before .before .args .m) _ (c .before .before .number .ensures .is) (c .before .before .before .before .before .args .down) (c .before .if1 .left) (c .if2 .taken);
-      within = omega arith;
-    }
+returns-2 c = record { is = second-table (c .before .before .args .row .now) (c .before .before .args .self .at) (c .before .before .args .self .left) (c .before .before .args .self .turned) (c .before .before .pre .0) (c .before .before .pre .1) (c .before .before .args .entry) (c .before .before .args .first) (c .before .before .args .m) _ (c .before .before .pre .3) (c .before .before .args .down) (c .before .if1 .left) (c .if2 .taken); within = omega arith }
 
 returns-3 : tie.Need-returns-3
-returns-3 c =
-    record {
-      is =
-          second-held (c .before .before .before .before .before .before .args .row .now) (c .before .before .before .before .before .before .args .self .at) (c .before .before .before .before .before .before .args .self .left) (c .before .before .before .before .before .before .args .self .turned) (c .before .before .before .before .before .before .pre .0) (c .before .before .before .before .before .before .pre .1) (c .before .before .before .before .before .before .args .entry)
-          (c .before .before .before .before .before .before .args .first) (c .before .before .before .before .before .before .args .m) _ (c .before .before .before .number .ensures .is) (c .before .before .before .before .before .before .args .down) (c .before .before .if1 .left) (c .before .if2 .left) (c .if3 .taken);
-      within = omega arith;
-    }
+returns-3 c = record { is = second-held (c .before .before .before .args .row .now) (c .before .before .before .args .self .at) (c .before .before .before .args .self .left) (c .before .before .before .args .self .turned) (c .before .before .before .pre .0) (c .before .before .before .pre .1) (c .before .before .before .args .entry) (c .before .before .before .args .first) (c .before .before .before .args .m) _ (c .before .before .before .pre .3) (c .before .before .before .args .down) (c .before .before .if1 .left) (c .before .if2 .left) (c .if3 .taken); within = omega arith }
 
 returns-4 : tie.Need-returns-4
-returns-4 c =
-    record {
-      is =
-          second-crosses (c .before .before .before .before .before .before .before .before .args .row .now) (c .before .before .before .before .before .before .before .before .args .self .at) (c .before .before .before .before .before .before .before .before .args .self .left) (c .before .before .before .before .before .before .before .before .args .self .turned) (c .before .before .before .before .before .before .before .before .pre .0) (c .before .before .before .before .before .before .before .before .pre .1) (c .before .before .before .before .before .before .before .before .args .entry)
-          (c .before .before .before .before .before .before .before .before .args .first) (c .before .before .before .before .before .before .before .before .args .m) _ (c .before .before .before .before .before .number .ensures .is) (c .before .before .before .before .before .before .before .before .args .down) (c .before .before .before .before .if1 .left) (c .before .before .before .if2 .left) (c .before .before .if3 .left);
-      within = second-within (c .before .before .before .before .before .before .before .before .args .row .now) (c .before .before .before .before .before .before .before .before .args .self .at) (c .before .before .before .before .before .before .before .before .args .self .left) (c .before .before .before .before .before .before .before .before .args .self .turned) (c .before .before .before .before .before .before .before .before .pre .0) (c .before .before .before .before .before .before .before .before .pre .1);
-    }
+returns-4 c = record { is = second-crosses (c .before .before .before .before .before .args .row .now) (c .before .before .before .before .before .args .self .at) (c .before .before .before .before .before .args .self .left) (c .before .before .before .before .before .args .self .turned) (c .before .before .before .before .before .pre .0) (c .before .before .before .before .before .pre .1) (c .before .before .before .before .before .args .entry) (c .before .before .before .before .before .args .first) (c .before .before .before .before .before .args .m) _ (c .before .before .before .before .before .pre .3) (c .before .before .before .before .before .args .down) (c .before .before .before .before .if1 .left) (c .before .before .before .if2 .left) (c .before .before .if3 .left); within = second-within (c .before .before .before .before .before .args .row .now) (c .before .before .before .before .before .args .self .at) (c .before .before .before .before .before .args .self .left) (c .before .before .before .before .before .args .self .turned) (c .before .before .before .before .before .pre .0) (c .before .before .before .before .before .pre .1) }
 
 pub act-second-spec : {M : Type 1} → statement M
 act-second-spec =
-    tie.close
-    (tie.spec
-    cast-number
-    number-requires
-    cast-link
-    sub-t19
-    cast-t20
-    add-t23
-    sub-t24
-    returns
-    returns-2
-    returns-3
-    returns-4)
+    tie.close (tie.spec sub-t17 cast-t18 add-t21 sub-t22 returns returns-2 returns-3 returns-4)
