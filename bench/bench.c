@@ -1,6 +1,8 @@
 /* The questions of `crates/bench` in plain C, with the same algorithms as far as they are known, compiled for the same target: reading a
-   plan file into a row with every rule, one replay, and all answers for k 2. `bench QUESTION N` prints the sum of the answers. No header
-   is used, since the kit has none. */
+   plan file into a row with every rule, one replay, and all answers for one k by the same search, in place. `bench QUESTION N` prints a
+   checksum of the answers and of the numbers that the last one wrote. `bench countK 1` tells instead, for each walk of the search, l, how
+   many pairs its lists have, how many lists it plays to the end, how many slots it plays, and the arrivals of the list it finds, or -.
+   No header is used, since the kit has none. */
 typedef unsigned char u8;
 typedef unsigned short u16;
 typedef unsigned long usize;
@@ -11,7 +13,7 @@ extern int atoi(const char *);
 
 static u8 file[8192];
 static int size, at, count;
-static u16 row[10500];
+static u16 row[10405];
 
 static int field(int w) { /* most significant bit first; -1 where the file ends */
     if (at + w > 8 * size) return -1;
@@ -118,8 +120,8 @@ static int read_plan(void) {
 }
 
 typedef struct {
-    u16 at, left;
-    u8 turned;
+    u16 at;
+    u8 left, turned;
 } position;
 
 static u16 cut_from[64], events[4096];
@@ -133,46 +135,62 @@ static void begin(void) {
     }
 }
 
-static void slot(position *ps, int i, u16 *out) {
-    u8 tries[64];
-    for (int e = 0; e < E; e++) tries[e] = 255;
+static void clear_cuts(void) {
+    for (int e = 0; e < 64; e++) cut_from[e] = 65535;
+}
+
+static void turn(position *p) {
+    p->left = row[p->at + 3] + 1;
+    p->at += 4;
+    p->turned = 1;
+}
+
+static void tell(position *ps, int i, u16 *out) { /* one slot, with its events */
+    u8 tries[64]; /* the first that tries each link, plus one */
+    for (int e = 0; e < E; e++) tries[e] = 0;
+    for (int m = 0; m < M; m++) {
+        position *p = ps + m;
+        int kind = 0, number = 0;
+        if (p->left) {
+            if (!p->turned && cut_from[row[p->at]] <= i && row[p->at + 2]) turn(p);
+            int e = row[p->at], down = cut_from[e] <= i;
+            number = e;
+            if (!p->turned) {
+                if (down) kind = 6;
+                else if (row[p->at + 1] == i) kind = 2, p->at += place_size(p->at), p->left--;
+                else kind = 1;
+            } else if (down) kind = 7;
+            else {
+                int who = tries[e];
+                if (!who) tries[e] = m + 1;
+                if (table[i * 64 + e]) kind = 4, number = table[i * 64 + e] - 1;
+                else if (who) kind = 5, number = who - 1;
+                else kind = 3, p->at++, p->left--;
+            }
+        }
+        out[2 * m] = kind, out[2 * m + 1] = number;
+    }
+}
+
+static void slot(position *ps, int i) { /* one slot without events. Who is held by the table holds nobody: the others are held by it too */
+    usize taken = 0;
     for (int m = 0; m < M; m++) {
         position *p = ps + m;
         if (!p->left) continue;
-        if (!p->turned && cut_from[row[p->at]] <= i && row[p->at + 2]) {
-            p->left = row[p->at + 3] + 1;
-            p->at += 4;
-            p->turned = 1;
-        }
-        if (p->turned) {
-            int e = row[p->at];
-            if (cut_from[e] > i && tries[e] == 255) tries[e] = m;
-        }
-    }
-    for (int m = 0; m < M; m++) {
-        position *p = ps + m;
-        int kind, number;
-        if (!p->left) kind = number = 0;
-        else {
-            int e = row[p->at];
-            number = e;
-            if (!p->turned) {
-                if (cut_from[e] <= i) kind = 6;
-                else if (row[p->at + 1] == i) {
-                    kind = 2;
-                    p->at += place_size(p->at);
-                    p->left--;
-                } else kind = 1;
-            } else if (cut_from[e] <= i) kind = 7;
-            else if (table[i * 64 + e]) kind = 4, number = table[i * 64 + e] - 1;
-            else if (tries[e] < m) kind = 5, number = tries[e];
-            else {
-                kind = 3;
-                p->at++;
-                p->left--;
+        int e = row[p->at];
+        if (!p->turned) {
+            if (cut_from[e] > i) {
+                if (row[p->at + 1] == i) p->at += place_size(p->at), p->left--;
+                continue;
             }
+            if (!row[p->at + 2]) continue;
+            turn(p);
+            e = row[p->at];
         }
-        if (out) out[2 * m] = kind, out[2 * m + 1] = number;
+        if (cut_from[e] <= i || table[i * 64 + e] || taken >> e & 1) continue;
+        taken |= 1ul << e;
+        p->at++;
+        p->left--;
     }
 }
 
@@ -190,44 +208,73 @@ static int replay(void) {
     int r = rules();
     if (r) return r;
     position ps[32];
-    for (int e = 0; e < 64; e++) cut_from[e] = 65535;
+    clear_cuts();
     cut_from[0] = 0;
     begin();
     copy(ps, start);
-    for (int i = 0; i < T; i++) slot(ps, i, events + i * 2 * M);
+    for (int i = 0; i < T; i++) tell(ps, i, events + i * 2 * M);
     return arrived(ps);
 }
 
-static u8 weight[64 * 64], top[65];
-static int need, least, best;
+static u8 weight[64 * 64], top[64];
+static u16 pairs[6], answers[231];
+static int need, least, best, counting;
+static long lists, slots;
 
-static int level(const position *ps, int n, int s, int e, int sum) { /* the first list of n more pairs from s, e on that leaves fewer than least */
-    position now[32], play[32];
+static int finish(const position *ps, int s) { /* the list picked, played from its last pair on */
+    position play[32];
+    copy(play, ps);
+    for (int i = s; i < T; i++) slot(play, i);
+    lists++, slots += T - s;
+    best = arrived(play);
+    return best < least;
+}
+
+/* The first list of n more pairs, from slot s and link e on, that leaves fewer than `least`. */
+static int level(const position *ps, int n, int at, int s, int e, int sum) {
+    position now[32];
     copy(now, ps);
     for (; s < T; s++, e = 0) {
         if (sum + n * top[s] < need) return 0;
+        int floor = need - sum - (n - 1) * top[s];
         for (; e < E; e++) {
-            if (cut_from[e] != 65535 || sum + weight[s * 64 + e] + (n - 1) * top[s] < need) continue;
-            cut_from[e] = s;
-            int found;
-            if (n == 1) {
-                copy(play, now);
-                for (int i = s; i < T; i++) slot(play, i, 0);
-                best = arrived(play);
-                found = best < least;
-            } else found = level(now, n - 1, s, e + 1, sum + weight[s * 64 + e]);
+            int w = weight[s * 64 + e];
+            if (w < floor || cut_from[e] != 65535) continue;
+            cut_from[e] = pairs[at] = s;
+            pairs[at + 1] = e;
+            int found = n == 1 ? finish(now, s) : level(now, n - 1, at + 2, s, e + 1, sum + w);
             cut_from[e] = 65535;
             if (found) return 1;
         }
-        slot(now, s, 0);
+        slot(now, s);
+        slots++;
     }
     return 0;
 }
 
-static int verdict(void) { /* all answers for k 2: the number of answers */
+static int hunt(int n) { /* one walk: the lists of n pairs */
+    lists = slots = 0;
+    int found = n ? level(start, n, 0, 0, 0, 0) : finish(start, 0);
+    if (counting) {
+        printf("%d %d %ld %ld ", least, n, lists, slots);
+        if (found) printf("%d\n", best);
+        else printf("-\n");
+    }
+    return found;
+}
+
+static void put(int l, int to, int head) { /* the answers from l on, below to */
+    for (; l < to; l++) {
+        u16 *a = answers + 7 * l;
+        for (int i = 0; i < 6; i++) a[i + 1] = i + 2 < 2 * head ? pairs[i] : 0;
+        a[0] = head;
+    }
+}
+
+static int verdict(int k) { /* all answers: how many numbers they are */
     int r = rules();
     if (r) return r;
-    for (int e = 0; e < 64; e++) cut_from[e] = 65535;
+    clear_cuts();
     for (int e = 0; e < E; e++)
         for (int s = T - 1, n = 0; s >= 0; s--) weight[s * 64 + e] = n += table[s * 64 + e] != 0;
     for (int s = 0; s < T; s++) {
@@ -236,29 +283,43 @@ static int verdict(void) { /* all answers for k 2: the number of answers */
             if (weight[s * 64 + e] > top[s]) top[s] = weight[s * 64 + e];
     }
     begin();
-    int n = 1;
-    for (least = M; least > 0;) {
-        need = M - least + 1;
-        int found = 0;
-        for (; n <= 2; n++)
-            if ((found = level(start, n, 0, 0, 0))) break;
-        if (!found) break;
-        least = best;
+    least = M;
+    for (int n = 0; n <= k && least;) { /* for l 0 nothing is to be asked */
+        need = M + 1 - least;
+        if (!hunt(n)) n++;
+        else {
+            put(best + 1, least + 1, n + 1);
+            least = best;
+        }
     }
+    put(0, least + 1, 0);
     return 7 * (M + 1);
+}
+
+static unsigned mixed(unsigned sum, const u16 *numbers, int n) {
+    usize all = sum;
+    for (int i = 0; i < n; i++) all = (all * 31 + numbers[i]) % 1000003;
+    return all;
 }
 
 int main(int argc, char **argv) {
     int fd = open("plan.bin", 0), turns = argc > 2 ? atoi(argv[2]) : 0;
-    unsigned sum = 0;
     if (fd >= 0) size = read(fd, file, sizeof file);
-    if (argc > 1 && argv[1][2] == 'a')
+    if (argc < 2) return 1;
+    char what = argv[1][2];
+    unsigned sum = 0;
+    if (what == 'a') {
         while (turns-- > 0) sum = (sum + read_plan()) % 65536;
-    else {
-        read_plan();
-        int play = argc > 1 && argv[1][2] == 'p';
-        while (turns-- > 0) sum = (sum + (play ? replay() : verdict())) % 65536;
+        sum = mixed(sum, row, 10405);
+    } else if (what == 'p') {
+        for (read_plan(); turns-- > 0;) sum = (sum + replay()) % 65536;
+        sum = mixed(sum, events, 4096);
+    } else {
+        counting = argv[1][0] == 'c';
+        int k = argv[1][counting ? 5 : 7] - '0';
+        for (read_plan(); turns-- > 0;) sum = (sum + verdict(k)) % 65536;
+        sum = mixed(sum, answers, 231);
     }
-    printf("%u\n", sum);
+    if (!counting) printf("%u\n", sum);
     return 0;
 }

@@ -1,45 +1,171 @@
 #!/usr/bin/env python3
-"""Times the proved program against plain C on the same questions, both started in the same way, in turn.
+"""Times the proved program against plain C on the same questions, both started in the same way, in turn; and against an SMT solver if there is one.
 
-  bench/run.py OURS... -- C...      the words that start each program
+  bench/run.py ORACLE OURS... -- C...      the second program, which makes the plans, and the words that start each program
 
-For each sample plan and question: the median over the repetitions of ours / C, with the lowest and the highest ratio. Both programs
-print the sum of the answers, and it has to be the same."""
-import os, subprocess, sys, time
+Times are processor seconds. Both programs print a checksum of all answers, and it has to be the same. docs/BENCHMARKS.md has what this printed."""
+import math, os, shutil, subprocess, sys, tempfile
+
+here = os.path.dirname(os.path.abspath(__file__))
+sys.path.insert(0, here)
+sys.dont_write_bytecode = True
+import encode
 
 split = sys.argv.index('--')
-ours, c = sys.argv[1:split], sys.argv[split + 1 :]
-samples = os.path.join(os.path.dirname(os.path.abspath(__file__)), '..', 'samples')
+oracle, ours, c = sys.argv[1], sys.argv[2:split], sys.argv[split + 1 :]
+samples = os.path.join(here, '..', 'samples')
+made = os.path.join(here, '..', 'target', 'bench')
+repetitions = 5
+limit = 120  # seconds for one question to the solver
 asked = [
     ('large', 'read', 20000),
     ('large', 'replay', 10000),
-    ('large', 'verdict', 60),
+    ('large', 'verdict2', 60),
     ('accident', 'read', 65000),
     ('accident', 'replay', 65000),
-    ('accident', 'verdict', 4000),
+    ('accident', 'verdict2', 4000),
+    ('large', 'verdict3', 2),
+    ('network-1', 'verdict3', 1),
+    ('network-2', 'verdict3', 1),
+    ('network-3', 'verdict3', 1),
+    ('chain-1', 'verdict3', 10),
+    ('chain-2', 'verdict3', 10),
+    ('chain-3', 'verdict3', 10),
+    ('small-1', 'verdict3', 200),
+    ('small-2', 'verdict3', 200),
+    ('small-3', 'verdict3', 200),
+    ('wide-1', 'verdict3', 20),
+    ('wide-2', 'verdict3', 20),
+    ('wide-3', 'verdict3', 3),
 ]
-repetitions = 7
+searched = [plan for plan, question, _ in asked if question == 'verdict3']
 
 
-def run(words, folder, question, turns):
-    began = time.perf_counter()
-    said = subprocess.run(words + [question, ' %d' % turns], cwd=folder, stdout=subprocess.PIPE, check=True).stdout
-    return time.perf_counter() - began, said
+def folder(plan):
+    return os.path.join(made if '-' in plan else samples, plan)
 
 
-print('%-10s %-8s %8s %10s %10s   ours / C (lowest to highest of %d)' % ('plan', 'question', 'turns', 'ours, s', 'C, s', repetitions))
-for number, (plan, question, turns) in enumerate(asked):
-    folder = os.path.join(samples, plan)
-    ratios, mine, theirs = [], [], []
-    for _ in range(repetitions):
-        a, x = run(ours, folder, question, turns)
-        b, y = run(c, folder, question, turns)
-        if x != y:
-            sys.exit('%s %s: ours says %s and C says %s' % (plan, question, x, y))
-        ratios.append(a / b)
-        mine.append(a)
-        theirs.append(b)
-    ratios.sort(), mine.sort(), theirs.sort()
-    mid = repetitions // 2
-    print('%-10s %-8s %8d %10.3f %10.3f   %.2f (%.2f to %.2f)' % (plan, question, turns, mine[mid], theirs[mid], ratios[mid], ratios[0], ratios[-1]))
-    print('%d of %d' % (number + 1, len(asked)), file=sys.stderr)
+def run(words, where=None):
+    """What a program prints, and the processor seconds that it takes."""
+    child = subprocess.Popen(words, cwd=where, stdout=subprocess.PIPE)
+    said = child.stdout.read().decode()
+    _, status, used = os.wait4(child.pid, 0)
+    child.returncode = os.waitstatus_to_exitcode(status)
+    return said, used.ru_utime + used.ru_stime, child.returncode
+
+
+def ask(words, plan, question, turns):
+    said, seconds, status = run(words + [question, ' %d' % turns], folder(plan))
+    if status:
+        sys.exit('%s %s: a program ended with status %d' % (plan, question, status))
+    return said, seconds
+
+
+def note(text):
+    print(text, file=sys.stderr, flush=True)
+
+
+def make_plans():
+    for plan in searched:
+        if '-' in plan:
+            os.makedirs(folder(plan), exist_ok=True)
+            with open(os.path.join(folder(plan), 'plan.bin'), 'wb') as file:
+                subprocess.run([oracle, 'bench-plan'] + plan.split('-'), stdout=file, check=True)
+
+
+def against_c():
+    """The table of times. Returns our seconds for each plan's search at k 3."""
+    print('%-10s %-8s %6s %9s %9s   ours / C (lowest to highest of %d)' % ('plan', 'question', 'turns', 'ours, s', 'C, s', repetitions), flush=True)
+    each = {}
+    for number, (plan, question, turns) in enumerate(asked):
+        taken = []
+        for _ in range(repetitions):
+            said, mine = ask(ours, plan, question, turns)
+            other, theirs = ask(c, plan, question, turns)
+            if said != other:
+                sys.exit('%s %s: ours says %s and C says %s' % (plan, question, said, other))
+            taken.append((mine / theirs, mine, theirs))
+        ratios, mine, theirs = (sorted(column) for column in zip(*taken))
+        mid = repetitions // 2
+        if question == 'verdict3':
+            each[plan] = mine[mid] / turns
+        print(
+            '%-10s %-8s %6d %9.3f %9.3f   %.2f (%.2f to %.2f)'
+            % (plan, question, turns, mine[mid], theirs[mid], ratios[mid], ratios[0], ratios[-1]),
+            flush=True,
+        )
+        note('%d of %d' % (number + 1, len(asked)))
+    return each
+
+
+def plan_of(plan):
+    with open(os.path.join(folder(plan), 'plan.bin'), 'rb') as file:
+        return encode.read(file.read())
+
+
+def walks(plan, k):
+    """For each walk of the search: l, pairs, lists played, slots played, arrivals of the list found or -."""
+    said, _ = ask(c, plan, 'count%d' % k, 1)
+    return [line.split() for line in said.splitlines()]
+
+
+def lists_played():
+    """The table of lists. Returns for each plan the highest l that k 3 leaves resistant."""
+    print('\n%-10s %1s %6s %12s %12s %18s %12s' % ('plan', 'k', 'walks', 'lists played', 'slots played', 'lists there are', 'played'), flush=True)
+    edges = {}
+    for plan in searched:
+        timeout, links, _ = plan_of(plan)
+        for k in 1, 2, 3:
+            rows = walks(plan, k)
+            lists, slots = sum(int(row[2]) for row in rows), sum(int(row[3]) for row in rows)
+            there = sum(math.comb(links, n) * timeout**n for n in range(k + 1))
+            print('%-10s %d %6d %12d %12d %18d %11.5f%%' % (plan, k, len(rows), lists, slots, there, 100 * lists / there), flush=True)
+        last = rows[-1]
+        edges[plan] = int(last[0] if last[4] == '-' else last[4])
+    return edges
+
+
+def each_walk():
+    """The walks of two plans one by one."""
+    print('\n%-10s %2s %5s %12s %12s %18s   %s' % ('plan, k 3', 'l', 'pairs', 'lists played', 'slots played', 'lists there are', 'found'), flush=True)
+    for plan in 'network-1', 'wide-1':
+        timeout, links, _ = plan_of(plan)
+        for l, pairs, lists, slots, found in walks(plan, 3):
+            there = math.comb(links, int(pairs)) * timeout ** int(pairs)
+            arrivals = '-' if found == '-' else 'a list that leaves ' + found
+            print('%-10s %2s %5s %12s %12s %18d   %s' % (plan, l, pairs, lists, slots, there, arrivals), flush=True)
+
+
+def against_solver(each, edges):
+    solver = shutil.which('z3')
+    if not solver:
+        print('\nno table of the solver: z3 is not on the PATH')
+        return
+    version = subprocess.run([solver, '--version'], stdout=subprocess.PIPE, check=True).stdout.decode().split(' - ')[0]
+    print('\n%-10s %2s %-9s %10s %14s   %s, one l / ours, every l' % ('plan', 'l', 'answer', 'solver, s', 'ours, s', version), flush=True)
+    with tempfile.TemporaryDirectory() as work:
+        question = os.path.join(work, 'question.smt2')
+        for plan in searched:
+            read = plan_of(plan)
+            for l, expected in ((edges[plan] + 1, 'sat'), (edges[plan], 'unsat')):
+                if l == 0 or l > len(read[2]):
+                    continue
+                with open(question, 'w') as file:
+                    file.write(encode.encode(*read, 3, l))
+                said, seconds, _ = run([solver, '-T:%d' % limit, question])
+                said = said.strip()
+                if said not in (expected, 'timeout'):
+                    sys.exit('%s, k 3, l %d: the solver says %s, and we say %s' % (plan, l, said, expected))
+                more = '> ' if said == 'timeout' else ''
+                meant = 'failing' if expected == 'sat' else 'resistant'
+                ratio = seconds / each[plan]
+                times = more + ('%.1f' if ratio >= 1 else '%.2f') % ratio
+                print('%-10s %2d %-9s %10s %14.5f   %s' % (plan, l, meant, more + '%.2f' % seconds, each[plan], times), flush=True)
+                note('%s, l %d: done' % (plan, l))
+
+
+make_plans()
+times = against_c()
+edges = lists_played()
+each_walk()
+against_solver(times, edges)

@@ -2,6 +2,7 @@
 //! comparison of another program with it. See README.md.
 
 mod bad;
+mod bench;
 mod cases;
 mod compare;
 mod cuts;
@@ -35,6 +36,8 @@ oracle: document 01 once more, independent, simple and slow
   oracle compare-program NAME SEED N [--cwd-root DIR] -- COMMAND...
                                     runs COMMAND in a folder for each of N cases and compares
                                     what it prints with the program NAME (replay or verdict)
+  oracle bench-plan KIND SEED       writes a plan file for benchmarks; KIND is network or chain (64 links,
+                                    64 slots, 32 messages), small or wide (as document 000 evaluates)
   oracle theorem SEED N             tries the promises about every replay on N random cases
   oracle help                       this
 
@@ -153,6 +156,14 @@ fn run(arguments: &[String]) -> Result<bool, String> {
         Some("theorem") => {
             let (seed, number) = (number_at(&words, 1)?, number_at(&words, 2)?);
             theorems(seed, number)
+        }
+        Some("bench-plan") => {
+            let kind = words.plain.get(1).ok_or(bench::KINDS)?;
+            let plan = bench::plan(kind, number_at(&words, 2)?).ok_or(bench::KINDS)?;
+            good::good(&plan).map_err(|refusal| format!("no good plan: {:?}", refusal))?;
+            let file = plan::file_of(&plan);
+            std::io::stdout().write_all(&file).map_err(|error| error.to_string())?;
+            Ok(true)
         }
         Some("help") => print_all(HELP),
         _ => Err(String::from("see oracle help")),

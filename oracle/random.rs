@@ -132,6 +132,17 @@ pub fn good_plan(r: &mut Random, size: Size) -> Plan {
     network_plan(r, &bounds)
 }
 
+/// A plan on a random network of the largest size: 64 links, 32 messages, t 64.
+pub fn largest_plan(r: &mut Random) -> Plan {
+    let bounds = Bounds { active: (9, 16), links: (64, 64), messages: (32, 32), timeout: (64, 64) };
+    loop {
+        let plan = network_plan(r, &bounds);
+        if plan.links.len() == 64 && plan.messages.len() == 32 {
+            return plan;
+        }
+    }
+}
+
 /// A plan small enough for the exhaustive verdict: E x t is at most `product`.
 pub fn plan_for_verdict(r: &mut Random, product: usize) -> Plan {
     let bounds = Bounds { active: (2, 5), links: (2, 9), messages: (1, 5), timeout: (2, 8) };

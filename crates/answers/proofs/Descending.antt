@@ -4,7 +4,7 @@ use Prim.Native.Nat.{ℕ, _+_, _-_, _*_, _/_, _≤_, _<_}
 use native.Mathlib.Omega.{arith}
 use mathlib.Core.Path.{_≡_, refl, sym, _∙_, ap, ap₂}
 use mathlib.Core.Logic.{_⊎_, inl, inr}
-use mathlib.Core.Bool.{Bool, true, false}
+use mathlib.Core.Bool.{Bool, true, false, true≢false}
 use mathlib.Core.List.{List, [], _∷_, _++_}
 use lib.ListN.{length, take, drop, replicate}
 use lib.Seq.{length-take-le}
@@ -30,6 +30,18 @@ lower-first plan k l m cuts f h g =
 lower-resistant : (plan : Plan) (k l m : ℕ) → Resistant plan k l → m ≤ l → Resistant plan k m
 unfolding Resistant
 lower-resistant plan k l m r h cuts good few = let enough = r cuts good few in omega arith
+
+-- for l 0 every list leaves enough
+pub none-for-nought : (row : List ℕ) (l k : ℕ) (h : Hunted) → l ≡ 0 → h .found ≡ false → h .pairs ≡ 0 → length (h .numbers) ≡ 6 → Hunts row l k h
+none-for-nought row l k h e t q long =
+    record {
+      long = long;
+      few = omega arith;
+      none = λ z i le x of good. omega arith;
+      some = λ z. absurd (true≢false (sym z ∙ t));
+      left = λ z. absurd (true≢false (sym z ∙ t));
+      fewer = λ z. absurd (true≢false (sym z ∙ t));
+    }
 
 pub ask-on : (row table weights most : List ℕ) (ps : List Position) (a : Asked) (l low k need : ℕ) → MayAskOn row table weights most ps a l low k →
     need ≡ a .messages + 1 - l →

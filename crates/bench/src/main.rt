@@ -1,5 +1,6 @@
 // Asks one question of the plan in `plan.bin` many times, for `./nuthatchet bench`: `bench read N`, `bench replay N` (link 0 cut in slot 0),
-// `bench verdict N` (all answers for k 2). It prints the sum of the answers, which the C program beside it (bench/bench.c) prints too.
+// `bench verdictK N` (all answers for k K). It prints a checksum of the answers and of the numbers that the last one wrote, which the C
+// program beside it (bench/bench.c) prints too.
 ghost use Prim.Native.Nat.{_<_};
 use scope::Answer;
 
@@ -13,6 +14,19 @@ fn small(answer: Answer) -> usize
     }
 }
 
+// A checksum, with more numbers.
+fn mixed(sum: usize, numbers: &[u16]) -> usize
+    requires { ⌜ sum < 1000003 ⌝ }
+{
+    let mut all = sum;
+    let mut i = 0;
+    while i < numbers.len() {
+        all = (all * 31 + view::number(numbers, i)) % 1000003;
+        i += 1;
+    }
+    all
+}
+
 fn read(file: &[u8], row: &mut [u16], turns: usize) -> usize {
     let mut sum: usize = 0;
     let mut i = 0;
@@ -20,7 +34,7 @@ fn read(file: &[u8], row: &mut [u16], turns: usize) -> usize {
         sum = (sum + small(plan::read_file(file, row))) % 65536;
         i += 1;
     }
-    sum
+    mixed(sum, row)
 }
 
 fn replay(row: &[u16], cuts: &[u16], events: &mut [u16], turns: usize) -> usize {
@@ -30,17 +44,17 @@ fn replay(row: &[u16], cuts: &[u16], events: &mut [u16], turns: usize) -> usize 
         sum = (sum + small(replays::replay(row, cuts, events))) % 65536;
         i += 1;
     }
-    sum
+    mixed(sum, events)
 }
 
-fn verdict(row: &[u16], answers: &mut [u16], turns: usize) -> usize {
+fn verdict(row: &[u16], k: usize, answers: &mut [u16], turns: usize) -> usize {
     let mut sum: usize = 0;
     let mut i = 0;
     while i < turns {
-        sum = (sum + small(answers::all_answers(row, 2, answers))) % 65536;
+        sum = (sum + small(answers::all_answers(row, k, answers))) % 65536;
         i += 1;
     }
-    sum
+    mixed(sum, answers)
 }
 
 // The number that the second argument says, behind a space.
@@ -50,8 +64,8 @@ fn turns() -> usize {
     words::number(&word[..n], 0).value
 }
 
-// The third letter tells the questions apart: reAd, rePlay, veRdict.
-fn ask(what: u8, file: &[u8], row: &mut [u16]) -> usize {
+// The third letter tells the questions apart: reAd, rePlay, veRdict. A verdict's last letter is k.
+fn ask(what: u8, digit: u8, file: &[u8], row: &mut [u16]) -> usize {
     if what == b'a' {
         return read(file, row, turns());
     }
@@ -64,7 +78,7 @@ fn ask(what: u8, file: &[u8], row: &mut [u16]) -> usize {
         return replay(&row[0..n], &[0, 0], &mut events, turns());
     }
     let mut answers = [0u16; 231];
-    verdict(&row[0..n], &mut answers, turns())
+    verdict(&row[0..n], (digit % 16) as usize, &mut answers, turns())
 }
 
 fn main() {
@@ -73,7 +87,7 @@ fn main() {
     let mut name = [0u8; 8];
     let n = files::read_plan(&mut file);
     os::arg(1, &mut name);
-    let sum = ask(name[2], &file[..n], &mut row);
+    let sum = ask(name[2], name[7], &file[..n], &mut row);
     io::print_decimal(libc::STDOUT_FILENO, sum as u64);
     io::write_all(libc::STDOUT_FILENO, b"\n");
 }

@@ -33,6 +33,9 @@ loop-less c = search needs
 loop-again : tie.Need-loop-again Inv-loop μ-loop
 loop-again c = search needs
 
+mixed-requires : tie.Need-mixed-requires Inv-loop μ-loop
+mixed-requires c κs = search needs
+
 same-length : tie.Need-same-length Inv-loop μ-loop
 same-length c = search needs
 
@@ -52,5 +55,6 @@ replay-spec =
     add-i
     loop-less
     loop-again
+    mixed-requires
     same-length
     returns)

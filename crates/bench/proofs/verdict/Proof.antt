@@ -7,10 +7,10 @@ use Rattle.bench.proofs.verdict.Statement.{statement}
 use Rattle.bench.proofs.verdict.Tie as tie
 
 abbrev Inv-loop : tie.InvT-loop
-Inv-loop row answers₀ turns sum₀ i₀ answers sum i = (i ≤ turns) × (sum < 65536) × (length answers ≡ length answers₀)
+Inv-loop row k answers₀ turns sum₀ i₀ answers sum i = (i ≤ turns) × (sum < 65536) × (length answers ≡ length answers₀)
 
 abbrev μ-loop : tie.MeasureT-loop
-μ-loop row answers₀ turns sum₀ i₀ answers sum i = turns - i
+μ-loop row k answers₀ turns sum₀ i₀ answers sum i = turns - i
 
 loop-holds : tie.Need-loop-holds Inv-loop μ-loop
 loop-holds c = search needs
@@ -33,6 +33,9 @@ loop-less c = search needs
 loop-again : tie.Need-loop-again Inv-loop μ-loop
 loop-again c = search needs
 
+mixed-requires : tie.Need-mixed-requires Inv-loop μ-loop
+mixed-requires c κs = search needs
+
 same-length : tie.Need-same-length Inv-loop μ-loop
 same-length c = search needs
 
@@ -52,5 +55,6 @@ verdict-spec =
     add-i
     loop-less
     loop-again
+    mixed-requires
     same-length
     returns)

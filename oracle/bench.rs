@@ -1,0 +1,130 @@
+//! Plans for benchmarks, by kind and seed: the largest size with second paths that compete, and plans
+//! in the manner of document 000's evaluation (its section 6).
+
+use crate::plan::{Link, Message, Place, Plan};
+use crate::random::{free_slots, largest_plan, limit_plan, Ground, Random};
+
+pub const KINDS: &str = "network, chain, small or wide";
+
+/// The plan of a kind and a seed, if there is such a kind.
+pub fn plan(kind: &str, seed: u64) -> Option<Plan> {
+    let mut r = Random::of_case(seed, 0);
+    match kind {
+        "network" => Some(largest_plan(&mut r)),
+        "chain" => Some(limit_plan(&mut r, false)),
+        "small" => Some(as_evaluated(&mut r, 25, 50, 10)),
+        "wide" => Some(as_evaluated(&mut r, 32, 64, 64)),
+        _ => None,
+    }
+}
+
+const MESSAGES: usize = 32;
+
+/// "We fix the number of vertices, edges, and messages. We generate a random directed graph. Once we
+/// have a graph, we randomly select a source and a target for each message, while guaranteeing that
+/// these are different nodes." There are two links to a vertex, as in the larger of its settings, and
+/// here every vertex can be reached from every other. Where there is no room for a message, other
+/// ends are drawn for it.
+fn as_evaluated(r: &mut Random, vertices: usize, number: usize, timeout: usize) -> Plan {
+    let links = connected(r, vertices, number);
+    let load = vec![0; number];
+    let mut ground = Ground { links, load, held: Vec::new(), timeout };
+    let mut messages = Vec::new();
+    while messages.len() < MESSAGES {
+        let (from, to) = (r.below(vertices), r.below(vertices));
+        if from != to {
+            messages.extend(message(r, &mut ground, from, to));
+        }
+    }
+    Plan { vertices, timeout, links: ground.links, messages }
+}
+
+/// A random directed graph, drawn until every vertex can be reached from every other.
+fn connected(r: &mut Random, vertices: usize, number: usize) -> Vec<Link> {
+    let mut all = Vec::new();
+    for from in 0..vertices {
+        all.extend((0..vertices).filter(|to| *to != from).map(|to| Link { from, to }));
+    }
+    loop {
+        r.shuffle(&mut all);
+        let links = &all[..number];
+        let back: Vec<Link> =
+            links.iter().map(|link| Link { from: link.to, to: link.from }).collect();
+        if reached(links) == vertices && reached(&back) == vertices {
+            return links.to_vec();
+        }
+    }
+}
+
+/// How many vertices can be reached from vertex 0.
+fn reached(links: &[Link]) -> usize {
+    let mut seen = vec![0];
+    let mut at = 0;
+    while at < seen.len() {
+        for link in links {
+            if link.from == seen[at] && !seen.contains(&link.to) {
+                seen.push(link.to);
+            }
+        }
+        at += 1;
+    }
+    seen.len()
+}
+
+/// "The first path is the shortest path between s(m) and t(m). To find the second path, we remove the
+/// edges that the first path traverses. For each vertex v on the first path, we set the second path
+/// from v to be the shortest path from v to t(m) in the new graph, if it exists." "The weight of every
+/// edge on the first and second path is incremented by 1."
+fn message(r: &mut Random, ground: &mut Ground, from: usize, to: usize) -> Option<Message> {
+    let path = lightest_path(ground, from, to, &[]).filter(|path| path.len() <= ground.timeout)?;
+    let slots = free_slots(r, ground, &path)?;
+    let mut places = Vec::new();
+    let mut used = path.clone();
+    for (link, slot) in path.iter().zip(slots) {
+        let second = lightest_path(ground, ground.links[*link].from, to, &path);
+        used.extend(second.iter().flatten());
+        ground.held.push((*link, slot));
+        places.push(Place { link: *link, slot, second });
+    }
+    used.sort();
+    used.dedup();
+    for link in used {
+        ground.load[link] += 1;
+    }
+    Some(Message { places })
+}
+
+/// The path of least weight that avoids some links and, of those, of the fewest links: "The weight of
+/// an edge refers to the number of times it appears in a first or second path." Nothing where it has
+/// more than 16 links. Every way is made shorter until none can be.
+fn lightest_path(ground: &Ground, from: usize, to: usize, avoided: &[usize]) -> Option<Vec<usize>> {
+    let mut best: Vec<Option<(usize, usize)>> = vec![None; 64]; // weight and number of links
+    let mut by = vec![0; 64];
+    best[from] = Some((0, 0));
+    let mut again = true;
+    while again {
+        again = false;
+        for (number, link) in ground.links.iter().enumerate() {
+            if avoided.contains(&number) {
+                continue;
+            }
+            if let Some((weight, count)) = best[link.from] {
+                let way = (weight + ground.load[number], count + 1);
+                if best[link.to].map_or(true, |other| way < other) {
+                    best[link.to] = Some(way);
+                    by[link.to] = number;
+                    again = true;
+                }
+            }
+        }
+    }
+    best[to].filter(|(_, count)| *count <= 16)?;
+    let mut path = Vec::new();
+    let mut here = to;
+    while here != from {
+        path.push(by[here]);
+        here = ground.links[by[here]].from;
+    }
+    path.reverse();
+    Some(path)
+}
