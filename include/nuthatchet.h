@@ -5,7 +5,7 @@
      - what is written (no const) is not also lent to the same call under another name.
    It returns the number of the refusal, 0 where nothing is refused (README.md has the list), writes the refusal's place, 0 where there
    is none, and the result, 0 beside a refusal. A refusal changes no buffer; a success changes only the part that it writes. Nothing is
-   kept between calls, and no memory is asked for; a call takes up to 100 kB of stack.
+   kept between calls, and no memory is asked for; a call takes less than 100 kB of stack.
 
    Rows, cut lists and events are as in README.md. Everything counts from 0. */
 #ifndef NUTHATCHET_H
