@@ -3,3 +3,4 @@ pub mod Parts
 pub mod Rulings
 pub mod Once
 pub mod Numbered
+pub mod Said
