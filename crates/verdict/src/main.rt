@@ -1,7 +1,7 @@
 // The verdict program: reads `plan.bin` and prints, for k rising and under each k for l from 0 to M, `k l resistant` or `k l` and the
-// first failing list; then the slack of each second path; or a refusal alone. What it prints for what it has read is `verdict_text`'s
-// promise, below; that a file has one such text, and that no more of it has to be read, is in proofs/Theorems of the crate `verdict_text`.
-// It composes the lines here, and not in that crate, since it tells on standard error how far it is.
+// first failing list; then the slack of each second path; or a refusal alone. What it prints for what it has read is `whole_text`'s
+// promise; that a file has one such text, and that no more of it has to be read, is in proofs/Theorems of `verdict_text`. The lines are
+// composed here, and not there, since between two k it says on standard error how far it is.
 ghost use Prim.Native.Nat.{_+_, _≤_};
 ghost use lib.ListN.{length};
 ghost use Rattle.scope.specs.Plan.{planOf};
@@ -58,7 +58,7 @@ fn all_lines(row: &[u16], out: &mut [u8]) -> usize
 }
 
 // What is printed for a plan file, into as many bytes as every text has room in: how many there are.
-fn verdict_text(file: &[u8], out: &mut [u8]) -> Answer
+fn whole_text(file: &[u8], out: &mut [u8]) -> Answer
     requires { ⌜ 34700 ≤ length (now out) ⌝ }
     ensures { λ r. ⌜ PrintsOne (VerdictText (now (file .entry))) (now (out .entry)) (now (out .exit)) r ⌝ }
 {
@@ -74,6 +74,6 @@ fn main() {
     let mut file = [0u8; files::PLAN_ROOM];
     let mut out = [0u8; verdict_text::ROOM];
     let n = files::read_plan(&mut file);
-    let said = verdict_text(&file[..n], &mut out);
+    let said = whole_text(&file[..n], &mut out);
     files::print(said, &out);
 }

@@ -2,19 +2,17 @@
 use Prim.Native.Nat.{ℕ, zero, suc, _+_, _-_, _*_, _≤_, _<_, _^_}
 use mathlib.Core.Path.{_≡_, refl, sym, _∙_, ap, subst}
 use mathlib.Core.Bool.{Bool, true, false, cond}
-use mathlib.Core.List.{List, [], _∷_, _++_, append-assoc}
+use mathlib.Core.List.{List, [], _++_, append-assoc}
 use native.Mathlib.Omega.{arith}
-use lib.ListN.{length, length-append, drop}
+use lib.ListN.{length, length-append}
 use lib.Dec.{leb}
 use borrow.Author.Tests.{le-leb}
-use Rattle.scope.specs.declared.Answer.{Answer}
 use Rattle.scope.specs.declared.Answer.the-variants.{Gives}
-use Rattle.scope.specs.Plan.{Plan, planOf}
+use Rattle.scope.specs.Plan.{Plan}
 use Rattle.scope.specs.Questions.{after}
 use Rattle.scope.specs.Lines.{UnderK, VerdictLines, slackLines, highestK}
 use Rattle.text.specs.Text.{Puts}
 use Rattle.text.proofs.Laid.{then, laid-nil, laid-front, length-laid}
-use Rattle.listing.specs.Prints.{Prints}
 use Rattle.verdict_text.specs.Layout.{LinesUnder, Lays, LaidUntil, PrintsOne}
 
 -- what follows the lines under k

@@ -1,21 +1,21 @@
 -- How many bytes the lines have: at most 33 lines of at most 131 bytes under each of at most four k, and at most 512 slack lines of at most
 -- 34. The bounds take each cut and each slack to have as many digits as any number: what is printed has fewer.
 use Prim.Native.Nat.{ℕ, zero, suc, _+_, _-_, _*_, _≤_, _<_, _^_}
-use mathlib.Core.Path.{_≡_, refl, sym, _∙_, ap, ap₂}
+use mathlib.Core.Path.{_≡_, sym, _∙_, ap, ap₂}
 use mathlib.Core.Bool.{Bool, true, false, cond}
-use mathlib.Core.List.{List, [], _∷_, _++_}
+use mathlib.Core.List.{List, [], _∷_}
 use native.Mathlib.Omega.{arith}
 use native.Mathlib.Nat.{min-le-left}
-use lib.ListN.{length, getD, take, drop, length-append, length-take}
+use lib.ListN.{length, getD, drop, length-append, length-take}
 use lib.IntN.{ℤ, pos, negsuc}
-use lib.Dec.{eqb, leb}
+use lib.Dec.{eqb}
 use borrow.Author.Tests.{le-leb, lt-leb}
 use Rattle.scope.specs.declared.Answer.{Answer}
 use Rattle.scope.specs.Plan.{Plan, Place, planOf, pathOf, placeCount, messageCount, linkCount, timeoutOf}
 use Rattle.scope.specs.SecondPath.{messageIndex}
 use Rattle.scope.specs.Cycle.{byNumber}
 use Rattle.scope.specs.Spare.{slackOf}
-use Rattle.scope.specs.Lines.{resistantLine, failingLine, spaced, decimal, signed, slackLine, slackLineOf, messageSlacks, slackLines, highestK}
+use Rattle.scope.specs.Lines.{resistantLine, failingLine, spaced, signed, slackLine, slackLineOf, messageSlacks, slackLines, highestK}
 use Rattle.view.specs.Lies.{PlanLies}
 use Rattle.view.proofs.Walked.{walked}
 use Rattle.view.proofs.Parts.{message-count, link-count, timeout-is, path-at, places-length}

@@ -2,12 +2,12 @@
 -- a file decide it, and a call that prints it allows one outcome.
 use Prim.Native.Nat.{ℕ, zero, suc, _+_, _*_, _≤_, _<_}
 use mathlib.Core.Path.{_≡_, refl, sym, _∙_, ap, ap₂, subst}
-use mathlib.Core.Bool.{Bool, true, false, cond}
-use mathlib.Core.List.{List, [], _∷_, _++_}
+use mathlib.Core.Bool.{Bool, true, false}
+use mathlib.Core.List.{List, [], _++_}
 use native.Mathlib.Omega.{arith}
 use lib.ListN.{length, take, length-append}
 use lib.Seq.{take-all}
-use lib.Dec.{ltb, leb}
+use lib.Dec.{ltb}
 use borrow.Author.Tests.{ltb-true, ltb-false}
 use Rattle.scope.specs.declared.Answer.{Answer}
 use Rattle.scope.specs.declared.Answer.the-variants.{Gives}
@@ -19,14 +19,15 @@ use Rattle.scope.specs.Lines.{VerdictLine, resistant, failing, failingLine, Und
 use Rattle.scope.proofs.Order.{first-once, resistant-or-failing}
 use Rattle.flow.specs.Longest.{longestFile}
 use Rattle.flow.proofs.Theorems.{file-most, front-decides}
+use Rattle.text.specs.Text.{laid}
+use Rattle.text.proofs.Decimal.{decimal-all}
 use Rattle.listing.specs.Prints.{Prints}
 use Rattle.listing.proofs.Printing.{prints-only, prints-as}
 use Rattle.plan.specs.Answers.{GoodRow}
 use Rattle.plan.proofs.Ways.{good-row}
 use Rattle.plan.proofs.Reading.{read-judged}
-use Rattle.verdict_text.specs.Layout.{Lays, PrintsOne}
+use Rattle.verdict_text.specs.Layout.{LinesUnder, Lays, PrintsOne}
 use Rattle.verdict_text.proofs.Composing.{highest-few, lays-prints}
-use Rattle.text.proofs.Decimal.{decimal-all}
 use Rattle.verdict_text.proofs.Verdicts.{few-messages}
 use Rattle.verdict_text.proofs.Room.{resistant-size, failing-size, slacks-size}
 
@@ -49,6 +50,16 @@ unfolding VerdictLines
 lines-once plan k zero a b u v = u ∙ sym v
 lines-once plan k (suc n) a b u v =
     under-once plan k (VerdictLines plan (k + 1) n) (lines-once plan (k + 1) n) 0 (length (plan .messages) + 1) a b u v
+
+-- so a call of `lines_under` allows one outcome
+pub one-lines : (plan : Plan) (k most at next next′ : ℕ) (entry exit exit′ : List ℕ) → Lays (LinesUnder plan k) most entry exit at next →
+    Lays (LinesUnder plan k) most entry exit′ at next′ → (next ≡ next′) × (exit ≡ exit′)
+one-lines plan k most at next next′ entry exit exit′ p q =
+    let same : p .text ≡ q .text =
+    under-once plan k (λ (rest : List ℕ). rest ≡ []) (λ a b e f. e ∙ sym f) 0 (length (plan .messages) + 1) (p .text) (q .text) (p .kind) (q .kind) in (
+      p .puts .ends ∙ ap (λ (t : List ℕ). at + length t) same ∙ sym (q .puts .ends),
+      p .puts .buffer ∙ ap (laid entry at) same ∙ sym (q .puts .buffer),
+    )
 
 -- the text by what reading the file gives
 pub text-refused : (file text : List ℕ) (k p : ℕ) → readFile file longestRow ≡ refused k p → text ≡ refusedLine k p → VerdictText file text

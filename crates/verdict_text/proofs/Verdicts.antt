@@ -1,20 +1,19 @@
 -- Laws of the lines under one k: a line from its seven numbers, one line after another, and that the lines of all answers are those of
 -- document 01.
-use Prim.Native.Nat.{ℕ, zero, suc, _+_, _-_, _*_, _/_, _≤_, _<_, _^_}
+use Prim.Native.Nat.{ℕ, zero, suc, _+_, _-_, _*_, _/_, _≤_, _<_}
 use mathlib.Core.Path.{_≡_, refl, sym, _∙_, ap, subst}
-use mathlib.Core.Logic.{_⊎_, inl, inr}
+use mathlib.Core.Logic.{inl, inr}
 use mathlib.Core.Bool.{Bool, true, false, true≢false}
-use mathlib.Core.List.{List, [], _∷_, _++_, append-assoc}
+use mathlib.Core.List.{List, [], _++_}
 use native.Mathlib.Omega.{arith}
 use lib.ListN.{length, getD, take, drop, length-drop, replicate}
 use lib.Seq.{length-take-le, take-at}
-use lib.Dec.{ltb, leb, eqb}
+use lib.Dec.{eqb}
 use borrow.Author.Tests.{eq-eqb, ne-eqb, eqb-true, eqb-false, not-true, le-ltb, le-leb}
 use Rattle.scope.specs.declared.Answer.{Answer}
 use Rattle.scope.specs.Outcome.{Outcome, gives}
-use Rattle.scope.specs.Plan.{Plan, planOf, messageCount}
+use Rattle.scope.specs.Plan.{Plan, planOf}
 use Rattle.scope.specs.Cuts.{pairs, badPair, isCutList}
-use Rattle.scope.specs.Verdict.{FirstFailing}
 use Rattle.scope.specs.Questions.{judge}
 use Rattle.scope.specs.Lines.{resistantLine, failingLine, VerdictLine, resistant, failing, UnderK}
 use Rattle.view.specs.Lies.{PlanLies}
@@ -22,9 +21,9 @@ use Rattle.view.proofs.Walked.{walked}
 use Rattle.view.proofs.Parts.{message-count}
 use Rattle.plan.specs.Answers.{GoodRow}
 use Rattle.hunt.proofs.Some.{none-below}
-use Rattle.answers.specs.Answers.{Says, SaysResistant, SaysFailing, seven, needed, mayAnswer, AllSaid, After, AnswersAll, failing as sevenOf}
+use Rattle.answers.specs.Answers.{Says, SaysResistant, SaysFailing, seven, needed, mayAnswer, AllSaid, After, AnswersAll}
 use Rattle.text.specs.Text.{Told, Puts}
-use Rattle.verdict_text.specs.Layout.{listOf, lineOf, linesOf, Sevens, LinesUnder}
+use Rattle.verdict_text.specs.Layout.{lineOf, linesOf, Sevens, LinesUnder}
 
 -- a line by the first of its numbers, which was read as n
 module _ (k l n : ℕ) (numbers : List ℕ) (is : n ≡ getD numbers 0 0) where

@@ -1,4 +1,4 @@
--- `verdict::verdict_text` meets its contract: by what reading the file gives.
+-- `verdict::whole_text` meets its contract: by what reading the file gives.
 use mathlib.Core.Path.{sym}
 use borrow.Author.Needs.{needs}
 use lib.Seq.{length-take-le}
@@ -6,8 +6,8 @@ use Rattle.listing.proofs.Lines.{refused-parts}
 use Rattle.listing.proofs.Printing.{prints-as}
 use Rattle.plan.proofs.Reading.{read-given, read-refused, read-row, read-fit}
 use Rattle.verdict_text.proofs.Theorems.{prints-refused, prints-given, read-good}
-use Rattle.verdict.proofs.verdict_text.Statement.{statement}
-use Rattle.verdict.proofs.verdict_text.Tie as tie
+use Rattle.verdict.proofs.whole_text.Statement.{statement}
+use Rattle.verdict.proofs.whole_text.Tie as tie
 
 slice-aggregate-read-file : tie.Need-slice-aggregate-read-file
 slice-aggregate-read-file c = search needs
@@ -51,8 +51,8 @@ same-length-2 c = search needs
 returns-2 : tie.Need-returns-2
 returns-2 c = prints-refused _ _ _ _ _ _ (read-refused _ _ _ _ (c .before .before .before .before .before .before .before .before .before .before .read-file .ensures) _ _ (search needs) (c .before .before .before .before .before .before .before .read2 .given .1)) (prints-as (refused-parts _ _ _ _) (c .before .before .listing .ensures))
 
-pub verdict-text-spec : {M : Type 1} → statement M
-verdict-text-spec =
+pub whole-text-spec : {M : Type 1} → statement M
+whole-text-spec =
     tie.close
     (tie.spec
     slice-aggregate-read-file
