@@ -8,10 +8,10 @@ use native.Mathlib.Omega.{arith}
 use lib.ListN.{length, take, length-append}
 use lib.Seq.{take-all}
 use lib.Dec.{ltb}
-use borrow.Author.Tests.{ltb-true, ltb-false}
+use borrow.Author.Tests.{ltb-true, ltb-false, le-leb}
 use Rattle.scope.specs.declared.Answer.{Answer}
 use Rattle.scope.specs.declared.Answer.the-variants.{Gives}
-use Rattle.scope.specs.Outcome.{Outcome, gives, refused}
+use Rattle.scope.specs.Outcome.{Outcome, gives, refused, outcomeOf}
 use Rattle.scope.specs.File.{walkFile, rowOf}
 use Rattle.scope.specs.Plan.{Plan, planOf}
 use Rattle.scope.specs.Questions.{readFile}
@@ -151,6 +151,13 @@ text-room file text v = by (readFile file longestRow) refl
         let high = highest-few plan in
         let r = lines-room plan 0 (1 + highestK plan) text (omega arith) (few-messages (rowOf file) g) (slacks-size (rowOf file) g) (back-given file text n e v) in
         omega arith
+
+-- so a call with so much room is never refused for room
+pub never-short : (file entry exit : List ℕ) (r : Answer) → 34700 ≤ length entry → (p : PrintsOne (VerdictText file) entry exit r) →
+    outcomeOf r ≡ gives (length (p .text))
+never-short file entry exit r room p =
+    let fits : length (p .text) ≤ length entry = omega (arith, text-room file (p .text) (p .kind)) in
+    p .prints .answer ∙ rw (le-leb (length (p .text)) (length entry) fits)
 
 -- a file that is longer than the longest has a form that is refused, and so have its first bytes
 form-refused : (file : List ℕ) (k p : ℕ) → walkFile file ≡ refused k p → readFile file longestRow ≡ refused k p

@@ -50,7 +50,7 @@ pub record Lays (Kind : List ℕ → Type 0) (most : ℕ) (before after : List �
 abbrev pub Until : Plan → ℕ → ℕ → List ℕ → Type 0
 Until plan n k text = (more : List ℕ) → VerdictLines plan k (n - k) more → VerdictLines plan 0 n (text ++ more)
 
--- the lines under each number below k are laid
+-- the lines under each number below k are laid, at most 4,323 bytes for each
 abbrev pub LaidUntil : Plan → ℕ → ℕ → List ℕ → List ℕ → ℕ → Type 0
 LaidUntil plan n k before after next = Lays (Until plan n k) (4323 * k) before after 0 next
 

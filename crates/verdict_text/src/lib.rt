@@ -18,7 +18,7 @@ use verdict_lines::slack_line;
 // Seven numbers for each l from 0 to 32.
 const ANSWERS: usize = 231;
 
-// Bytes enough for every text (proofs/Room).
+// Bytes enough for every text (proofs/Theorems, `text-room`).
 pub const ROOM: usize = 34700;
 
 // The line of a verdict from its seven numbers.
@@ -50,7 +50,7 @@ fn lines(out: &mut [u8], at: usize, k: usize, all: &[u16], count: usize) -> usiz
     next
 }
 
-// The lines under k for every l.
+// The lines under k for every l. Nothing is refused of a good row and such a k, so the answer is not looked at.
 pub fn lines_under(row: &[u16], k: usize, out: &mut [u8], at: usize) -> usize
     requires { ⌜ GoodRow (now row) × (k ≤ 3) × (at < 2 ^ 32) ⌝ }
     ensures { λ r. ⌜ Lays (LinesUnder (planOf (now (row .entry))) k) 4323 (now (out .entry)) (now (out .exit)) at r ⌝ }
