@@ -31,18 +31,6 @@ lower-resistant : (plan : Plan) (k l m : ℕ) → Resistant plan k l → m ≤ l
 unfolding Resistant
 lower-resistant plan k l m r h cuts good few = let enough = r cuts good few in omega arith
 
--- for l 0 every list leaves enough
-pub none-for-nought : (row : List ℕ) (l k : ℕ) (h : Hunted) → l ≡ 0 → h .found ≡ false → h .pairs ≡ 0 → length (h .numbers) ≡ 6 → Hunts row l k h
-none-for-nought row l k h e t q long =
-    record {
-      long = long;
-      few = omega arith;
-      none = λ z i le x of good. omega arith;
-      some = λ z. absurd (true≢false (sym z ∙ t));
-      left = λ z. absurd (true≢false (sym z ∙ t));
-      fewer = λ z. absurd (true≢false (sym z ∙ t));
-    }
-
 pub ask-on : (row table weights most : List ℕ) (ps : List Position) (a : Asked) (l low k need : ℕ) → MayAskOn row table weights most ps a l low k →
     need ≡ a .messages + 1 - l →
     MayHunt row table weights most (record { timeout = a .timeout; links = a .links; messages = a .messages; least = l; need = need }) ps low k

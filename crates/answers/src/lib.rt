@@ -48,7 +48,7 @@ fn put_answers(out: &mut [u16], from: usize, to: usize, head: u16, numbers: [u16
     }
 }
 
-// The first failing list for l, where lists of fewer than `low` pairs are known to leave l arrivals. For l 0 there is nothing to search.
+// The first failing list for l, where lists of fewer than `low` pairs are known to leave l arrivals.
 fn ask(
     row: &[u16],
     table: &[u8],
@@ -63,14 +63,6 @@ fn ask(
     requires { ⌜ MayAskOn (now row) (now table) (now weights) (now most) ps a l low k ⌝ }
     ensures { λ r. ⌜ Hunts (now (row .entry)) l k r ⌝ }
 {
-    if l == 0 {
-        return Hunted {
-            found: false,
-            pairs: 0,
-            arrivals: 0,
-            numbers: [0u16; 6],
-        };
-    }
     let b = Asked {
         timeout: a.timeout,
         links: a.links,

@@ -47,6 +47,18 @@ weighed-none : (weights : List ℕ) → Weighed weights noPair
 unfolding sum
 weighed-none weights = record { is = refl; light = omega arith }
 
+-- for l 0 every list leaves enough
+pub none-for-nought : (row : List ℕ) (l k : ℕ) (h : Hunted) → l ≡ 0 → h .found ≡ false → h .pairs ≡ 0 → length (h .numbers) ≡ 6 → Hunts row l k h
+none-for-nought row l k h e t q long =
+    record {
+      long = long;
+      few = omega arith;
+      none = λ z i le x of good. omega arith;
+      some = λ z. absurd (true≢false (sym z ∙ t));
+      left = λ z. absurd (true≢false (sym z ∙ t));
+      fewer = λ z. absurd (true≢false (sym z ∙ t));
+    }
+
 -- lists of fewer than n pairs leave enough
 pub record Hunting (row : List ℕ) (a : Asked) (low k n : ℕ) : Type 0 where
   pub within : n ≤ k + 1

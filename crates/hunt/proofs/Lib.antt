@@ -1,4 +1,3 @@
-pub mod Some
 pub mod Pairs
 pub mod Prefix
 pub mod Before
@@ -9,3 +8,4 @@ pub mod Playing
 pub mod Picking
 pub mod Levels
 pub mod Hunting
+pub mod Risk

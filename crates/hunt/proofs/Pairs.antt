@@ -4,8 +4,7 @@ use native.Mathlib.Omega.{arith}
 use mathlib.Core.Path.{_≡_, refl, sym, _∙_, ap, ap₂}
 use mathlib.Core.Bool.{Bool, true, false, not, _&&_, _||_, true≢false}
 use mathlib.Core.List.{List, [], _∷_, _++_, append-assoc}
-use lib.ListN.{length, getD, length-append, List·getD-append}
-use lib.Seq.{getD-append-add}
+use lib.ListN.{length, length-append}
 use lib.Dec.{ltb, eqb}
 use borrow.Author.Tests.{ltb-true, ltb-false, lt-ltb, le-ltb, eq-eqb, ne-eqb, eqb-true, eqb-false, not-true, not-false}
 use Rattle.scope.specs.Lowest.{some}
@@ -13,28 +12,8 @@ use Rattle.scope.specs.Plan.{Plan}
 use Rattle.scope.specs.Cuts.{pairs, cutSlot, cutLink, pairBefore, falls, badPair, isCutList}
 use Rattle.scope.proofs.Cuts.{not-bad, slot-below, link-below, rising, once, even}
 use Rattle.hunt.specs.Search.{code, codeAt, Chosen}
-use Rattle.hunt.proofs.Some.{none, none-below, some-same}
-
--- the pairs of a list that is put together
-module _ (pre x : List ℕ) (d : ℕ) (long : length pre ≡ 2 * d) where
-  pub slot-left : (j : ℕ) → j < d → cutSlot (pre ++ x) j ≡ cutSlot pre j
-  slot-left j l = List·getD-append pre x 0 (2 * j) (omega arith)
-
-  pub link-left : (j : ℕ) → j < d → cutLink (pre ++ x) j ≡ cutLink pre j
-  link-left j l = List·getD-append pre x 0 (2 * j + 1) (omega arith)
-
-  pub slot-right : (j : ℕ) → cutSlot (pre ++ x) (d + j) ≡ cutSlot x j
-  slot-right j =
-      let e : 2 * (d + j) ≡ length pre + 2 * j = omega arith in
-      ap (λ (i : ℕ). getD (pre ++ x) i 0) e ∙ getD-append-add pre x (2 * j) 0
-
-  pub link-right : (j : ℕ) → cutLink (pre ++ x) (d + j) ≡ cutLink x j
-  link-right j =
-      let e : 2 * (d + j) + 1 ≡ length pre + (2 * j + 1) = omega arith in
-      ap (λ (i : ℕ). getD (pre ++ x) i 0) e ∙ getD-append-add pre x (2 * j + 1) 0
-
-  pub pairs-both : (n : ℕ) → length x ≡ 2 * n → pairs (pre ++ x) ≡ d + n
-  pairs-both n h = omega (arith, length-append pre x)
+use Rattle.touch.proofs.Some.{none, none-below, some-same}
+use Rattle.touch.proofs.Parts.{slot-left, link-left, slot-right, link-right}
 
 -- pairs rise as their codes do
 pub code-before : (a b c d : ℕ) → b < 64 → d < 64 → pairBefore a b c d ≡ true → code a b < code c d

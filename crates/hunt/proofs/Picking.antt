@@ -22,7 +22,7 @@ use Rattle.hunt.specs.declared.Asked.{Asked}
 use Rattle.hunt.specs.declared.Picked.{Picked}
 use Rattle.hunt.specs.Search.{code, Chosen}
 use Rattle.hunt.specs.Hunt.{cutsOf, withPair, Playable, Holding, Weighed, StandAt}
-use Rattle.hunt.proofs.Some.{some-one}
+use Rattle.touch.proofs.Some.{some-one}
 use Rattle.hunt.proofs.Prefix.{cut-more, same-before}
 use Rattle.hunt.proofs.Weigh.{harm-next}
 use Rattle.hunt.proofs.Steps.{picked}

@@ -15,7 +15,8 @@ use Rattle.scope.specs.Verdict.{earlier}
 use Rattle.scope.proofs.Order.{earlier-self}
 use Rattle.touch.specs.Bound.{harm, weightIn, Bound}
 use Rattle.hunt.specs.Search.{code, codeAt, Chosen, AllLeave, FirstOf, Leave, FirstFrom}
-use Rattle.hunt.proofs.Pairs.{slot-right, link-right, Next, next-pair, one-more}
+use Rattle.touch.proofs.Parts.{slot-right, link-right}
+use Rattle.hunt.proofs.Pairs.{Next, next-pair, one-more}
 use Rattle.hunt.proofs.Before.{earlier-under, not-earlier}
 use Rattle.hunt.proofs.Weigh.{all-later, then-later}
 

@@ -12,15 +12,10 @@ use Rattle.scope.specs.Cycle.{arrivals}
 use Rattle.scope.proofs.Cuts.{slot-below, link-below}
 use Rattle.touch.specs.Sums.{sum}
 use Rattle.touch.specs.Bound.{harm, weightIn, Bound}
-use Rattle.touch.proofs.Sums.{sum-same}
-use Rattle.hunt.proofs.Pairs.{slot-left, link-left, slot-right, link-right, pairs-both, slots-from}
+use Rattle.touch.proofs.Parts.{slot-right, link-right, pairs-both, harm-front}
+use Rattle.hunt.proofs.Pairs.{slots-from}
 
 module _ (weight : ℕ → ℕ → ℕ) (pre x : List ℕ) (d : ℕ) (long : length pre ≡ 2 * d) where
-  pub harm-front : harm weight (pre ++ x) d ≡ harm weight pre d
-  harm-front =
-      sum-same (λ j. weight (cutSlot (pre ++ x) j) (cutLink (pre ++ x) j)) (λ j. weight (cutSlot pre j) (cutLink pre j)) d
-      (λ j h. ap₂ weight (slot-left pre x d long j h) (link-left pre x d long j h))
-
   pub harm-next : harm weight (pre ++ x) (d + 1) ≡ harm weight pre d + weight (cutSlot x 0) (cutLink x 0)
   unfolding sum
   harm-next =
@@ -28,7 +23,7 @@ module _ (weight : ℕ → ℕ → ℕ) (pre x : List ℕ) (d : ℕ) (long : len
       let one : d + 1 ≡ suc d = omega arith in
       let last : weight (cutSlot (pre ++ x) d) (cutLink (pre ++ x) d) ≡ weight (cutSlot x 0) (cutLink x 0) =
       ap₂ weight (rw z at (slot-right pre x d long 0)) (rw z at (link-right pre x d long 0)) in
-      ap (harm weight (pre ++ x)) one ∙ ap₂ _+_ harm-front last
+      ap (harm weight (pre ++ x)) one ∙ ap₂ _+_ (harm-front weight pre x d long) last
 
 module _ (plan : Plan) (l need : ℕ) (weights most : List ℕ) (bound : Bound plan l need weights most) (links : length (plan .links) ≤ 64) (time : plan .timeout ≤ 64) where
   -- pairs from index i on, none of which is in a slot before s

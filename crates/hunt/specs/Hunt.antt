@@ -14,6 +14,7 @@ use Rattle.step.specs.declared.Position.{Position}
 use Rattle.cycle.specs.Stand.{Become}
 use Rattle.cycle.specs.Slot.{ownerOf}
 use Rattle.touch.specs.Bound.{harm, weightIn, Bound}
+use Rattle.touch.specs.Harmed.{BoundFrom}
 use Rattle.hunt.specs.declared.Asked.{Asked}
 use Rattle.hunt.specs.declared.Picked.{Picked}
 use Rattle.hunt.specs.declared.Found.{Found}
@@ -58,6 +59,8 @@ pub record Ready (row table weights most : List ℕ) (a : Asked) : Type 0 where
   pub heavy : length weights ≡ 4096
   pub tops : length most ≡ 64
   pub bound : Bound (planOf row) (a .least) (a .need) weights most
+  pub entries : length table ≡ 4096
+  pub onward : BoundFrom (planOf row) (a .least) (a .need) most
 
 -- the pairs picked are a cut list, which its numbers and `from` tell
 pub record Holding (row : List ℕ) (a : Asked) (p : Picked) : Type 0 where

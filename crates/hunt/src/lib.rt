@@ -9,6 +9,7 @@ ghost use mathlib.Core.Bool.{false};
 ghost use lib.ListN.{length};
 ghost use Rattle.scope.specs.Lowest.{seek};
 ghost use Rattle.hunt.specs.Hunt.{cutsOf, withPair, noPair, passes, StandAt, MaySettle, MayAdvance, MaySeek, MaySeekIn, Sought, SoughtIn, MayHunt, Hunts};
+ghost use Rattle.hunt.specs.Risk.{riskIf, atRisk, MayGiveUp, GivesUp};
 
 // What is asked of a plan: its timeout, links and messages, the least number of arrivals, and what a list must weigh to leave fewer.
 pub struct Asked {
@@ -133,6 +134,43 @@ fn heaviest(weight: usize, n: usize, top: usize) -> usize
     weight + n * top
 }
 
+// One where a message is marked and not at its target, else 0.
+fn risk_one(p: Position, mark: u8) -> usize
+    ensures { λ r. ⌜ r ≡ riskIf mark p ⌝ }
+{
+    if p.left == 0 {
+        return 0;
+    }
+    if mark == 0 { 0 } else { 1 }
+}
+
+// How many of the first n messages are marked and not at their targets.
+fn at_risk(ps: [Position; 32], n: usize, marks: &[u8]) -> usize
+    requires { ⌜ (n ≤ 32) × (length (now marks) ≡ 256) ⌝ }
+    ensures { λ r. ⌜ (r ≡ atRisk (now (marks .entry)) ps n) × (r ≤ n) ⌝ }
+{
+    let mut count = 0;
+    let mut m = 0;
+    while m < n {
+        let p = ps[m];
+        count += risk_one(p, marks[m + 1]);
+        m += 1;
+    }
+    count
+}
+
+// Too few messages can be lost: those that the pairs picked touch and that are not at their targets, and what n pairs more weigh.
+fn hopeless(table: &[u8], most: &[u8], a: Asked, ps: [Position; 32], p: Picked, n: usize) -> bool
+    requires { ⌜ MayGiveUp (now table) a p n ⌝ }
+    ensures { λ r. ⌜ GivesUp (now (table .entry)) (now (most .entry)) a ps p n r ⌝ }
+{
+    let numbers = p.numbers;
+    let mut marks = [0u8; 256];
+    touch::mark_all(table, &numbers[..2 * p.count], &mut marks);
+    let top = touch::at(most, p.slot) as usize;
+    heaviest(at_risk(ps, a.messages, &marks), n, top) < a.need
+}
+
 // The list picked, played from its last pair on.
 fn settle(row: &[u16], table: &[u8], a: Asked, ps: [Position; 32], p: Picked) -> Found
     requires { ⌜ MaySettle (now row) (now table) a ps p ⌝ }
@@ -216,6 +254,9 @@ fn level(
     requires { ⌜ MaySeek (now row) (now table) (now weights) (now most) a ps p n ⌝ }
     ensures { λ r. ⌜ Sought (now (row .entry)) (a .least) p n r ⌝ }
 {
+    if hopeless(table, most, a, ps, p, n) {
+        return nothing();
+    }
     if n == 0 {
         return settle(row, table, a, ps, p);
     }
@@ -253,6 +294,14 @@ pub fn first_list(
     requires { ⌜ MayHunt (now row) (now table) (now weights) (now most) a ps low k ⌝ }
     ensures { λ r. ⌜ Hunts (now (row .entry)) (a .least) k r ⌝ }
 {
+    if a.least == 0 {
+        return Hunted {
+            found: false,
+            pairs: 0,
+            arrivals: 0,
+            numbers: [0u16; 6],
+        };
+    }
     let p = no_pair();
     let mut n = low;
     while n <= k {

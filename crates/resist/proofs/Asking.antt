@@ -13,7 +13,7 @@ use Rattle.view.proofs.Parts.{message-count, link-count, timeout-is}
 use Rattle.view.proofs.Walked.{walked}
 use Rattle.table.specs.Table.{Table}
 use Rattle.touch.specs.Weights.{Weighs, Tops}
-use Rattle.touch.proofs.Bounds.{bound}
+use Rattle.touch.proofs.Bounds.{bound, bound-from}
 use Rattle.flow.proofs.Theorems.{row-most}
 use Rattle.plan.specs.Answers.{GoodRow}
 use Rattle.plan.proofs.Ways.{good-row}
@@ -63,6 +63,10 @@ module _ (row : List ℕ) (j : Judged row) where
                 tops = m .long;
                 bound =
                     bound (planOf row) l need table weights most (good .keeps) (omega (arith, timeout-is row, lies .timeout))
+                    (omega (arith, link-count row, lies .links)) tab w m (omega (arith, message-count row));
+                entries = tab .long;
+                onward =
+                    bound-from (planOf row) l need table weights most (good .keeps) (omega (arith, timeout-is row, lies .timeout))
                     (omega (arith, link-count row, lies .links)) tab w m (omega (arith, message-count row));
               };
           stand = begins n ps hn b;

@@ -1,4 +1,8 @@
 pub mod Sums
+pub mod Some
+pub mod Parts
 pub mod Touch
+pub mod Harmed
 pub mod Weights
 pub mod Bounds
+pub mod Marking

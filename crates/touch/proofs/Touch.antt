@@ -26,11 +26,8 @@ use Rattle.laws.proofs.Replay.{lengths-kept}
 use Rattle.touch.specs.Sums.{sum, one}
 use Rattle.touch.specs.Bound.{harm}
 use Rattle.touch.specs.Touch.{touchedIn, touches, LosesNoMore}
+use Rattle.touch.specs.Harmed.{hers}
 use Rattle.touch.proofs.Sums.{sum-le, sum-same, sum-term, sum-first, sum-ones, sum-plus, sum-swap, one-of-them}
-
--- in how many slots from slot s on the table gives link e to message m
-abbrev hers : (ℕ → ℕ → ℕ) → ℕ → ℕ → ℕ → ℕ
-hers owner m s e = sum (λ i. one (eqb (owner (s + i) e) (m + 1))) (64 - s)
 
 -- what all messages have of a link is what the link has
 all-hers : (owner : ℕ → ℕ → ℕ) (n s e : ℕ) → sum (λ m. hers owner m s e) n ≤ touches owner s e
@@ -40,7 +37,7 @@ all-hers owner n s e =
     (λ i l. one-of-them (owner (s + i) e) n) in
     omega (arith, swap, less)
 
-all-harmed : (owner : ℕ → ℕ → ℕ) (n : ℕ) (cuts : List ℕ) (k : ℕ) → sum (λ m. harm (hers owner m) cuts k) n ≤ harm (touches owner) cuts k
+pub all-harmed : (owner : ℕ → ℕ → ℕ) (n : ℕ) (cuts : List ℕ) (k : ℕ) → sum (λ m. harm (hers owner m) cuts k) n ≤ harm (touches owner) cuts k
 all-harmed owner n cuts k =
     let swap = sum-swap (λ m j. hers owner m (cutSlot cuts j) (cutLink cuts j)) n k in
     let less = sum-le (λ j. sum (λ m. hers owner m (cutSlot cuts j) (cutLink cuts j)) n) (λ j. touches owner (cutSlot cuts j) (cutLink cuts j)) k
@@ -56,7 +53,7 @@ counts owner m s i e a b h =
     omega (arith, term, ap one (eq-eqb (owner (s + (i - s)) e) (m + 1) here))
 
 -- no pair that counts an entry of message m: its first path is not cut in time
-unharmed : (owner : ℕ → ℕ → ℕ) (t m least : ℕ) (cuts : List ℕ) (path : List Place) → t ≤ 64 → slotsRise t least path ≡ true → TableGives owner m path →
+pub unharmed : (owner : ℕ → ℕ → ℕ) (t m least : ℕ) (cuts : List ℕ) (path : List Place) → t ≤ 64 → slotsRise t least path ≡ true → TableGives owner m path →
     harm (hers owner m) cuts (pairs cuts) ≡ 0 → WholeInTime (isCut cuts) path
 unharmed owner t m least cuts [] small r own none = tt
 unharmed owner t m least cuts (p ∷ ps) small r own none = (
@@ -75,7 +72,7 @@ unharmed owner t m least cuts (p ∷ ps) small r own none = (
         absurd (omega arith)
 
 -- how many are at their targets, as a sum
-arrived-sum : (qs : List Position) → arrived qs ≡ sum (λ m. one (atTarget (positionOf m qs))) (length qs)
+pub arrived-sum : (qs : List Position) → arrived qs ≡ sum (λ m. one (atTarget (positionOf m qs))) (length qs)
 unfolding arrived sum
 arrived-sum [] = refl
 arrived-sum (q ∷ qs) = omega (arith, arrived-sum qs, sum-first (λ m. one (atTarget (positionOf m (q ∷ qs)))) (length qs))

@@ -5,9 +5,10 @@ ghost use mathlib.Core.Path.{_≡_};
 ghost use Prim.Native.Nat.{_+_, _-_, _≤_};
 ghost use lib.ListN.{length, getD};
 ghost use Rattle.touch.specs.Weights.{Weighs, Tops};
+ghost use Rattle.touch.specs.Marks.{MayMark, Marked, MayMarkAll, Marks};
 
 // The number at an index, 0 past the end.
-fn at(weights: &[u8], k: usize) -> u8
+pub fn at(weights: &[u8], k: usize) -> u8
     ensures { λ r. ⌜ r ≡ getD (now (weights .entry)) k 0 ⌝ }
 {
     if k < weights.len() { weights[k] } else { 0 }
@@ -53,4 +54,30 @@ pub fn need(messages: usize, least: usize) -> usize
     ensures { λ r. ⌜ r ≡ messages + 1 - least ⌝ }
 {
     messages + 1 - least
+}
+
+// One mark more for each entry that stands on link e in slot s or later.
+fn mark(table: &[u8], s: usize, e: usize, marks: &mut [u8])
+    requires { ⌜ MayMark (now table) s e (now marks) ⌝ }
+    ensures { λ _. ⌜ Marked (now (table .entry)) s e (now (marks .entry)) (now (marks .exit)) ⌝ }
+{
+    let mut i = s;
+    while i < 64 {
+        let w = table[i * 64 + e] as usize;
+        marks[w] = marks[w] + 1;
+        i += 1;
+    }
+}
+
+// The marks of all pairs of a list, on marks that are 0.
+pub fn mark_all(table: &[u8], cuts: &[u16], marks: &mut [u8])
+    requires { ⌜ MayMarkAll (now table) (now cuts) (now marks) ⌝ }
+    ensures { λ _. ⌜ Marks (now (table .entry)) (now (cuts .entry)) (now (marks .exit)) ⌝ }
+{
+    let n = cuts.len() / 2;
+    let mut j = 0;
+    while j < n {
+        mark(table, cuts[2 * j] as usize, cuts[2 * j + 1] as usize, marks);
+        j += 1;
+    }
 }

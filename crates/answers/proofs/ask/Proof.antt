@@ -1,6 +1,5 @@
 -- `answers::ask` meets its contract.
-use mathlib.Core.Path.{refl}
-use Rattle.answers.proofs.Descending.{ask-on, none-for-nought}
+use Rattle.answers.proofs.Descending.{ask-on}
 use borrow.Author.Needs.{needs}
 use Rattle.answers.proofs.ask.Statement.{statement}
 use Rattle.answers.proofs.ask.Tie as tie
@@ -9,21 +8,17 @@ use Rattle.answers.proofs.ask.Lts as lts
 use Rattle.hunt.proofs.first_list.Reads as first-list-reads
 use Rattle.touch.proofs.need.Reads as need-reads
 
--- src/lib.rt:67:9
-returns : tie.Need-returns
-returns c = none-for-nought _ _ _ _ (c .if1 .taken) refl refl refl
-
 -- src/lib.rt:79:15
 need-requires : tie.Need-need-requires
 need-requires c κs = search needs
 
 -- src/lib.rt:81:5
 first-list-requires : tie.Need-first-list-requires
-first-list-requires c κs = ask-on _ _ _ _ _ _ _ _ _ _ (c .before .before .before .before .before .before .pre) (c .need .ensures)
+first-list-requires c κs = ask-on _ _ _ _ _ _ _ _ _ _ (c .before .before .before .before .before .pre) (c .need .ensures)
 
 -- src/lib.rt:52:1
-returns-2 : tie.Need-returns-2
-returns-2 c = search needs
+returns : tie.Need-returns
+returns c = search needs
 
 pub ask-spec : {M : Type 1} → statement M
-ask-spec = tie.close (tie.spec returns need-requires first-list-requires returns-2)
+ask-spec = tie.close (tie.spec need-requires first-list-requires returns)

@@ -4,6 +4,7 @@ use Prim.Native.Nat.{_+_, _-_, _*_}
 use mathlib.Core.Path.{refl, sym}
 use native.Mathlib.Omega.{arith}
 use borrow.Author.Needs.{needs}
+use Rattle.hunt.proofs.Risk.{may-give-up, gives-up}
 use Rattle.hunt.proofs.Levels.{goes-up, Looking, Climbing, may-go-on, looks-first, looks-some, looks-on, look-done, climbs-first, may-look, may-advance, climbs-light, climbs-over, climbs-some, climbs-on}
 use Prim.Native.Nat.{ℕ, _<_}
 use borrow.Fn.Kinds.{In}
@@ -16,6 +17,7 @@ use Rattle.hunt.proofs.level.Kinds as level-kinds
 use Rattle.hunt.proofs.+in_slot+level.Lts-level as level-lts
 use Rattle.hunt.proofs.advance.Reads as advance-reads
 use Rattle.hunt.proofs.heaviest.Reads as heaviest-reads
+use Rattle.hunt.proofs.hopeless.Reads as hopeless-reads
 use Rattle.hunt.proofs.lacking.Reads as lacking-reads
 use Rattle.hunt.proofs.next_link.Reads as next-link-reads
 use Rattle.hunt.proofs.nothing.Reads as nothing-reads
@@ -445,74 +447,132 @@ level-Inv-loop row table weights most a p n qs₀ s₀ e₀ qs s e = Climbing ro
 abbrev level-μ-loop : level-lts.MeasureT-loop
 level-μ-loop row table weights most a p n qs₀ s₀ e₀ qs s e = a .timeout - s
 
--- src/lib.rt:198:9
-level-settle-requires : (t : ℕ) → level-lts.Need-settle-requires (
+level-hopeless-requires : (t : ℕ) → level-lts.Need-hopeless-requires (
+  hopeless-reads.Asked,
+  hopeless-reads.Learnt,
+  nothing-reads.Asked,
+  nothing-reads.Learnt,
   settle-reads.Asked,
   settle-reads.Learnt,
   heaviest-reads.Asked,
   heaviest-reads.Learnt,
-  nothing-reads.Asked,
-  nothing-reads.Learnt,
   in-slot-below t,
   in-slot.Post,
   advance-reads.Asked,
   advance-reads.Learnt,
 ) (level-at t) level.Post level-Inv-loop level-μ-loop
-level-settle-requires t c κs = record { play = c .before .before .before .before .before .pre .1 .ready .play; holding = c .before .before .before .before .before .pre .1 .holding; stand = c .before .before .before .before .before .pre .1 .stand; few = omega (arith, c .before .before .before .before .before .pre .1 .few) }
+level-hopeless-requires t c κs = may-give-up _ _ _ _ _ _ _ _ (c .before .before .before .before .pre .1)
+
+level-nothing-requires : (t : ℕ) → level-lts.Need-nothing-requires (
+  hopeless-reads.Asked,
+  hopeless-reads.Learnt,
+  nothing-reads.Asked,
+  nothing-reads.Learnt,
+  settle-reads.Asked,
+  settle-reads.Learnt,
+  heaviest-reads.Asked,
+  heaviest-reads.Learnt,
+  in-slot-below t,
+  in-slot.Post,
+  advance-reads.Asked,
+  advance-reads.Learnt,
+) (level-at t) level.Post level-Inv-loop level-μ-loop
+level-nothing-requires t c κs = search needs
+
+level-returns : (t : ℕ) → level-lts.Need-returns (
+  hopeless-reads.Asked,
+  hopeless-reads.Learnt,
+  nothing-reads.Asked,
+  nothing-reads.Learnt,
+  settle-reads.Asked,
+  settle-reads.Learnt,
+  heaviest-reads.Asked,
+  heaviest-reads.Learnt,
+  in-slot-below t,
+  in-slot.Post,
+  advance-reads.Asked,
+  advance-reads.Learnt,
+) (level-at t) level.Post level-Inv-loop level-μ-loop
+level-returns t c = gives-up _ _ _ _ _ _ _ _ (c .before .before .before .before .before .before .before .pre .1) _ _ (search needs) (c .before .before .hopeless .ensures) (c .before .if1 .taken) (c .nothing .ensures .0) (c .nothing .ensures .1)
 
 -- src/lib.rt:198:9
-level-returns : (t : ℕ) → level-lts.Need-returns (
+level-settle-requires : (t : ℕ) → level-lts.Need-settle-requires (
+  hopeless-reads.Asked,
+  hopeless-reads.Learnt,
+  nothing-reads.Asked,
+  nothing-reads.Learnt,
   settle-reads.Asked,
   settle-reads.Learnt,
   heaviest-reads.Asked,
   heaviest-reads.Learnt,
-  nothing-reads.Asked,
-  nothing-reads.Learnt,
   in-slot-below t,
   in-slot.Post,
   advance-reads.Asked,
   advance-reads.Learnt,
 ) (level-at t) level.Post level-Inv-loop level-μ-loop
-level-returns t c = rw (c .before .if1 .taken) (c .settle .ensures)
+level-settle-requires t c κs = record { play = c .before .before .before .before .before .before .before .pre .1 .ready .play; holding = c .before .before .before .before .before .before .before .pre .1 .holding; stand = c .before .before .before .before .before .before .before .pre .1 .stand; few = omega (arith, c .before .before .before .before .before .before .before .pre .1 .few) }
+
+-- src/lib.rt:198:9
+level-returns-2 : (t : ℕ) → level-lts.Need-returns-2 (
+  hopeless-reads.Asked,
+  hopeless-reads.Learnt,
+  nothing-reads.Asked,
+  nothing-reads.Learnt,
+  settle-reads.Asked,
+  settle-reads.Learnt,
+  heaviest-reads.Asked,
+  heaviest-reads.Learnt,
+  in-slot-below t,
+  in-slot.Post,
+  advance-reads.Asked,
+  advance-reads.Learnt,
+) (level-at t) level.Post level-Inv-loop level-μ-loop
+level-returns-2 t c = rw (c .before .if2 .taken) (c .settle .ensures)
 
 -- src/lib.rt:203:5
 level-loop-holds : (t : ℕ) → level-lts.Need-loop-holds (
+  hopeless-reads.Asked,
+  hopeless-reads.Learnt,
+  nothing-reads.Asked,
+  nothing-reads.Learnt,
   settle-reads.Asked,
   settle-reads.Learnt,
   heaviest-reads.Asked,
   heaviest-reads.Learnt,
-  nothing-reads.Asked,
-  nothing-reads.Learnt,
   in-slot-below t,
   in-slot.Post,
   advance-reads.Asked,
   advance-reads.Learnt,
 ) (level-at t) level.Post level-Inv-loop level-μ-loop
-level-loop-holds t c = climbs-first _ _ _ _ _ _ _ _ (c .before .before .before .before .before .pre .1) (c .if1 .left)
+level-loop-holds t c = climbs-first _ _ _ _ _ _ _ _ (c .before .before .before .before .before .before .before .pre .1) (c .if2 .left)
 
 -- src/lib.rt:204:19
 level-shared-slice-read-top : (t : ℕ) → level-lts.Need-shared-slice-read-top (
+  hopeless-reads.Asked,
+  hopeless-reads.Learnt,
+  nothing-reads.Asked,
+  nothing-reads.Learnt,
   settle-reads.Asked,
   settle-reads.Learnt,
   heaviest-reads.Asked,
   heaviest-reads.Learnt,
-  nothing-reads.Asked,
-  nothing-reads.Learnt,
   in-slot-below t,
   in-slot.Post,
   advance-reads.Asked,
   advance-reads.Learnt,
 ) (level-at t) level.Post level-Inv-loop level-μ-loop
-level-shared-slice-read-top t c = omega (arith, c .before .if2 .taken, c .before .before .before .before .before .before .before .before .before .pre .1 .ready .play .short, c .before .before .before .before .before .before .before .before .before .pre .1 .ready .tops)
+level-shared-slice-read-top t c = omega (arith, c .before .if3 .taken, c .before .before .before .before .before .before .before .before .before .before .before .pre .1 .ready .play .short, c .before .before .before .before .before .before .before .before .before .before .before .pre .1 .ready .tops)
 
 -- src/lib.rt:204:19
 level-cast-top : (t : ℕ) → level-lts.Need-cast-top (
+  hopeless-reads.Asked,
+  hopeless-reads.Learnt,
+  nothing-reads.Asked,
+  nothing-reads.Learnt,
   settle-reads.Asked,
   settle-reads.Learnt,
   heaviest-reads.Asked,
   heaviest-reads.Learnt,
-  nothing-reads.Asked,
-  nothing-reads.Learnt,
   in-slot-below t,
   in-slot.Post,
   advance-reads.Asked,
@@ -522,147 +582,31 @@ level-cast-top t c = omega (arith, c .shared-slice-known5 .given (c .before .bef
 
 -- src/lib.rt:205:12
 level-heaviest-requires : (t : ℕ) → level-lts.Need-heaviest-requires (
+  hopeless-reads.Asked,
+  hopeless-reads.Learnt,
+  nothing-reads.Asked,
+  nothing-reads.Learnt,
   settle-reads.Asked,
   settle-reads.Learnt,
   heaviest-reads.Asked,
   heaviest-reads.Learnt,
-  nothing-reads.Asked,
-  nothing-reads.Learnt,
   in-slot-below t,
   in-slot.Post,
   advance-reads.Asked,
   advance-reads.Learnt,
 ) (level-at t) level.Post level-Inv-loop level-μ-loop
-level-heaviest-requires t c κs = omega (arith, c .shared-slice-known5 .given (c .before .before .before .loop .s), c .before .before .before .before .before .before .before .before .before .pre .1 .few, c .before .before .before .before .before .before .before .before .before .pre .1 .weighed .light)
+level-heaviest-requires t c κs = omega (arith, c .shared-slice-known5 .given (c .before .before .before .loop .s), c .before .before .before .before .before .before .before .before .before .before .before .pre .1 .few, c .before .before .before .before .before .before .before .before .before .before .before .pre .1 .weighed .light)
 
 -- src/lib.rt:206:13
-level-nothing-requires : (t : ℕ) → level-lts.Need-nothing-requires (
-  settle-reads.Asked,
-  settle-reads.Learnt,
-  heaviest-reads.Asked,
-  heaviest-reads.Learnt,
-  nothing-reads.Asked,
-  nothing-reads.Learnt,
-  in-slot-below t,
-  in-slot.Post,
-  advance-reads.Asked,
-  advance-reads.Learnt,
-) (level-at t) level.Post level-Inv-loop level-μ-loop
-level-nothing-requires t c κs = search needs
-
--- src/lib.rt:206:13
-level-returns-2 : (t : ℕ) → level-lts.Need-returns-2 (
-  settle-reads.Asked,
-  settle-reads.Learnt,
-  heaviest-reads.Asked,
-  heaviest-reads.Learnt,
-  nothing-reads.Asked,
-  nothing-reads.Learnt,
-  in-slot-below t,
-  in-slot.Post,
-  advance-reads.Asked,
-  advance-reads.Learnt,
-) (level-at t) level.Post level-Inv-loop level-μ-loop
-level-returns-2 t c = climbs-light _ _ _ _ _ _ _ _ (c .before .before .before .before .before .before .before .before .before .before .before .before .before .pre .1) (c .before .before .before .before .before .before .before .before .if1 .left) _ _ _ (c .before .before .before .before .before .before .before .loop .inv) _ _ (c .nothing .ensures .0) (c .nothing .ensures .1) (c .before .before .before .heaviest .ensures) (c .before .if3 .taken)
-
--- src/lib.rt:208:13
-level-in-slot-requires : (t : ℕ) → level-lts.Need-in-slot-requires (
-  settle-reads.Asked,
-  settle-reads.Learnt,
-  heaviest-reads.Asked,
-  heaviest-reads.Learnt,
-  nothing-reads.Asked,
-  nothing-reads.Learnt,
-  in-slot-below t,
-  in-slot.Post,
-  advance-reads.Asked,
-  advance-reads.Learnt,
-) (level-at t) level.Post level-Inv-loop level-μ-loop
-level-in-slot-requires t c κs = (omega (arith, c .before .before .before .before .before .before .before .before .before .before .before .before .pre .0), may-look _ _ _ _ _ _ _ _ (c .before .before .before .before .before .before .before .before .before .before .before .before .pre .1) (c .before .before .before .before .before .before .before .if1 .left) _ _ _ (c .before .before .before .before .before .before .loop .inv) (c .before .before .before .before .if2 .taken))
-
--- src/lib.rt:210:13
-level-returns-3 : (t : ℕ) → level-lts.Need-returns-3 (
-  settle-reads.Asked,
-  settle-reads.Learnt,
-  heaviest-reads.Asked,
-  heaviest-reads.Learnt,
-  nothing-reads.Asked,
-  nothing-reads.Learnt,
-  in-slot-below t,
-  in-slot.Post,
-  advance-reads.Asked,
-  advance-reads.Learnt,
-) (level-at t) level.Post level-Inv-loop level-μ-loop
-level-returns-3 t c = climbs-some _ _ _ _ _ _ _ _ (c .before .before .before .before .before .before .before .before .before .before .before .before .before .before .pre .1) (c .before .before .before .before .before .before .before .before .before .if1 .left) _ _ _ (c .before .before .before .before .before .before .before .before .loop .inv) _ (c .before .in-slot .ensures) (c .if4 .taken)
-
--- src/lib.rt:212:13
-level-advance-requires : (t : ℕ) → level-lts.Need-advance-requires (
-  settle-reads.Asked,
-  settle-reads.Learnt,
-  heaviest-reads.Asked,
-  heaviest-reads.Learnt,
-  nothing-reads.Asked,
-  nothing-reads.Learnt,
-  in-slot-below t,
-  in-slot.Post,
-  advance-reads.Asked,
-  advance-reads.Learnt,
-) (level-at t) level.Post level-Inv-loop level-μ-loop
-level-advance-requires t c κs = may-advance _ _ _ _ _ _ _ _ (c .before .before .before .before .before .before .before .before .before .before .before .before .before .before .pre .1) (c .before .before .before .before .before .before .before .before .before .if1 .left) _ _ _ (c .before .before .before .before .before .before .before .before .loop .inv) (c .before .before .before .before .before .before .if2 .taken)
-
--- src/lib.rt:214:9
-level-add-s : (t : ℕ) → level-lts.Need-add-s (
-  settle-reads.Asked,
-  settle-reads.Learnt,
-  heaviest-reads.Asked,
-  heaviest-reads.Learnt,
-  nothing-reads.Asked,
-  nothing-reads.Learnt,
-  in-slot-below t,
-  in-slot.Post,
-  advance-reads.Asked,
-  advance-reads.Learnt,
-) (level-at t) level.Post level-Inv-loop level-μ-loop
-level-add-s t c = omega (arith, c .before .before .before .before .before .before .before .if2 .taken, c .before .before .before .before .before .before .before .before .before .before .before .before .before .before .before .pre .1 .ready .play .short)
-
--- src/lib.rt:203:5
-level-loop-less : (t : ℕ) → level-lts.Need-loop-less (
-  settle-reads.Asked,
-  settle-reads.Learnt,
-  heaviest-reads.Asked,
-  heaviest-reads.Learnt,
-  nothing-reads.Asked,
-  nothing-reads.Learnt,
-  in-slot-below t,
-  in-slot.Post,
-  advance-reads.Asked,
-  advance-reads.Learnt,
-) (level-at t) level.Post level-Inv-loop level-μ-loop
-level-loop-less t c = omega (arith, c .before .before .before .before .before .before .before .if2 .taken)
-
--- src/lib.rt:203:5
-level-loop-again : (t : ℕ) → level-lts.Need-loop-again (
-  settle-reads.Asked,
-  settle-reads.Learnt,
-  heaviest-reads.Asked,
-  heaviest-reads.Learnt,
-  nothing-reads.Asked,
-  nothing-reads.Learnt,
-  in-slot-below t,
-  in-slot.Post,
-  advance-reads.Asked,
-  advance-reads.Learnt,
-) (level-at t) level.Post level-Inv-loop level-μ-loop
-level-loop-again t c = climbs-on _ _ _ _ _ _ _ _ (c .before .before .before .before .before .before .before .before .before .before .before .before .before .before .before .pre .1) (c .before .before .before .before .before .before .before .before .before .before .if1 .left) _ _ _ (c .before .before .before .before .before .before .before .before .before .loop .inv) _ (c .before .before .in-slot .ensures) _ (c .before .if4 .left) (c .before .before .before .before .before .before .before .if2 .taken) (c .advance .ensures)
-
--- src/lib.rt:217:5
 level-nothing-requires-2 : (t : ℕ) → level-lts.Need-nothing-requires-2 (
+  hopeless-reads.Asked,
+  hopeless-reads.Learnt,
+  nothing-reads.Asked,
+  nothing-reads.Learnt,
   settle-reads.Asked,
   settle-reads.Learnt,
   heaviest-reads.Asked,
   heaviest-reads.Learnt,
-  nothing-reads.Asked,
-  nothing-reads.Learnt,
   in-slot-below t,
   in-slot.Post,
   advance-reads.Asked,
@@ -670,20 +614,158 @@ level-nothing-requires-2 : (t : ℕ) → level-lts.Need-nothing-requires-2 (
 ) (level-at t) level.Post level-Inv-loop level-μ-loop
 level-nothing-requires-2 t c κs = search needs
 
--- src/lib.rt:184:1
-level-returns-4 : (t : ℕ) → level-lts.Need-returns-4 (
+-- src/lib.rt:206:13
+level-returns-3 : (t : ℕ) → level-lts.Need-returns-3 (
+  hopeless-reads.Asked,
+  hopeless-reads.Learnt,
+  nothing-reads.Asked,
+  nothing-reads.Learnt,
   settle-reads.Asked,
   settle-reads.Learnt,
   heaviest-reads.Asked,
   heaviest-reads.Learnt,
-  nothing-reads.Asked,
-  nothing-reads.Learnt,
   in-slot-below t,
   in-slot.Post,
   advance-reads.Asked,
   advance-reads.Learnt,
 ) (level-at t) level.Post level-Inv-loop level-μ-loop
-level-returns-4 t c = climbs-over _ _ _ _ _ _ _ _ (c .before .before .before .before .before .before .before .before .before .pre .1) (c .before .before .before .before .if1 .left) _ _ _ (c .before .before .before .loop .inv) _ (c .nothing2 .ensures .0) (c .nothing2 .ensures .1) (c .before .if2 .left)
+level-returns-3 t c = climbs-light _ _ _ _ _ _ _ _ (c .before .before .before .before .before .before .before .before .before .before .before .before .before .before .before .pre .1) (c .before .before .before .before .before .before .before .before .if2 .left) _ _ _ (c .before .before .before .before .before .before .before .loop .inv) _ _ (c .nothing2 .ensures .0) (c .nothing2 .ensures .1) (c .before .before .before .heaviest .ensures) (c .before .if4 .taken)
+
+-- src/lib.rt:208:13
+level-in-slot-requires : (t : ℕ) → level-lts.Need-in-slot-requires (
+  hopeless-reads.Asked,
+  hopeless-reads.Learnt,
+  nothing-reads.Asked,
+  nothing-reads.Learnt,
+  settle-reads.Asked,
+  settle-reads.Learnt,
+  heaviest-reads.Asked,
+  heaviest-reads.Learnt,
+  in-slot-below t,
+  in-slot.Post,
+  advance-reads.Asked,
+  advance-reads.Learnt,
+) (level-at t) level.Post level-Inv-loop level-μ-loop
+level-in-slot-requires t c κs = (omega (arith, c .before .before .before .before .before .before .before .before .before .before .before .before .before .before .pre .0), may-look _ _ _ _ _ _ _ _ (c .before .before .before .before .before .before .before .before .before .before .before .before .before .before .pre .1) (c .before .before .before .before .before .before .before .if2 .left) _ _ _ (c .before .before .before .before .before .before .loop .inv) (c .before .before .before .before .if3 .taken))
+
+-- src/lib.rt:210:13
+level-returns-4 : (t : ℕ) → level-lts.Need-returns-4 (
+  hopeless-reads.Asked,
+  hopeless-reads.Learnt,
+  nothing-reads.Asked,
+  nothing-reads.Learnt,
+  settle-reads.Asked,
+  settle-reads.Learnt,
+  heaviest-reads.Asked,
+  heaviest-reads.Learnt,
+  in-slot-below t,
+  in-slot.Post,
+  advance-reads.Asked,
+  advance-reads.Learnt,
+) (level-at t) level.Post level-Inv-loop level-μ-loop
+level-returns-4 t c = climbs-some _ _ _ _ _ _ _ _ (c .before .before .before .before .before .before .before .before .before .before .before .before .before .before .before .before .pre .1) (c .before .before .before .before .before .before .before .before .before .if2 .left) _ _ _ (c .before .before .before .before .before .before .before .before .loop .inv) _ (c .before .in-slot .ensures) (c .if5 .taken)
+
+-- src/lib.rt:212:13
+level-advance-requires : (t : ℕ) → level-lts.Need-advance-requires (
+  hopeless-reads.Asked,
+  hopeless-reads.Learnt,
+  nothing-reads.Asked,
+  nothing-reads.Learnt,
+  settle-reads.Asked,
+  settle-reads.Learnt,
+  heaviest-reads.Asked,
+  heaviest-reads.Learnt,
+  in-slot-below t,
+  in-slot.Post,
+  advance-reads.Asked,
+  advance-reads.Learnt,
+) (level-at t) level.Post level-Inv-loop level-μ-loop
+level-advance-requires t c κs = may-advance _ _ _ _ _ _ _ _ (c .before .before .before .before .before .before .before .before .before .before .before .before .before .before .before .before .pre .1) (c .before .before .before .before .before .before .before .before .before .if2 .left) _ _ _ (c .before .before .before .before .before .before .before .before .loop .inv) (c .before .before .before .before .before .before .if3 .taken)
+
+-- src/lib.rt:214:9
+level-add-s : (t : ℕ) → level-lts.Need-add-s (
+  hopeless-reads.Asked,
+  hopeless-reads.Learnt,
+  nothing-reads.Asked,
+  nothing-reads.Learnt,
+  settle-reads.Asked,
+  settle-reads.Learnt,
+  heaviest-reads.Asked,
+  heaviest-reads.Learnt,
+  in-slot-below t,
+  in-slot.Post,
+  advance-reads.Asked,
+  advance-reads.Learnt,
+) (level-at t) level.Post level-Inv-loop level-μ-loop
+level-add-s t c = omega (arith, c .before .before .before .before .before .before .before .if3 .taken, c .before .before .before .before .before .before .before .before .before .before .before .before .before .before .before .before .before .pre .1 .ready .play .short)
+
+-- src/lib.rt:203:5
+level-loop-less : (t : ℕ) → level-lts.Need-loop-less (
+  hopeless-reads.Asked,
+  hopeless-reads.Learnt,
+  nothing-reads.Asked,
+  nothing-reads.Learnt,
+  settle-reads.Asked,
+  settle-reads.Learnt,
+  heaviest-reads.Asked,
+  heaviest-reads.Learnt,
+  in-slot-below t,
+  in-slot.Post,
+  advance-reads.Asked,
+  advance-reads.Learnt,
+) (level-at t) level.Post level-Inv-loop level-μ-loop
+level-loop-less t c = omega (arith, c .before .before .before .before .before .before .before .if3 .taken)
+
+-- src/lib.rt:203:5
+level-loop-again : (t : ℕ) → level-lts.Need-loop-again (
+  hopeless-reads.Asked,
+  hopeless-reads.Learnt,
+  nothing-reads.Asked,
+  nothing-reads.Learnt,
+  settle-reads.Asked,
+  settle-reads.Learnt,
+  heaviest-reads.Asked,
+  heaviest-reads.Learnt,
+  in-slot-below t,
+  in-slot.Post,
+  advance-reads.Asked,
+  advance-reads.Learnt,
+) (level-at t) level.Post level-Inv-loop level-μ-loop
+level-loop-again t c = climbs-on _ _ _ _ _ _ _ _ (c .before .before .before .before .before .before .before .before .before .before .before .before .before .before .before .before .before .pre .1) (c .before .before .before .before .before .before .before .before .before .before .if2 .left) _ _ _ (c .before .before .before .before .before .before .before .before .before .loop .inv) _ (c .before .before .in-slot .ensures) _ (c .before .if5 .left) (c .before .before .before .before .before .before .before .if3 .taken) (c .advance .ensures)
+
+-- src/lib.rt:217:5
+level-nothing-requires-3 : (t : ℕ) → level-lts.Need-nothing-requires-3 (
+  hopeless-reads.Asked,
+  hopeless-reads.Learnt,
+  nothing-reads.Asked,
+  nothing-reads.Learnt,
+  settle-reads.Asked,
+  settle-reads.Learnt,
+  heaviest-reads.Asked,
+  heaviest-reads.Learnt,
+  in-slot-below t,
+  in-slot.Post,
+  advance-reads.Asked,
+  advance-reads.Learnt,
+) (level-at t) level.Post level-Inv-loop level-μ-loop
+level-nothing-requires-3 t c κs = search needs
+
+-- src/lib.rt:184:1
+level-returns-5 : (t : ℕ) → level-lts.Need-returns-5 (
+  hopeless-reads.Asked,
+  hopeless-reads.Learnt,
+  nothing-reads.Asked,
+  nothing-reads.Learnt,
+  settle-reads.Asked,
+  settle-reads.Learnt,
+  heaviest-reads.Asked,
+  heaviest-reads.Learnt,
+  in-slot-below t,
+  in-slot.Post,
+  advance-reads.Asked,
+  advance-reads.Learnt,
+) (level-at t) level.Post level-Inv-loop level-μ-loop
+level-returns-5 t c = climbs-over _ _ _ _ _ _ _ _ (c .before .before .before .before .before .before .before .before .before .before .before .pre .1) (c .before .before .before .before .if2 .left) _ _ _ (c .before .before .before .loop .inv) _ (c .nothing3 .ensures .0) (c .nothing3 .ensures .1) (c .before .if3 .left)
 
 pub +in-slot+level-spec : {M : Type 1} → statement M
 +in-slot+level-spec = close μ-in-slot μ-level (λ t. in-slot-lts.spec (
@@ -728,12 +810,14 @@ pub +in-slot+level-spec : {M : Type 1} → statement M
     (in-slot-nothing-requires t)
     (in-slot-returns-2 t))
     λ t. level-lts.spec (
+      hopeless-reads.Asked,
+      hopeless-reads.Learnt,
+      nothing-reads.Asked,
+      nothing-reads.Learnt,
       settle-reads.Asked,
       settle-reads.Learnt,
       heaviest-reads.Asked,
       heaviest-reads.Learnt,
-      nothing-reads.Asked,
-      nothing-reads.Learnt,
       in-slot-below t,
       in-slot.Post,
       advance-reads.Asked,
@@ -743,19 +827,22 @@ pub +in-slot+level-spec : {M : Type 1} → statement M
     level.Post
     level-Inv-loop
     level-μ-loop
-    (level-settle-requires t)
+    (level-hopeless-requires t)
+    (level-nothing-requires t)
     (level-returns t)
+    (level-settle-requires t)
+    (level-returns-2 t)
     (level-loop-holds t)
     (level-shared-slice-read-top t)
     (level-cast-top t)
     (level-heaviest-requires t)
-    (level-nothing-requires t)
-    (level-returns-2 t)
-    (level-in-slot-requires t)
+    (level-nothing-requires-2 t)
     (level-returns-3 t)
+    (level-in-slot-requires t)
+    (level-returns-4 t)
     (level-advance-requires t)
     (level-add-s t)
     (level-loop-less t)
     (level-loop-again t)
-    (level-nothing-requires-2 t)
-    (level-returns-4 t)
+    (level-nothing-requires-3 t)
+    (level-returns-5 t)

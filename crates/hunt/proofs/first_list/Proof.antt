@@ -3,7 +3,7 @@ use Prim.Native.Nat.{_+_, _-_}
 use mathlib.Core.Path.{refl}
 use native.Mathlib.Omega.{arith}
 use borrow.Author.Needs.{needs}
-use Rattle.hunt.proofs.Hunting.{Hunting, hunt-first, may-seek, hunt-some, hunt-on, hunt-over}
+use Rattle.hunt.proofs.Hunting.{none-for-nought, Hunting, hunt-first, may-seek, hunt-some, hunt-on, hunt-over}
 use Rattle.hunt.proofs.first_list.Statement.{statement}
 use Rattle.hunt.proofs.first_list.Tie as tie
 use Rattle.hunt.proofs.first_list.Reads as reads
@@ -17,25 +17,27 @@ Inv-loop row table weights most a ps low k p n₀ n = Hunting row a low k n
 abbrev μ-loop : tie.MeasureT-loop
 μ-loop row table weights most a ps low k p n₀ n = k + 1 - n
 
--- src/lib.rt:255:9
+returns : tie.Need-returns Inv-loop μ-loop
+returns c = none-for-nought _ _ _ _ (c .if1 .taken) refl refl refl
+
 no-pair-requires : tie.Need-no-pair-requires Inv-loop μ-loop
 no-pair-requires c κs = search needs
 
 -- src/lib.rt:257:5
 loop-holds : tie.Need-loop-holds Inv-loop μ-loop
-loop-holds c = hunt-first _ _ _ _ _ _ _ _ (c .before .before .before .before .before .pre)
+loop-holds c = hunt-first _ _ _ _ _ _ _ _ (c .before .before .before .before .before .before .before .pre)
 
 -- src/lib.rt:258:13
 level-requires : tie.Need-level-requires Inv-loop μ-loop
-level-requires c κs = may-seek _ _ _ _ _ _ _ _ (c .before .before .before .before .before .before .before .pre) _ _ (c .loop-test .taken) (c .before .before .no-pair .ensures)
+level-requires c κs = may-seek _ _ _ _ _ _ _ _ (c .before .before .before .before .before .before .before .before .before .pre) _ _ (c .loop-test .taken) (c .before .before .no-pair .ensures)
 
 -- src/lib.rt:261:13
-returns : tie.Need-returns Inv-loop μ-loop
-returns c = hunt-some _ _ _ _ _ _ _ _ (c .before .before .before .before .before .before .before .before .before .before .pre) _ (c .before .before .before .before .loop .inv) _ _ (c .before .before .before .before .before .no-pair .ensures) (c .before .before .level .ensures) _ (c .before .before .before .loop-test .taken) (c .before .if1 .taken) refl refl refl refl
+returns-2 : tie.Need-returns-2 Inv-loop μ-loop
+returns-2 c = hunt-some _ _ _ _ _ _ _ _ (c .before .before .before .before .before .before .before .before .before .before .before .before .pre) _ (c .before .before .before .before .loop .inv) _ _ (c .before .before .before .before .before .no-pair .ensures) (c .before .before .level .ensures) _ (c .before .before .before .loop-test .taken) (c .before .if2 .taken) refl refl refl refl
 
 -- src/lib.rt:268:9
 add-n : tie.Need-add-n Inv-loop μ-loop
-add-n c = omega (arith, c .before .before .loop-test .taken, c .before .before .before .before .before .before .before .before .before .pre .few)
+add-n c = omega (arith, c .before .before .loop-test .taken, c .before .before .before .before .before .before .before .before .before .before .before .pre .few)
 
 -- src/lib.rt:257:5
 loop-less : tie.Need-loop-less Inv-loop μ-loop
@@ -43,11 +45,11 @@ loop-less c = omega (arith, c .before .before .loop-test .taken)
 
 -- src/lib.rt:257:5
 loop-again : tie.Need-loop-again Inv-loop μ-loop
-loop-again c = hunt-on _ _ _ _ _ _ _ _ (c .before .before .before .before .before .before .before .before .before .pre) _ (c .before .before .before .loop .inv) _ _ (c .before .before .before .before .no-pair .ensures) (c .before .level .ensures) (c .before .before .loop-test .taken) (c .if1 .left)
+loop-again c = hunt-on _ _ _ _ _ _ _ _ (c .before .before .before .before .before .before .before .before .before .before .before .pre) _ (c .before .before .before .loop .inv) _ _ (c .before .before .before .before .no-pair .ensures) (c .before .level .ensures) (c .before .before .loop-test .taken) (c .if2 .left)
 
 -- src/lib.rt:242:1
-returns-2 : tie.Need-returns-2 Inv-loop μ-loop
-returns-2 c = hunt-over _ _ _ _ _ _ _ _ (c .before .before .before .before .before .before .before .pre) _ _ (c .before .loop .inv) (c .loop-test .left) refl refl refl
+returns-3 : tie.Need-returns-3 Inv-loop μ-loop
+returns-3 c = hunt-over _ _ _ _ _ _ _ _ (c .before .before .before .before .before .before .before .before .before .pre) _ _ (c .before .loop .inv) (c .loop-test .left) refl refl refl
 
 pub first-list-spec : {M : Type 1} → statement M
 first-list-spec =
@@ -55,11 +57,12 @@ first-list-spec =
     (tie.spec
     Inv-loop
     μ-loop
+    returns
     no-pair-requires
     loop-holds
     level-requires
-    returns
+    returns-2
     add-n
     loop-less
     loop-again
-    returns-2)
+    returns-3)

@@ -1,0 +1,96 @@
+-- From a time on: a message that is not at its target at the end was harmed by the list's first part, and not at its target at that time
+-- either, or is touched by a later pair.
+use Prim.Native.Nat.{ℕ, zero, suc, _+_, _-_, _*_, _≤_, _<_}
+use native.Mathlib.Omega.{arith}
+use mathlib.Core.Path.{_≡_, refl, sym, _∙_, ap}
+use mathlib.Core.Bool.{Bool, true, false, not, _&&_}
+use mathlib.Core.List.{List, [], _++_}
+use lib.ListN.{length, length-map, List·getD-map}
+use lib.Dec.{ltb}
+use borrow.Author.Tests.{ltb-true, ltb-false}
+use Rattle.scope.specs.Outcome.{gives}
+use Rattle.scope.specs.Plan.{Plan, pathOf}
+use Rattle.scope.specs.Good.{rules}
+use Rattle.scope.specs.Slot.{Position, onFirst, atTarget}
+use Rattle.scope.specs.Cuts.{pairs, isCut}
+use Rattle.scope.specs.Cycle.{byNumber, tableOf, start, positions, arrived, arrivals}
+use Rattle.laws.specs.Message.{positionOf}
+use Rattle.laws.proofs.Good.{good-rises}
+use Rattle.laws.proofs.Table.{table-gives}
+use Rattle.laws.proofs.Untouched.{untouched-arrives}
+use Rattle.laws.proofs.Turned.{at-target-stays}
+use Rattle.laws.proofs.Replay.{lengths-kept, positions-follow, depends-on-these-slots}
+use Rattle.touch.specs.Sums.{sum, one}
+use Rattle.touch.specs.Bound.{harm}
+use Rattle.touch.specs.Harmed.{hers, isTouched, stands, harmed, NotBefore, LosesNoMoreFrom}
+use Rattle.touch.proofs.Sums.{sum-le, sum-ones, sum-plus}
+use Rattle.touch.proofs.Touch.{all-harmed, unharmed, arrived-sum}
+use Rattle.touch.proofs.Parts.{pairs-both, harm-both, cut-before}
+
+module _ (plan : Plan) (pre x : List ℕ) (d n s : ℕ) (g : rules plan ≡ gives 0) (small : plan .timeout ≤ 64) (early : s ≤ plan .timeout)
+    (long : length pre ≡ 2 * d) (rest : length x ≡ 2 * n) (later : NotBefore s x n) (m : ℕ) where
+  -- who is at its target at time s stays there
+  stays-there : atTarget (stands plan pre s m) ≡ true → atTarget (stands plan (pre ++ x) (plan .timeout) m) ≡ true
+  stays-there h =
+      let t = plan .timeout in
+      let down = isCut (pre ++ x) in
+      let ps = positions byNumber down (tableOf plan) 0 s (start plan) in
+      let same : ps ≡ positions byNumber (isCut pre) (tableOf plan) 0 s (start plan) =
+      depends-on-these-slots byNumber down (isCut pre) (tableOf plan) 0 s (start plan)
+      (λ i e a b. cut-before pre x d n s long rest later i e (omega arith)) .positionsAgree in
+      let e : t ≡ s + (t - s) = omega arith in
+      let now : atTarget (positionOf m ps) ≡ true = ap (λ (qs : List Position). atTarget (positionOf m qs)) same ∙ h in
+      ap (λ (k : ℕ). atTarget (stands plan (pre ++ x) k m)) e ∙
+      ap (λ (qs : List Position). atTarget (positionOf m qs)) (positions-follow byNumber down (tableOf plan) 0 s (t - s) (start plan)) ∙
+      ap atTarget (at-target-stays byNumber down (tableOf plan) m (0 + s) ps now .there (t - s)) ∙ now
+
+  -- whom no pair touches arrives
+  arrives : harm (hers (tableOf plan) m) pre (pairs pre) ≡ 0 → harm (hers (tableOf plan) m) x n ≡ 0 →
+      atTarget (stands plan (pre ++ x) (plan .timeout) m) ≡ true
+  arrives a b =
+      let weight = hers (tableOf plan) m in
+      let k : pairs pre ≡ d = omega arith in
+      let none : harm weight (pre ++ x) (pairs (pre ++ x)) ≡ 0 =
+      ap (harm weight (pre ++ x)) (pairs-both pre x d long n rest) ∙ harm-both weight pre x d long n ∙
+      omega (arith, a, b, ap (harm weight pre) k) in
+      untouched-arrives byNumber (isCut (pre ++ x)) (tableOf plan) (plan .timeout) m (pathOf plan m) (start plan)
+      (List·getD-map onFirst (plan .messages) m []) (good-rises plan g m)
+      (unharmed (tableOf plan) (plan .timeout) m 0 (pre ++ x) (pathOf plan m) small (good-rises plan g m) (table-gives plan g m) none)
+
+  pub each-counts : 1 ≤ one (atTarget (stands plan (pre ++ x) (plan .timeout) m)) +
+      (one (isTouched plan pre m && not (atTarget (stands plan pre s m))) + harm (hers (tableOf plan) m) x n)
+  each-counts =
+      by (ltb 0 (harm (hers (tableOf plan) m) x n)) refl (isTouched plan pre m) refl (atTarget (stands plan pre s m)) refl
+    where
+      by : (a : Bool) → ltb 0 (harm (hers (tableOf plan) m) x n) ≡ a → (b : Bool) → isTouched plan pre m ≡ b → (c : Bool) → atTarget (stands plan pre s m) ≡ c →
+          1 ≤ one (atTarget (stands plan (pre ++ x) (plan .timeout) m)) + (one (b && not c) + harm (hers (tableOf plan) m) x n)
+      by true h b e c f = omega (arith, ltb-true 0 (harm (hers (tableOf plan) m) x n) h)
+      by false h true e false f = omega arith
+      by false h true e true f = omega (arith, ap one (stays-there f))
+      by false h false e c f =
+          let a = ltb-false 0 (harm (hers (tableOf plan) m) pre (pairs pre)) e in
+          let b = ltb-false 0 (harm (hers (tableOf plan) m) x n) h in
+          omega (arith, ap one (arrives (omega arith) (omega arith)))
+
+pub loses-no-more-from : LosesNoMoreFrom
+unfolding arrivals
+loses-no-more-from plan pre x d n s g small early long rest later =
+    let owner = tableOf plan in
+    let qs = positions byNumber (isCut (pre ++ x)) owner 0 (plan .timeout) (start plan) in
+    let there : ℕ → ℕ = λ m. one (atTarget (positionOf m qs)) in
+    let risk : ℕ → ℕ = λ m. one (isTouched plan pre m && not (atTarget (stands plan pre s m))) in
+    let more : ℕ → ℕ = λ m. harm (hers owner m) x n in
+    let size : length qs ≡ length (plan .messages) =
+    lengths-kept .ofPositions byNumber (isCut (pre ++ x)) owner 0 (plan .timeout) (start plan) ∙ length-map (plan .messages) onFirst in
+    let each = sum-le (λ m. 1) (λ m. there m + (risk m + more m)) (length qs) (λ m l. each-counts plan pre x d n s g small early long rest later m) in
+    omega (
+      arith,
+      each,
+      size,
+      sum-ones (length qs),
+      arrived-sum qs,
+      ap (sum risk) size,
+      sum-plus there (λ m. risk m + more m) (length qs),
+      sum-plus risk more (length qs),
+      all-harmed owner (length qs) x n,
+    )

@@ -1,0 +1,84 @@
+-- A list in two parts: its pairs, what they weigh, and what it cuts before the second part begins.
+use Prim.Native.Nat.{ℕ, zero, suc, _+_, _-_, _*_, _/_, _≤_, _<_}
+use native.Mathlib.Omega.{arith}
+use mathlib.Core.Path.{_≡_, refl, sym, _∙_, ap, ap₂}
+use mathlib.Core.Bool.{Bool, true, false, _&&_, true≢false}
+use mathlib.Core.List.{List, _++_}
+use lib.ListN.{length, getD, length-append, List·getD-append}
+use lib.Seq.{getD-append-add}
+use lib.Dec.{ltb, leb, eqb}
+use borrow.Author.Tests.{ltb-true, ltb-false, le-leb, eq-eqb}
+use Rattle.scope.specs.Lowest.{some}
+use Rattle.scope.specs.Cuts.{pairs, cutSlot, cutLink, isCut}
+use Rattle.laws.proofs.Cuts.{cut-pair, not-cut}
+use Rattle.touch.specs.Sums.{sum}
+use Rattle.touch.specs.Bound.{harm}
+use Rattle.touch.specs.Harmed.{NotBefore}
+use Rattle.touch.proofs.Sums.{sum-same}
+use Rattle.touch.proofs.Some.{some-one}
+
+-- the pairs of a list that is put together
+module _ (pre x : List ℕ) (d : ℕ) (long : length pre ≡ 2 * d) where
+  pub slot-left : (j : ℕ) → j < d → cutSlot (pre ++ x) j ≡ cutSlot pre j
+  slot-left j l = List·getD-append pre x 0 (2 * j) (omega arith)
+
+  pub link-left : (j : ℕ) → j < d → cutLink (pre ++ x) j ≡ cutLink pre j
+  link-left j l = List·getD-append pre x 0 (2 * j + 1) (omega arith)
+
+  pub slot-right : (j : ℕ) → cutSlot (pre ++ x) (d + j) ≡ cutSlot x j
+  slot-right j =
+      let e : 2 * (d + j) ≡ length pre + 2 * j = omega arith in
+      ap (λ (i : ℕ). getD (pre ++ x) i 0) e ∙ getD-append-add pre x (2 * j) 0
+
+  pub link-right : (j : ℕ) → cutLink (pre ++ x) (d + j) ≡ cutLink x j
+  link-right j =
+      let e : 2 * (d + j) + 1 ≡ length pre + (2 * j + 1) = omega arith in
+      ap (λ (i : ℕ). getD (pre ++ x) i 0) e ∙ getD-append-add pre x (2 * j + 1) 0
+
+  pub pairs-both : (n : ℕ) → length x ≡ 2 * n → pairs (pre ++ x) ≡ d + n
+  pairs-both n h = omega (arith, length-append pre x)
+
+module _ (weight : ℕ → ℕ → ℕ) (pre x : List ℕ) (d : ℕ) (long : length pre ≡ 2 * d) where
+  pub harm-front : harm weight (pre ++ x) d ≡ harm weight pre d
+  harm-front =
+      sum-same (λ j. weight (cutSlot (pre ++ x) j) (cutLink (pre ++ x) j)) (λ j. weight (cutSlot pre j) (cutLink pre j)) d
+      (λ j h. ap₂ weight (slot-left pre x d long j h) (link-left pre x d long j h))
+
+  pub harm-both : (n : ℕ) → harm weight (pre ++ x) (d + n) ≡ harm weight pre d + harm weight x n
+  unfolding sum
+  harm-both zero = let z : d + 0 ≡ d = omega arith in rw z (omega (arith, harm-front))
+  harm-both (suc n) =
+      let e : d + suc n ≡ suc (d + n) = omega arith in
+      let last : weight (cutSlot (pre ++ x) (d + n)) (cutLink (pre ++ x) (d + n)) ≡ weight (cutSlot x n) (cutLink x n) =
+      ap₂ weight (slot-right pre x d long n) (link-right pre x d long n) in
+      rw e (omega (arith, harm-both n, last))
+
+-- a link that a pair names, at or before this slot
+is-cut : (cuts : List ℕ) (i e j : ℕ) → j < pairs cuts → cutLink cuts j ≡ e → cutSlot cuts j ≤ i → isCut cuts i e ≡ true
+unfolding isCut
+is-cut cuts i e j l same early =
+    some-one (λ k. eqb (cutLink cuts k) e && leb (cutSlot cuts k) i) (pairs cuts) j l (rw (eq-eqb (cutLink cuts j) e same, le-leb (cutSlot cuts j) i early))
+
+-- before slot s a list cuts what its first part does
+pub cut-before : (pre x : List ℕ) (d n s : ℕ) → length pre ≡ 2 * d → length x ≡ 2 * n → NotBefore s x n → (i e : ℕ) → i < s →
+    isCut (pre ++ x) i e ≡ isCut pre i e
+cut-before pre x d n s long rest later i e h = by (isCut pre i e) refl
+  where
+    by : (b : Bool) → isCut pre i e ≡ b → isCut (pre ++ x) i e ≡ b
+    by true t =
+        let c = cut-pair pre i e t in
+        let l : c .0 < d = omega (arith, c .1) in
+        is-cut (pre ++ x) i e (c .0) (omega (arith, l, length-append pre x)) (link-left pre x d long (c .0) l ∙ c .2)
+        (omega (arith, slot-left pre x d long (c .0) l, c .3))
+    by false t = not-cut (pre ++ x) i e (λ j l same. each j l same (ltb j d) refl (ltb i (cutSlot pre j)) refl)
+      where
+        each : (j : ℕ) → j < pairs (pre ++ x) → cutLink (pre ++ x) j ≡ e → (b : Bool) → ltb j d ≡ b → (a : Bool) → ltb i (cutSlot pre j) ≡ a →
+            i < cutSlot (pre ++ x) j
+        each j l same true u true v = omega (arith, ltb-true i (cutSlot pre j) v, slot-left pre x d long j (ltb-true j d u))
+        each j l same true u false v =
+            let low : j < d = ltb-true j d u in
+            absurd (true≢false (sym (is-cut pre i e j (omega arith) (sym (link-left pre x d long j low) ∙ same) (ltb-false i (cutSlot pre j) v)) ∙ t))
+        each j l same false u a v =
+            let at : d + (j - d) ≡ j = omega (arith, ltb-false j d u) in
+            let right : cutSlot (pre ++ x) j ≡ cutSlot x (j - d) = rw at at (slot-right pre x d long (j - d)) in
+            omega (arith, right, later (j - d) (omega (arith, ltb-false j d u, length-append pre x)))

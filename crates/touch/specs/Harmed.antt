@@ -1,0 +1,50 @@
+-- "a list loses no more messages than it touches", counted as a set and from a time on: what a list can still lose at time s are the
+-- messages that its pairs touch and that are not at their targets, and those that later pairs touch.
+use Prim.Native.Nat.{ℕ, _+_, _-_, _*_, _≤_, _<_}
+use mathlib.Core.Path.{_≡_}
+use mathlib.Core.Bool.{Bool, true, not, _&&_}
+use mathlib.Core.List.{List, _++_}
+use lib.ListN.{length, getD}
+use lib.Dec.{ltb, eqb}
+use Rattle.scope.specs.Outcome.{gives}
+use Rattle.scope.specs.Plan.{Plan}
+use Rattle.scope.specs.Good.{rules}
+use Rattle.scope.specs.Slot.{Position, atTarget}
+use Rattle.scope.specs.Cuts.{pairs, cutSlot, isCut, isCutList}
+use Rattle.scope.specs.Cycle.{byNumber, tableOf, start, positions, arrivals}
+use Rattle.laws.specs.Message.{positionOf}
+use Rattle.touch.specs.Sums.{sum, one}
+use Rattle.touch.specs.Bound.{harm}
+use Rattle.touch.specs.Touch.{touches}
+
+-- in how many slots from slot s on the table gives link e to message m
+abbrev pub hers : (ℕ → ℕ → ℕ) → ℕ → ℕ → ℕ → ℕ
+hers owner m s e = sum (λ i. one (eqb (owner (s + i) e) (m + 1))) (64 - s)
+
+-- a pair of the list touches message m
+abbrev pub isTouched : Plan → List ℕ → ℕ → Bool
+isTouched plan cuts m = ltb 0 (harm (hers (tableOf plan) m) cuts (pairs cuts))
+
+-- where message m stands at time s
+abbrev pub stands : Plan → List ℕ → ℕ → ℕ → Position
+stands plan cuts s m = positionOf m (positions byNumber (isCut cuts) (tableOf plan) 0 s (start plan))
+
+-- how many messages the list touches that are not at their targets at time s
+abbrev pub harmed : Plan → List ℕ → ℕ → ℕ
+harmed plan cuts s = sum (λ m. one (isTouched plan cuts m && not (atTarget (stands plan cuts s m)))) (length (plan .messages))
+
+-- no pair is in a slot before s
+abbrev pub NotBefore : ℕ → List ℕ → ℕ → Type 0
+NotBefore s cuts n = (j : ℕ) → j < n → s ≤ cutSlot cuts j
+
+-- a list that goes on from slot s or later loses no more messages than its first part harms at time s and its later pairs touch
+abbrev pub LosesNoMoreFrom : Type 0
+LosesNoMoreFrom =
+    (plan : Plan) (pre x : List ℕ) (d n s : ℕ) → rules plan ≡ gives 0 → plan .timeout ≤ 64 → s ≤ plan .timeout → length pre ≡ 2 * d → length x ≡ 2 * n →
+    NotBefore s x n → length (plan .messages) ≤ arrivals plan (pre ++ x) + (harmed plan pre s + harm (touches (tableOf plan)) x n)
+
+-- what a search needs to know of it: a list that leaves fewer than l arrivals harms at least `need` messages, its later pairs counted as
+-- heavy as any from slot s on
+pub record BoundFrom (plan : Plan) (l need : ℕ) (most : List ℕ) : Type 0 where
+  pub enough : (pre x : List ℕ) (d n s : ℕ) → s ≤ plan .timeout → length pre ≡ 2 * d → length x ≡ 2 * n → NotBefore s x n →
+      isCutList plan (pre ++ x) ≡ true → arrivals plan (pre ++ x) < l → need ≤ harmed plan pre s + n * getD most s 0
