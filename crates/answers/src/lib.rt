@@ -1,6 +1,6 @@
-// All answers of a plan for one k at once, one for each l. The first failing list for l is that for every lower l down to one more
-// than its arrivals, so there is one search for each distinct list. It leans on `hunt` for the search and on `resist` for what the
-// search is lent.
+// All answers of a plan for one k at once, one for each l: document 01's refusals 1 to 11 and 13, or seven numbers for each l. It takes
+// anything and asks nothing. The first failing list for l is that for every lower l down to one more than its arrivals, so there is one
+// search for each distinct list. It leans on `plan` for refusals 1 to 10, on `hunt` for the search and on `resist` for what that is lent.
 use hunt::Asked;
 use hunt::Hunted;
 use scope::Answer;

@@ -1,17 +1,17 @@
 -- What one message does in a slot, and what has been tried after it: at its target, on its first path, and on its second.
-use Prim.Native.Nat.{ℕ, _+_, _-_, _≤_, _<_}
+use Prim.Native.Nat.{ℕ, _+_, _-_, _≤_}
 use mathlib.Core.Path.{_≡_, refl, sym, _∙_, ap}
 use mathlib.Core.Bool.{Bool, true, false, cond}
-use mathlib.Core.List.{List, []}
+use mathlib.Core.List.{List}
 use native.Mathlib.Omega.{arith}
 use lib.Dec.{ltb, eqb}
-use borrow.Author.Tests.{eq-eqb, ne-eqb}
-use Rattle.scope.specs.Plan.{at, numbersAt, placeAt, placesAt, placeSize}
+use borrow.Author.Tests.{ne-eqb}
+use Rattle.scope.specs.Plan.{at, placeAt, placesAt, placeSize}
 use Rattle.scope.specs.Slot as S
 use Rattle.step.specs.declared.Position.{Position}
 use Rattle.step.specs.declared.Met.{Met}
 use Rattle.step.specs.declared.Moved.{Moved}
-use Rattle.step.specs.Where.{leftAt, positionOf, endOf, Leads, Acts, Meets}
+use Rattle.step.specs.Where.{leftAt, positionOf, endOf, Acts, Meets}
 use Rattle.step.proofs.Left.{numbers-none, places-none}
 use Rattle.step.proofs.Steps.{tries-first, tries-cut, tries-whole, second-next, act-first, act-second}
 use Rattle.cycle.specs.Pass.{firstTrier, noted, triedAfter, does, ActsTurned, ActsIn, MovesIn}

@@ -1,6 +1,6 @@
 -- The loop that moves the messages of a slot in the records that are lent: the first m stand where the slot puts them, and the rest as they did.
-use Prim.Native.Nat.{ℕ, suc, _+_, _≤_, _<_}
-use mathlib.Core.Path.{_≡_, refl, sym, _∙_, ap}
+use Prim.Native.Nat.{ℕ, _+_, _≤_, _<_}
+use mathlib.Core.Path.{_≡_, sym, _∙_, ap}
 use mathlib.Core.Bool.{Bool}
 use mathlib.Core.List.{List, [], _∷_}
 use native.Mathlib.Numerals.{add-one}
@@ -8,10 +8,10 @@ use native.Mathlib.Omega.{arith}
 use lib.ListN.{length, getD, drop, set, length-drop, drop-of-length-le}
 use lib.Seq.{set-getD, getD-drop, drop-cons, ext-getD}
 use Rattle.scope.specs.Slot as S
-use Rattle.scope.specs.Cycle.{byNumber, slot, nexts}
+use Rattle.scope.specs.Cycle.{slot, nexts}
 use Rattle.step.specs.declared.Position.{Position}
-use Rattle.step.specs.Where.{positionOf, Leads}
-use Rattle.cycle.specs.Stand.{home, positionsOf, Become}
+use Rattle.step.specs.Where.{positionOf}
+use Rattle.cycle.specs.Stand.{home, positionsOf}
 use Rattle.cycle.specs.Pass.{triers, pass, MayAct, MovesIn, MayMoveAll, MovesAll}
 use Rattle.cycle.proofs.Going.{nextFrom, Going, going-none, going-fits, going-more, going-done}
 use Rattle.cycle.proofs.Acting.{home-does, home-tried}

@@ -1,10 +1,9 @@
 -- The pass is the slot: who is noted as the first to try a link is the lowest message that tries it.
-use Prim.Native.Nat.{ℕ, zero, suc, _+_, _≤_, _<_}
+use Prim.Native.Nat.{ℕ, _+_, _≤_, _<_}
 use mathlib.Core.Path.{_≡_, refl, sym, _∙_, ap}
 use mathlib.Core.Bool.{Bool, true, false, cond}
 use mathlib.Core.List.{List, [], _∷_, map}
 use native.Mathlib.Omega.{arith}
-use native.Mathlib.Numerals.{add-one}
 use lib.ListN.{length, getD, drop, length-map}
 use lib.Seq.{getD-drop, drop-drop}
 use lib.Dec.{ltb, eqb}
@@ -13,7 +12,7 @@ use Rattle.scope.specs.Lowest.{seek, lowest}
 use Rattle.scope.proofs.Lowest.{seek-most, seek-same}
 use Rattle.scope.specs.Slot as S
 use Rattle.scope.specs.Cycle.{byNumber, foremost, moves, slot}
-use Rattle.cycle.specs.Pass.{triers, triedLink, triedBy, entryOf, firstTrier, noted, Noting, triedAfter, does, pass}
+use Rattle.cycle.specs.Pass.{triers, triedLink, triedBy, foundAt, firstTrier, noted, Noting, triedAfter, does, pass}
 use Rattle.cycle.proofs.Tried.{fore-lowest, lowest-keep, lowest-here, lowest-next, trier-found, trier-none, noted-length, noted-count, link-old, by-old, link-new, by-new}
 
 -- `ts` has the links that all messages try, plus one
@@ -38,13 +37,13 @@ module _ (ts : List ℕ) where
 
   module _ (tried : List ℕ) (m : ℕ) (k : Knows tried m) where
     -- whoever was found is still the lowest
-    kept : (e : ℕ) → entryOf tried e < triers tried → triedBy tried (entryOf tried e) ≡ lowest (trying e) (m + 1)
+    kept : (e : ℕ) → foundAt tried e < triers tried → triedBy tried (foundAt tried e) ≡ lowest (trying e) (m + 1)
     kept e h =
-        let w : triedBy tried (entryOf tried e) ≡ lowest (trying e) m = sym (trier-found tried e m h) ∙ k .is e in
-        w ∙ sym (lowest-keep (trying e) m (omega (arith, k .below (entryOf tried e) h)))
+        let w : triedBy tried (foundAt tried e) ≡ lowest (trying e) m = sym (trier-found tried e m h) ∙ k .is e in
+        w ∙ sym (lowest-keep (trying e) m (omega (arith, k .below (foundAt tried e) h)))
 
     -- where nobody was found, nobody below m tries the link
-    nobody : (e : ℕ) → triers tried ≤ entryOf tried e → lowest (trying e) m ≡ m
+    nobody : (e : ℕ) → triers tried ≤ foundAt tried e → lowest (trying e) m ≡ m
     nobody e h = sym (k .is e) ∙ trier-none tried e m h
 
     -- message m tries nothing
@@ -54,10 +53,10 @@ module _ (ts : List ℕ) where
           room = k .room;
           few = omega (arith, k .few);
           below = λ j h. omega (arith, k .below j h);
-          is = λ e. by e (ltb (entryOf tried e) (triers tried)) refl;
+          is = λ e. by e (ltb (foundAt tried e) (triers tried)) refl;
         }
       where
-        by : (e : ℕ) (b : Bool) → ltb (entryOf tried e) (triers tried) ≡ b → firstTrier tried e (m + 1) ≡ lowest (trying e) (m + 1)
+        by : (e : ℕ) (b : Bool) → ltb (foundAt tried e) (triers tried) ≡ b → firstTrier tried e (m + 1) ≡ lowest (trying e) (m + 1)
         by e true b = trier-found tried e (m + 1) (ltb-true _ _ b) ∙ kept e (ltb-true _ _ b)
         by e false b =
             let t : eqb (getD ts m 0) (e + 1) ≡ false = ne-eqb (getD ts m 0) (e + 1) (λ y. omega arith) in
@@ -70,7 +69,7 @@ module _ (ts : List ℕ) where
           room = rw (noted-length tried m n e₀) (k .room);
           few = omega (arith, count, k .few);
           below = λ j h. low j h (ltb j (triers tried)) refl;
-          is = λ e. by e (ltb (entryOf tried e) (triers tried)) refl;
+          is = λ e. by e (ltb (foundAt tried e) (triers tried)) refl;
         }
       where
         n : Noting tried m
@@ -87,29 +86,29 @@ module _ (ts : List ℕ) where
             rw (e, by-new tried m n e₀) (omega arith)
 
         -- the entries that were there are looked at as before
-        same : (e : ℕ) → lowest (λ j. eqb (triedLink (noted tried e₀ m) j) e) (triers tried) ≡ entryOf tried e
+        same : (e : ℕ) → lowest (λ j. eqb (triedLink (noted tried e₀ m) j) e) (triers tried) ≡ foundAt tried e
         same e = seek-same _ _ (triers tried) 0 (λ j g h. ap (λ x. eqb x e) (link-old tried m n e₀ j (omega arith)))
 
-        found : (e : ℕ) → entryOf tried e < triers tried → entryOf (noted tried e₀ m) e ≡ entryOf tried e
+        found : (e : ℕ) → foundAt tried e < triers tried → foundAt (noted tried e₀ m) e ≡ foundAt tried e
         found e h =
             ap (lowest (λ j. eqb (triedLink (noted tried e₀ m) j) e)) count
             ∙ lowest-keep (λ j. eqb (triedLink (noted tried e₀ m) j) e) (triers tried) (omega (arith, same e)) ∙ same e
 
-        full : (e : ℕ) → triers tried ≤ entryOf tried e → lowest (λ j. eqb (triedLink (noted tried e₀ m) j) e) (triers tried) ≡ triers tried
+        full : (e : ℕ) → triers tried ≤ foundAt tried e → lowest (λ j. eqb (triedLink (noted tried e₀ m) j) e) (triers tried) ≡ triers tried
         full e h = same e ∙ omega (arith, seek-most (λ j. eqb (triedLink tried j) e) (triers tried) 0)
 
-        new : (e : ℕ) → triers tried ≤ entryOf tried e → e₀ ≡ e → entryOf (noted tried e₀ m) e ≡ triers tried
+        new : (e : ℕ) → triers tried ≤ foundAt tried e → e₀ ≡ e → foundAt (noted tried e₀ m) e ≡ triers tried
         new e h q =
             ap (lowest (λ j. eqb (triedLink (noted tried e₀ m) j) e)) count
             ∙ lowest-here (λ j. eqb (triedLink (noted tried e₀ m) j) e) (triers tried) (full e h) (eq-eqb _ _ (link-new tried m n e₀ ∙ q))
 
-        none : (e : ℕ) → triers tried ≤ entryOf tried e → (e₀ ≡ e → ⊥) → entryOf (noted tried e₀ m) e ≡ triers (noted tried e₀ m)
+        none : (e : ℕ) → triers tried ≤ foundAt tried e → (e₀ ≡ e → ⊥) → foundAt (noted tried e₀ m) e ≡ triers (noted tried e₀ m)
         none e h q =
             ap (lowest (λ j. eqb (triedLink (noted tried e₀ m) j) e)) count
             ∙ lowest-next (λ j. eqb (triedLink (noted tried e₀ m) j) e) (triers tried) (full e h) (ne-eqb _ _ (λ y. q (sym (link-new tried m n e₀) ∙ y)))
             ∙ sym count
 
-        other : (e : ℕ) → triers tried ≤ entryOf tried e → (b : Bool) → eqb e₀ e ≡ b → firstTrier (noted tried e₀ m) e (m + 1) ≡ lowest (trying e) (m + 1)
+        other : (e : ℕ) → triers tried ≤ foundAt tried e → (b : Bool) → eqb e₀ e ≡ b → firstTrier (noted tried e₀ m) e (m + 1) ≡ lowest (trying e) (m + 1)
         other e h true b =
             let q : e₀ ≡ e = eqb-true _ _ b in
             let t : eqb (getD ts m 0) (e + 1) ≡ true = eq-eqb _ _ (z ∙ ap (λ x. x + 1) q) in
@@ -120,11 +119,11 @@ module _ (ts : List ℕ) where
             let t : eqb (getD ts m 0) (e + 1) ≡ false = ne-eqb (getD ts m 0) (e + 1) (λ y. q (omega arith)) in
             trier-none (noted tried e₀ m) e (m + 1) (omega (arith, none e h q)) ∙ sym (lowest-next (trying e) m (nobody e h) t)
 
-        by : (e : ℕ) (b : Bool) → ltb (entryOf tried e) (triers tried) ≡ b → firstTrier (noted tried e₀ m) e (m + 1) ≡ lowest (trying e) (m + 1)
+        by : (e : ℕ) (b : Bool) → ltb (foundAt tried e) (triers tried) ≡ b → firstTrier (noted tried e₀ m) e (m + 1) ≡ lowest (trying e) (m + 1)
         by e true b =
-            let h : entryOf tried e < triers tried = ltb-true _ _ b in
+            let h : foundAt tried e < triers tried = ltb-true _ _ b in
             trier-found (noted tried e₀ m) e (m + 1) (omega (arith, found e h, count))
-            ∙ ap (triedBy (noted tried e₀ m)) (found e h) ∙ by-old tried m n e₀ (entryOf tried e) h ∙ kept e h
+            ∙ ap (triedBy (noted tried e₀ m)) (found e h) ∙ by-old tried m n e₀ (foundAt tried e) h ∙ kept e h
         by e false b = other e (ltb-false _ _ b) (eqb e₀ e) refl
 
 -- whoever tries a link tries the next one of its second path

@@ -8,22 +8,13 @@ use native.Mathlib.Omega.{arith}
 use lib.ListN.{length, take, drop, length-append, length-drop, length-map, take-append-drop, drop-of-length-le}
 use lib.Seq.{length-take-le, take-all, take-at, drop-at, drop-drop}
 use Rattle.scope.specs.Slot as S
-use Rattle.scope.specs.Cycle.{byNumber, moves, slot, nexts, numbers, positions, events}
+use Rattle.scope.specs.Cycle.{byNumber, slot, nexts, numbers, positions, events}
 use Rattle.step.specs.declared.Position.{Position}
 use Rattle.step.specs.Where.{positionOf}
-use Rattle.cycle.specs.Stand.{positionsOf, Stand, Become}
+use Rattle.cycle.specs.Stand.{positionsOf, Stand}
 use Rattle.cycle.specs.Slot.{Done}
 use Rattle.cycle.specs.Play.{Ran}
 use Rattle.cycle.proofs.Moves.{moves-length, numbers-length}
-
--- they turn, they try, they act
-pub slot-done : (row : List ℕ) (n : ℕ) (down : ℕ → ℕ → Bool) (owner : ℕ → ℕ → ℕ) (i : ℕ) (ps turned qs : List Position) (tried buffer out : List ℕ) →
-    Become row n (map (S.turn (down i)) (positionsOf row n ps)) turned →
-    take n tried ≡ map (S.tries (down i)) (positionsOf row n turned) → length (take n tried) ≡ n →
-    Done row (length (take n tried)) (moves byNumber (down i) (owner i) i (take n tried) 0 (positionsOf row (length (take n tried)) turned)) buffer out qs →
-    Done row n (slot byNumber down owner i (positionsOf row n ps)) buffer out qs
-unfolding slot
-slot-done row n down owner i ps turned qs tried buffer out b t l d = rw (l, t, b .is) at d
 
 module _ (rank : ℕ → ℕ) (down : ℕ → ℕ → Bool) (owner : ℕ → ℕ → ℕ) where
   pub slot-length : (i : ℕ) (ps : List S.Position) → length (slot rank down owner i ps) ≡ length ps

@@ -8,16 +8,16 @@ use native.Mathlib.Omega.{arith}
 use lib.ListN.{length, getD, take, drop, set, length-set, List·getD-eq-default}
 use lib.Seq.{take-suc, drop-cons, getD-set-same, getD-set-other}
 use lib.Dec.{ltb, eqb}
-use borrow.Author.Tests.{lt-ltb, le-ltb, ltb-true, ltb-false, eq-eqb, ne-eqb, eqb-true, eqb-false}
+use borrow.Author.Tests.{lt-ltb, le-ltb, eq-eqb, ne-eqb, eqb-true, eqb-false}
 use Rattle.scope.specs.Lowest.{seek, lowest}
-use Rattle.scope.proofs.Lowest.{seek-most, seek-same}
+use Rattle.scope.proofs.Lowest.{seek-most}
 use Rattle.scope.specs.Slot as S
 use Rattle.scope.specs.Cycle.{byNumber, foremost}
 use Rattle.step.specs.declared.Position.{Position}
 use Rattle.step.specs.Where.{positionOf}
 use Rattle.cycle.specs.Stand.{home, positionsOf}
 use Rattle.cycle.specs.Slot.{ownerOf}
-use Rattle.cycle.specs.Pass.{triers, triedLink, triedBy, entryOf, firstTrier, noted, Noting}
+use Rattle.cycle.specs.Pass.{triers, triedLink, triedBy, foundAt, firstTrier, noted, Noting}
 
 -- one more element through a function
 pub map-snoc : {A B : Type 0} (f : A → B) (xs : List A) (x : A) → map f (xs ++ (x ∷ [])) ≡ map f xs ++ (f x ∷ [])
@@ -107,22 +107,22 @@ module _ (test : ℕ → Bool) where
 
 -- whoever is found in the list, and where nobody is
 module _ (tried : List ℕ) (e : ℕ) where
-  entry-most : entryOf tried e ≤ triers tried
+  entry-most : foundAt tried e ≤ triers tried
   entry-most = omega (arith, seek-most (λ j. eqb (triedLink tried j) e) (triers tried) 0)
 
-  pub trier-found : (m : ℕ) → entryOf tried e < triers tried → firstTrier tried e m ≡ triedBy tried (entryOf tried e)
+  pub trier-found : (m : ℕ) → foundAt tried e < triers tried → firstTrier tried e m ≡ triedBy tried (foundAt tried e)
   unfolding firstTrier
-  trier-found m h = rw (lt-ltb (entryOf tried e) (triers tried) h)
+  trier-found m h = rw (lt-ltb (foundAt tried e) (triers tried) h)
 
-  pub trier-none : (m : ℕ) → triers tried ≤ entryOf tried e → firstTrier tried e m ≡ m
+  pub trier-none : (m : ℕ) → triers tried ≤ foundAt tried e → firstTrier tried e m ≡ m
   unfolding firstTrier
-  trier-none m h = rw (le-ltb (entryOf tried e) (triers tried) h)
+  trier-none m h = rw (le-ltb (foundAt tried e) (triers tried) h)
 
   -- a loop at entry j: it is the link's, or all are passed
-  pub trier-at : (m j : ℕ) → j < triers tried → j ≡ entryOf tried e → triedBy tried j ≡ firstTrier tried e m
+  pub trier-at : (m j : ℕ) → j < triers tried → j ≡ foundAt tried e → triedBy tried j ≡ firstTrier tried e m
   trier-at m j h g = ap (triedBy tried) g ∙ sym (trier-found m (omega arith))
 
-  pub trier-past : (m j : ℕ) → triers tried ≤ j → j ≡ entryOf tried e → m ≡ firstTrier tried e m
+  pub trier-past : (m j : ℕ) → triers tried ≤ j → j ≡ foundAt tried e → m ≡ firstTrier tried e m
   trier-past m j h g = sym (trier-none m (omega arith))
 
 pub noted-is : (tried : List ℕ) (e m : ℕ) → set (set (set tried (2 * triers tried + 1) e) (2 * triers tried + 2) m) 0 (triers tried + 1) ≡ noted tried e m

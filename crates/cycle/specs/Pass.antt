@@ -27,11 +27,11 @@ abbrev pub triedBy : List ℕ → ℕ → ℕ
 triedBy tried j = getD tried (2 * j + 2) 0
 
 -- the first entry of link e, and its message, or m where there is none
-abbrev pub entryOf : List ℕ → ℕ → ℕ
-entryOf tried e = lowest (λ j. eqb (triedLink tried j) e) (triers tried)
+abbrev pub foundAt : List ℕ → ℕ → ℕ
+foundAt tried e = lowest (λ j. eqb (triedLink tried j) e) (triers tried)
 
 unfoldable pub firstTrier : List ℕ → ℕ → ℕ → ℕ
-firstTrier tried e m = cond (ltb (entryOf tried e) (triers tried)) (triedBy tried (entryOf tried e)) m
+firstTrier tried e m = cond (ltb (foundAt tried e) (triers tried)) (triedBy tried (foundAt tried e)) m
 
 -- message m tries link e too
 unfoldable pub noted : List ℕ → ℕ → ℕ → List ℕ

@@ -2,6 +2,9 @@
 // `events` and `positions` of document 01 (specs/Cycle of `scope`), over the table and the first cuts that are lent, whatever they
 // are: proofs/Agree has when they are the plan's and the cut list's. All that `play` asks is that there are at most 32 messages, that
 // they end below index 65536 of the row, and that there is room for the events. It leans on `step` for one message.
+//
+// A slot is one pass over the messages, from the lowest on, in records that are lent: `move_all` and `lend` alone hold a slice of
+// records, and their proofs are walks by hand.
 use step::Event;
 use step::Met;
 use step::Moved;

@@ -1,26 +1,35 @@
--- What holds of the text that the replay program prints: the first 7,349 bytes of a plan file and the first 651 of an input decide it, and a
--- call of `replay_text` allows one outcome.
-use Prim.Native.Nat.{ℕ, _+_, _≤_, _<_}
+-- What holds of the text that the replay program prints: the first 7,349 bytes of a plan file and the first 651 of an input decide it, it has
+-- room in 36,942 bytes, and a call of `replay_text` allows one outcome.
+use Prim.Native.Nat.{ℕ, _≤_, _<_}
 use mathlib.Core.Path.{_≡_, refl, sym, _∙_, ap}
 use mathlib.Core.Bool.{Bool, true, false}
 use mathlib.Core.List.{List}
 use native.Mathlib.Omega.{arith}
-use lib.ListN.{length, take}
+use lib.ListN.{length, getD, take, length-append}
 use lib.Seq.{take-all, take-take}
 use lib.Dec.{ltb}
-use borrow.Author.Tests.{ltb-true, ltb-false}
+use borrow.Author.Tests.{ltb-true, ltb-false, le-leb}
 use Rattle.scope.specs.declared.Answer.{Answer}
-use Rattle.scope.specs.Outcome.{Outcome, gives, refused}
+use Rattle.scope.specs.Outcome.{Outcome, gives, refused, outcomeOf}
 use Rattle.scope.specs.File.{walkFile, rowOf}
-use Rattle.scope.specs.Questions.{readFile}
-use Rattle.scope.specs.Lines.{cutsFrom, cutsOf, longestRow, longestEvents, replayText}
+use Rattle.scope.specs.Plan.{planOf}
+use Rattle.scope.specs.Cycle.{eventRow}
+use Rattle.scope.specs.Questions.{readFile, replay}
+use Rattle.scope.specs.Lines.{cutsFrom, cutsOf, refusedLine, longestRow, longestEvents, replayText}
 use Rattle.flow.specs.Longest.{longestFile}
 use Rattle.flow.proofs.Theorems.{file-most, front-decides}
+use Rattle.view.proofs.Walked.{walked}
+use Rattle.view.proofs.Parts.{message-count, timeout-is}
+use Rattle.plan.proofs.Ways.{good-row}
+use Rattle.plan.proofs.Reading.{read-judged}
+use Rattle.text.proofs.Decimal.{decimal-all}
+use Rattle.listing.proofs.Room.{listing-room}
 use Rattle.listing.specs.Prints.{Prints}
 use Rattle.listing.proofs.Printing.{prints-only}
 use Rattle.cut_lines.proofs.Replay.{replay-enough}
 use Rattle.replay_text.specs.Text.{textOf}
 use Rattle.replay_text.proofs.Text.{text-refused, text-given}
+use Rattle.replay_text.proofs.Low.{event-numbers}
 
 -- a file that is longer than the longest has a form that is refused
 long-refused : (file : List ℕ) → longestFile < length file → (k : ℕ) × (p : ℕ) × (walkFile file ≡ refused k p)
@@ -62,6 +71,34 @@ input-front file input = by (readFile file longestRow) refl
 -- so many bytes of the file and of the input print what the whole prints, however long they are
 pub front-prints : (file input : List ℕ) → replayText (take 7349 file) (take 651 input) ≡ replayText file input
 front-prints file input = file-front file (take 651 input) ∙ input-front file input
+
+-- 36,942 bytes, which `listing` calls its room, are room for every text: so the program, which lends as many, is never refused for room
+pub text-room : (file input : List ℕ) → length (replayText file input) ≤ 36942
+text-room file input = by (readFile file longestRow) refl
+  where
+    by : (o : Outcome) → readFile file longestRow ≡ o → length (replayText file input) ≤ 36942
+    by (refused k p) e =
+        let a = decimal-all k in
+        let b = decimal-all p in
+        let size : length (refusedLine k p) ≤ 56 = simp length-append (omega arith) in
+        omega (arith, ap length (text-refused file input k p e))
+    by (gives n) e =
+        let row = rowOf file in
+        let cuts = cutsOf input in
+        let good = good-row row (length row) (read-judged file longestRow n e) in
+        let lies = walked row (good .form) in
+        let m = message-count row in
+        let few = lies .messages in
+        let time : planOf row .timeout ≤ 64 = rw (timeout-is row) (lies .timeout) in
+        let small : (i : ℕ) → getD (eventRow (planOf row) cuts) i 0 < 65536 = λ i. omega (arith, event-numbers row lies cuts i) in
+        let r = listing-room (replay row cuts longestEvents) (planOf row) (eventRow (planOf row) cuts) (omega arith) (omega arith) time small in
+        omega (arith, ap length (text-given file input n e))
+
+pub never-short : (file input entry exit : List ℕ) (r : Answer) → 36942 ≤ length entry → Prints (replayText file input) entry exit r →
+    outcomeOf r ≡ gives (length (replayText file input))
+never-short file input entry exit r room p =
+    let fits : length (replayText file input) ≤ length entry = omega (arith, text-room file input) in
+    p .answer ∙ rw (le-leb (length (replayText file input)) (length entry) fits)
 
 -- two outcomes that the promise of `replay_text` allows are equal
 pub one-text : (file input entry exit exit′ : List ℕ) (r r′ : Answer) →

@@ -32,10 +32,6 @@ module _ (row : List ℕ) (i n : ℕ) where
 
   -- what it tries, and the next link of its second path
   module _ (down : ℕ → Bool) where
-    pub tries-home : (b : Bool) → n ≡ 0 → 0 ≡ tries down (leftAt row b i n)
-    tries-home true h = rw (numbers-none row i n h)
-    tries-home false h = refl
-
     pub tries-first : (b : Bool) → b ≡ false → 0 ≡ tries down (leftAt row b i n)
     tries-first b f = rw f
 
@@ -48,13 +44,6 @@ module _ (row : List ℕ) (i n : ℕ) where
 
       pub tries-whole : d ≡ false → e + 1 ≡ tries down (leftAt row b i n)
       tries-whole h = rw (f, numbers-next row i n (some n l), cut, h, p)
-
-  pub second-home : (b : Bool) → n ≡ 0 → 0 ≡ nextSecond (leftAt row b i n)
-  second-home true h = rw (numbers-none row i n h)
-  second-home false h = refl
-
-  pub second-first : (b : Bool) → b ≡ false → 0 ≡ nextSecond (leftAt row b i n)
-  second-first b f = rw f
 
   pub second-next : (b : Bool) → b ≡ true → (n ≡ 0 → ⊥) → (e : ℕ) → e ≡ at row i → e ≡ nextSecond (leftAt row b i n)
   second-next b f l e p = rw (f, numbers-next row i n (some n l), p)
@@ -103,10 +92,6 @@ module _ (row : List ℕ) (i n : ℕ) where
 
   -- what it does, by where it stands
   module _ (down : ℕ → Bool) (slot entry : ℕ) (held : Bool) (first : ℕ) where
-    pub act-home : (b : Bool) → n ≡ 0 → moved (leftAt row b i n) 0 0 ≡ act down slot entry held first (leftAt row b i n)
-    act-home true h = rw (numbers-none row i n h)
-    act-home false h = rw (places-none row i n h)
-
     module _ (b : Bool) (l : n ≡ 0 → ⊥) (e : ℕ) (p : e ≡ at row i) (d : Bool) (q : d ≡ down e) where
       pub act-first : b ≡ false →
           onFirstPath d slot (placeAt row i) (placesAt row (i + placeSize row i) (n - 1)) ≡ act down slot entry held first (leftAt row b i n)

@@ -1,6 +1,6 @@
 -- Laws of a message's turn, one for each way.
 use Prim.Native.Nat.{ℕ, _+_, _≤_, _<_}
-use mathlib.Core.Path.{_≡_, refl, sym, _∙_, ap}
+use mathlib.Core.Path.{_≡_, sym, _∙_, ap}
 use mathlib.Core.Bool.{Bool, true, false}
 use mathlib.Core.List.{List}
 use native.Mathlib.Omega.{arith}
@@ -10,15 +10,11 @@ use Rattle.scope.specs.Slot.{onSecond, turn}
 use Rattle.step.specs.declared.Position.{Position}
 use Rattle.step.specs.declared.Met.{Met}
 use Rattle.step.specs.Where.{leftAt, positionOf, endAt, Leads, Faces, Meets}
-use Rattle.step.proofs.Left.{numbers-next, places-none, places-next, after-size, size-second}
+use Rattle.step.proofs.Left.{numbers-next, places-next, after-size, size-second}
 
 module _ (row : List ℕ) (down : ℕ → Bool) (i n : ℕ) where
   pub turn-turned : (b : Bool) → b ≡ true → leftAt row b i n ≡ turn down (leftAt row b i n)
   turn-turned b h = rw h
-
-  pub turn-home : (b : Bool) → n ≡ 0 → leftAt row b i n ≡ turn down (leftAt row b i n)
-  turn-home true h = refl
-  turn-home false h = rw (places-none row i n h)
 
   module _ (b : Bool) (f : b ≡ false) (l : n ≡ 0 → ⊥) (e : ℕ) (p : e ≡ at row i) (d : Bool) (q : d ≡ down e) where
     some : 0 < n

@@ -1,6 +1,6 @@
 // One message in one slot: a position goes in, and the next position and the event come out. Each promise is an equation with
-// `turn`, `tries` and `act` of document 01's section "One slot" (specs/Slot of `scope`), for any row of numbers, any cut list and any
-// table. All that is asked is that a position ends below index 65536, which no function here undoes.
+// `turn`, `onFirstPath` and `onSecondPath` of document 01's section "One slot" (specs/Slot of `scope`), for any row of numbers, any cut
+// list and any table. All that is asked is that a position ends below index 65536, which no function here undoes.
 use cuts::is_down;
 use view::number;
 ghost use Prim.Native.Nat.{_+_, _-_, _<_, _^_};

@@ -1,5 +1,5 @@
-use borrow.Author.Needs.{needs}
 -- `cut_lines::cuts` meets its contract: what the loop has left are the cuts of the lines from index i on.
+use borrow.Author.Needs.{needs}
 use Prim.Native.Nat.{_+_, _*_, _/_}
 use mathlib.Core.Path.{_≡_}
 use native.Mathlib.Omega.{arith}

@@ -1,6 +1,6 @@
 -- `cycle::act_turned` meets its contract: its link is cut, or the table, the lower messages and itself come in turn. Assumes nothing.
 use Prim.Native.Nat.{_+_, _-_}
-use mathlib.Core.Path.{_≡_, refl, sym, _∙_, ap}
+use mathlib.Core.Path.{sym, _∙_, ap}
 use mathlib.Core.Bool.{cond}
 use lib.Dec.{ltb}
 use Rattle.scope.specs.Plan.{at, numbersAt}

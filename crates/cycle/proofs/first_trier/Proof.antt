@@ -8,7 +8,7 @@ use borrow.Author.Tests.{eq-eqb, ne-eqb}
 use borrow.Author.Needs.{needs}
 use Rattle.scope.specs.Lowest.{seek}
 use Rattle.scope.proofs.Lowest.{seek-found, seek-next, seek-done}
-use Rattle.cycle.specs.Pass.{triers, triedLink, entryOf, Noting}
+use Rattle.cycle.specs.Pass.{triers, triedLink, foundAt, Noting}
 use Rattle.cycle.proofs.Tried.{trier-at, trier-past}
 use Rattle.cycle.proofs.first_trier.Statement.{statement}
 use Rattle.cycle.proofs.first_trier.Tie as tie
@@ -18,7 +18,7 @@ pub record Looking (tried : List ℕ) (link m n j : ℕ) : Type 0 where
   pub noting : Noting tried m
   pub all : n ≡ triers tried
   pub few : j ≤ n
-  pub left : seek (λ k. eqb (triedLink tried k) link) (n - j) j ≡ entryOf tried link
+  pub left : seek (λ k. eqb (triedLink tried k) link) (n - j) j ≡ foundAt tried link
 
 abbrev Inv-loop : tie.InvT-loop
 Inv-loop tried link m n j₀ j = Looking tried link m n j

@@ -1,22 +1,27 @@
--- `verdict::table` is safe and ends: k rises to the highest. Assumes nothing.
-use Prim.Native.Nat.{_+_, _-_, _≤_}
-use mathlib.Core.Path.{_≡_}
-use lib.ListN.{length}
+-- `verdict::table` meets its contract: the loop has laid the lines under each number below k.
+use Prim.Native.Nat.{_≤_, _-_}
 use borrow.Author.Needs.{needs}
+use native.Mathlib.Omega.{arith}
+use Rattle.scope.specs.Plan.{planOf}
+use Rattle.verdict_text.specs.Layout.{LaidUntil}
+use Rattle.verdict_text.proofs.Composing.{laid-first, laid-more, laid-done, laid-small, lays-same}
 use Rattle.verdict.proofs.table.Statement.{statement}
 use Rattle.verdict.proofs.table.Tie as tie
 
 abbrev Inv-loop : tie.InvT-loop
-Inv-loop row highest start out₀ next₀ k₀ out next k = (k ≤ highest + 1) × (length out ≡ length out₀)
+Inv-loop row n start out₀ next₀ k₀ out next k = (k ≤ n) × LaidUntil (planOf row) n k out₀ out next
 
 abbrev μ-loop : tie.MeasureT-loop
-μ-loop row highest start out₀ next₀ k₀ out next k = highest + 1 - k
+μ-loop row n start out₀ next₀ k₀ out next k = n - k
 
 loop-holds : tie.Need-loop-holds Inv-loop μ-loop
-loop-holds c = search needs
+loop-holds c = (search needs, laid-first _ _ _)
 
-under-requires : tie.Need-under-requires Inv-loop μ-loop
-under-requires c κs = search needs
+progress-requires : tie.Need-progress-requires Inv-loop μ-loop
+progress-requires c κs = search needs
+
+lines-under-requires : tie.Need-lines-under-requires Inv-loop μ-loop
+lines-under-requires c κs = (c .before .before .before .before .before .before .pre .0, omega (arith, c .before .before .before .before .before .before .pre .1, c .before .before .loop-test .taken), laid-small _ _ (omega (arith, c .before .before .before .before .before .before .pre .1, c .before .before .loop-test .taken)) (c .before .before .before .loop .inv .1))
 
 add-k : tie.Need-add-k Inv-loop μ-loop
 add-k c = search needs
@@ -25,19 +30,13 @@ loop-less : tie.Need-loop-less Inv-loop μ-loop
 loop-less c = search needs
 
 loop-again : tie.Need-loop-again Inv-loop μ-loop
-loop-again c = search needs
+loop-again c = (search needs, laid-more _ _ (c .before .before .before .before .before .loop-test .taken) (c .before .before .before .before .before .before .loop .inv .1) (c .before .before .lines-under .ensures))
 
 same-length : tie.Need-same-length Inv-loop μ-loop
-same-length c = search needs
+same-length c = lays-same (c .before .loop .inv .1)
 
 returns : tie.Need-returns Inv-loop μ-loop
-returns c = search needs
-
-same-length-2 : tie.Need-same-length-2 Inv-loop μ-loop
-same-length-2 c = search needs
-
-returns-2 : tie.Need-returns-2 Inv-loop μ-loop
-returns-2 c = search needs
+returns c = laid-done _ _ (c .before .loop .inv .0) (c .loop-test .left) (c .before .loop .inv .1)
 
 pub table-spec : {M : Type 1} → statement M
 table-spec =
@@ -46,11 +45,10 @@ table-spec =
     Inv-loop
     μ-loop
     loop-holds
-    under-requires
+    progress-requires
+    lines-under-requires
     add-k
     loop-less
     loop-again
     same-length
-    returns
-    same-length-2
-    returns-2)
+    returns)

@@ -1,0 +1,61 @@
+-- What is allowed of a call is one outcome: two calls with the same input tell the same numbers and leave the same buffer.
+use Prim.Native.Nat.{ℕ}
+use mathlib.Core.Path.{_≡_, refl, sym, _∙_, ap}
+use mathlib.Core.Bool.{cond}
+use mathlib.Core.List.{List}
+use lib.ListN.{length}
+use lib.Dec.{eqb}
+use lib.IntN.{ℤ}
+use Rattle.scope.specs.declared.Answer.{Answer}
+use Rattle.scope.specs.declared.Answer.the-variants.{Gives, Refused}
+use Rattle.scope.specs.Outcome.{Outcome, outcomeOf, gives, refused}
+use Rattle.scope.specs.Plan.{secondStart}
+use Rattle.scope.specs.SecondPath.{placeIndex}
+use Rattle.resist.specs.declared.Ruling.{Ruling}
+use Rattle.resist.proofs.Ways as verdict
+use Rattle.answers.specs.Answers.{AnswersAll, mayAnswer}
+use Rattle.answers.proofs.Ways as all
+use Rattle.nuthatchet.specs.Told.{Told, Tells, TellsAll, TellsSlack}
+use Rattle.nuthatchet.specs.Part.{TellsPart}
+use Rattle.nuthatchet.specs.Ruled.{ruled, TellsRuling}
+
+answerOf : Outcome → Answer
+answerOf (gives i) = Gives i
+answerOf (refused k q) = Refused (record { no = k; place = q })
+
+answer-back : (o : Outcome) → outcomeOf (answerOf o) ≡ o
+unfolding answerOf
+answer-back (gives i) = refl
+answer-back (refused k q) = refl
+
+module _ {n p v n′ p′ v′ : ℕ} where
+  pub one-told : (o : Outcome) → Told o n p v → Told o n′ p′ v′ → (n ≡ n′) × (p ≡ p′) × (v ≡ v′)
+  one-told o a b = (a .number ∙ sym (b .number), a .place ∙ sym (b .place), a .result ∙ sym (b .result))
+
+  pub one-telling : (o : Outcome) (written entry exit exit′ : List ℕ) → Tells o written entry exit n p v → Tells o written entry exit′ n′ p′ v′ →
+      ((n ≡ n′) × (p ≡ p′) × (v ≡ v′)) × (exit ≡ exit′)
+  one-telling o written entry exit exit′ a b = (one-told o (a .told) (b .told), a .buffer ∙ sym (b .buffer))
+
+  pub one-ruling : (row : List ℕ) (k l : ℕ) (entry exit exit′ : List ℕ) → TellsRuling row k l entry exit n p v →
+      TellsRuling row k l entry exit′ n′ p′ v′ → ((n ≡ n′) × (p ≡ p′) × (v ≡ v′)) × (exit ≡ exit′)
+  one-ruling row k l entry exit exit′ a b =
+      let same = verdict.one-outcome row k l entry exit exit′ (a .ruling) (b .ruling) (a .answered) (b .answered) in
+      let t : Told (ruled (b .ruling)) n p v = rw (← same .0) (a .told) in
+      (one-told (ruled (b .ruling)) t (b .told), same .1)
+
+  pub one-all : (row : List ℕ) (k : ℕ) (entry exit exit′ : List ℕ) → TellsAll row k entry exit n p v → TellsAll row k entry exit′ n′ p′ v′ →
+      ((n ≡ n′) × (p ≡ p′) × (v ≡ v′)) × (exit ≡ exit′)
+  one-all row k entry exit exit′ a b =
+      let o = mayAnswer row k (length entry) in
+      let f : AnswersAll row k entry exit (answerOf o) = record { answer = answer-back o; buffer = a .buffer } in
+      let g : AnswersAll row k entry exit′ (answerOf o) = record { answer = answer-back o; buffer = b .buffer } in
+      (one-told o (a .told) (b .told), all.one-outcome row k entry exit exit′ (answerOf o) (answerOf o) f g .1)
+
+module _ (row : List ℕ) (m q : ℕ) {n p n′ p′ : ℕ} where
+  pub one-slack : {y z : ℤ} → TellsSlack row m q n p y → TellsSlack row m q n′ p′ z → (n ≡ n′) × (p ≡ p′) × (y ≡ z)
+  one-slack a b = (a .number ∙ sym (b .number), a .place ∙ sym (b .place), a .slack ∙ sym (b .slack))
+
+  pub one-part : TellsPart row m q n p → TellsPart row m q n′ p′ → (n ≡ n′) × (p ≡ p′)
+  one-part a b =
+      let same : n ≡ n′ = a .count ∙ sym (b .count) in
+      (same, a .begins ∙ ap (λ (i : ℕ). cond (eqb i 0) 0 (secondStart (placeIndex row m q))) same ∙ sym (b .begins))

@@ -1,0 +1,67 @@
+-- What a caller in another language is told: three numbers, and the lent buffer. Each question is the one that document 01 asks, by the
+-- definitions that the Rattle functions cite.
+use Prim.Native.Nat.{ℕ}
+use mathlib.Core.Path.{_≡_}
+use mathlib.Core.List.{List}
+use lib.ListN.{length}
+use lib.IntN.{ℤ}
+use Rattle.scope.specs.Outcome.{Outcome, refused, number, place, result, room}
+use Rattle.scope.specs.File.{rowOf, fileOf}
+use Rattle.scope.specs.Plan.{planOf}
+use Rattle.scope.specs.Cycle.{eventRow}
+use Rattle.scope.specs.Questions.{after, judge, readFile, writeFile, replay, mayJudge, maySpare, slack}
+use Rattle.spare.specs.Slack.{unlessRefused}
+use Rattle.answers.specs.Answers.{mayAnswer, After}
+
+-- "A refusal gives its number and place, zero in every other result": n is returned, p and v are written
+pub record Told (o : Outcome) (n p v : ℕ) : Type 0 where
+  pub number : n ≡ number o
+  pub place : p ≡ place o
+  pub result : v ≡ result o
+
+-- and a lent buffer that held `entry` has this written to its front, where nothing is refused
+pub record Tells (o : Outcome) (written entry exit : List ℕ) (n p v : ℕ) : Type 0 where
+  pub told : Told o n p v
+  pub buffer : exit ≡ after o written entry
+
+-- a file read into a row
+abbrev pub TellsRead : List ℕ → List ℕ → List ℕ → ℕ → ℕ → ℕ → Type 0
+TellsRead file entry exit n p v = Tells (readFile file (length entry)) (rowOf file) entry exit n p v
+
+-- a row written into bytes
+abbrev pub TellsWritten : List ℕ → List ℕ → List ℕ → ℕ → ℕ → ℕ → Type 0
+TellsWritten row entry exit n p v = Tells (writeFile row (length entry)) (fileOf row) entry exit n p v
+
+-- a row replayed under a cut list
+abbrev pub TellsReplay : List ℕ → List ℕ → List ℕ → List ℕ → ℕ → ℕ → ℕ → Type 0
+TellsReplay row cuts entry exit n p v =
+    Tells (replay row cuts (length entry)) (eventRow (planOf row) cuts) entry exit n p v
+
+-- a text laid into bytes
+abbrev pub TellsText : List ℕ → List ℕ → List ℕ → ℕ → ℕ → ℕ → Type 0
+TellsText text entry exit n p v = Tells (room (length text) (length entry)) text entry exit n p v
+
+-- all answers of a row for k
+pub record TellsAll (row : List ℕ) (k : ℕ) (entry exit : List ℕ) (n p v : ℕ) : Type 0 where
+  pub told : Told (mayAnswer row k (length entry)) n p v
+  pub buffer : After (mayAnswer row k (length entry)) (planOf row) k entry exit
+
+-- the slack z of the second path of message m from place q
+pub record TellsSlack (row : List ℕ) (m q n p : ℕ) (z : ℤ) : Type 0 where
+  pub number : n ≡ number (maySpare row m q)
+  pub place : p ≡ place (maySpare row m q)
+  pub slack : z ≡ unlessRefused (maySpare row m q) (slack row m q)
+
+-- no refusal has the number 0, so that 0 says that nothing is refused
+abbrev pub Numbered : Outcome → Type 0
+Numbered o = (p : ℕ) → o ≡ refused 0 p → ⊥
+
+pub record ZeroSaysNone : Type 0 where
+  pub judges : (row : List ℕ) → Numbered (judge row)
+  pub reads : (file : List ℕ) (lent : ℕ) → Numbered (readFile file lent)
+  pub writes : (row : List ℕ) (lent : ℕ) → Numbered (writeFile row lent)
+  pub replays : (row cuts : List ℕ) (lent : ℕ) → Numbered (replay row cuts lent)
+  pub rules : (row : List ℕ) (k l lent : ℕ) → Numbered (mayJudge row k l lent)
+  pub answers : (row : List ℕ) (k lent : ℕ) → Numbered (mayAnswer row k lent)
+  pub spares : (row : List ℕ) (m q : ℕ) → Numbered (maySpare row m q)
+  pub prints : (needed lent : ℕ) → Numbered (room needed lent)

@@ -1,0 +1,232 @@
+// Every public question for programs in other languages: `rt staticlib nuthatchet`, include/nuthatchet.h, docs/FACE.md. Numbers and slices
+// only. Each function takes anything and asks nothing, returns the number of the refusal, 0 where there is none, and writes its place
+// and the result, zero where document 01 says zero. It leans on the crate that answers the question, and adds only how it is said.
+use resist::Ruling;
+use scope::Answer;
+use scope::Refusal;
+use spare::Spare;
+ghost use Rattle.scope.specs.Lines.{replayText};
+ghost use Rattle.scope.specs.Outcome.{outcomeOf, refused};
+ghost use Rattle.scope.specs.Questions.{judge};
+ghost use Rattle.resist.specs.Verdict.{Answered};
+ghost use Rattle.spare.specs.Slack.{Slacks};
+ghost use Rattle.row_text.specs.Rows.{rowText, numbersOf};
+ghost use Rattle.nuthatchet.specs.Told.{Told, TellsRead, TellsWritten, TellsReplay, TellsText, TellsAll, TellsSlack};
+ghost use Rattle.nuthatchet.specs.Part.{TellsPart};
+ghost use Rattle.nuthatchet.specs.Ruled.{ruled, TellsRuling};
+
+// A refusal: its number is returned, its place written, and zero for the result.
+fn refuse(refusal: Refusal, place: &mut usize, result: &mut usize) -> usize
+    ensures { λ r. ⌜ Told (refused (refusal .no) (refusal .place)) r (now (place .exit)) (now (result .exit)) ⌝ }
+{
+    *place = refusal.place;
+    *result = 0;
+    refusal.no
+}
+
+// An answer as three numbers.
+fn tell(answer: Answer, place: &mut usize, result: &mut usize) -> usize
+    ensures { λ r. ⌜ Told (outcomeOf answer) r (now (place .exit)) (now (result .exit)) ⌝ }
+{
+    match answer {
+        Answer::Gives(n) => {
+            *place = 0;
+            *result = n;
+            0
+        }
+        Answer::Refused(r) => refuse(r, place, result),
+    }
+}
+
+// A ruling as three numbers.
+fn tell_ruling(ruling: Ruling, place: &mut usize, result: &mut usize) -> usize
+    ensures { λ r. ⌜ Told (ruled ruling) r (now (place .exit)) (now (result .exit)) ⌝ }
+{
+    match ruling {
+        Ruling::Resistant => {
+            *place = 0;
+            *result = 0;
+            0
+        }
+        Ruling::Failing(n) => {
+            *place = 0;
+            *result = n;
+            0
+        }
+        Ruling::Refused(r) => refuse(r, place, result),
+    }
+}
+
+// Refusals 1 to 10 of a row, or how many numbers it has.
+#[no_mangle]
+pub extern "C" fn nuthatchet_judge(row: &[u16], place: &mut usize, result: &mut usize) -> usize
+    ensures { λ r. ⌜ Told (judge (now (row .entry))) r (now (place .exit)) (now (result .exit)) ⌝ }
+{
+    let answer = plan::judge(row);
+    tell(answer, place, result)
+}
+
+// A file read into a lent row: how many numbers, or refusal 1, 2, 4 to 10, 13.
+#[no_mangle]
+pub extern "C" fn nuthatchet_read_file(
+    file: &[u8],
+    row: &mut [u16],
+    place: &mut usize,
+    result: &mut usize,
+) -> usize
+    ensures { λ r. ⌜ TellsRead (now (file .entry)) (now (row .entry)) (now (row .exit)) r (now (place .exit)) (now (result .exit)) ⌝ }
+{
+    let answer = plan::read_file(file, row);
+    tell(answer, place, result)
+}
+
+// A row written into lent bytes: how many, or refusal 1 to 10, 13.
+#[no_mangle]
+pub extern "C" fn nuthatchet_write_file(
+    row: &[u16],
+    file: &mut [u8],
+    place: &mut usize,
+    result: &mut usize,
+) -> usize
+    ensures { λ r. ⌜ TellsWritten (now (row .entry)) (now (file .entry)) (now (file .exit)) r (now (place .exit)) (now (result .exit)) ⌝ }
+{
+    let answer = plan::write_file(row, file);
+    tell(answer, place, result)
+}
+
+// The second path of message m from place p: how many links it has, and the index in the row where they begin; 0 and 0 where there is
+// none or the row is bad.
+#[no_mangle]
+pub extern "C" fn nuthatchet_second_path(
+    row: &[u16],
+    m: usize,
+    p: usize,
+    index: &mut usize,
+) -> usize
+    ensures { λ r. ⌜ TellsPart (now (row .entry)) m p r (now (index .exit)) ⌝ }
+{
+    let part = plan::second_path(row, m, p);
+    let n = part.len();
+    if n == 0 {
+        *index = 0;
+        return 0;
+    }
+    *index = view::place_index(row, m, p) + 4;
+    n
+}
+
+// The replay of a row under a cut list: the arrivals, with the row of events, or refusal 1 to 10, 12, 13.
+#[no_mangle]
+pub extern "C" fn nuthatchet_replay(
+    row: &[u16],
+    cuts: &[u16],
+    events: &mut [u16],
+    place: &mut usize,
+    result: &mut usize,
+) -> usize
+    ensures { λ r. ⌜ TellsReplay (now (row .entry)) (now (cuts .entry)) (now (events .entry)) (now (events .exit)) r (now (place .exit)) (now (result .exit)) ⌝ }
+{
+    let answer = replays::replay(row, cuts, events);
+    tell(answer, place, result)
+}
+
+// The verdict on a row for k and l: 0 pairs if it is resistant, or how many pairs the first failing list has, with that list; or refusal
+// 1 to 10, 11, 13.
+#[no_mangle]
+pub extern "C" fn nuthatchet_verdict(
+    row: &[u16],
+    k: usize,
+    l: usize,
+    list: &mut [u16],
+    place: &mut usize,
+    pairs: &mut usize,
+) -> usize
+    ensures { λ r. ⌜ TellsRuling (now (row .entry)) k l (now (list .entry)) (now (list .exit)) r (now (place .exit)) (now (pairs .exit)) ⌝ }
+{
+    let ruling = resist::verdict(row, k, l, list);
+    tell_ruling(ruling, place, pairs)
+}
+
+// All answers of a row for k, seven numbers for each l from 0 to M: how many numbers, or refusal 1 to 10, 11, 13.
+#[no_mangle]
+pub extern "C" fn nuthatchet_all_answers(
+    row: &[u16],
+    k: usize,
+    out: &mut [u16],
+    place: &mut usize,
+    result: &mut usize,
+) -> usize
+    ensures { λ r. ⌜ TellsAll (now (row .entry)) k (now (out .entry)) (now (out .exit)) r (now (place .exit)) (now (result .exit)) ⌝ }
+{
+    let answer = answers::all_answers(row, k, out);
+    tell(answer, place, result)
+}
+
+// The slack of the second path of message m from place p, or refusal 1 to 10, 11.
+#[no_mangle]
+pub extern "C" fn nuthatchet_slack(
+    row: &[u16],
+    m: usize,
+    p: usize,
+    place: &mut usize,
+    slots: &mut i32,
+) -> usize
+    ensures { λ r. ⌜ TellsSlack (now (row .entry)) m p r (now (place .exit)) (now (slots .exit)) ⌝ }
+{
+    let spare = spare::slack(row, m, p);
+    match spare {
+        Spare::Slots(z) => {
+            *place = 0;
+            *slots = z;
+            0
+        }
+        Spare::Refused(r) => {
+            *place = r.place;
+            *slots = 0;
+            r.no
+        }
+    }
+}
+
+// What the replay program prints for a plan file and its input: how many bytes, or refusal 13.
+#[no_mangle]
+pub extern "C" fn nuthatchet_replay_text(
+    file: &[u8],
+    input: &[u8],
+    out: &mut [u8],
+    place: &mut usize,
+    result: &mut usize,
+) -> usize
+    ensures { λ r. ⌜ TellsText (replayText (now (file .entry)) (now (input .entry))) (now (out .entry)) (now (out .exit)) r (now (place .exit)) (now (result .exit)) ⌝ }
+{
+    let answer = replay_text::replay_text(file, input, out);
+    tell(answer, place, result)
+}
+
+// A plan file's row as a line of decimals, or the line of its refusal: how many bytes, or refusal 13.
+#[no_mangle]
+pub extern "C" fn nuthatchet_row_text(
+    file: &[u8],
+    out: &mut [u8],
+    place: &mut usize,
+    result: &mut usize,
+) -> usize
+    ensures { λ r. ⌜ TellsText (rowText (now (file .entry))) (now (out .entry)) (now (out .exit)) r (now (place .exit)) (now (result .exit)) ⌝ }
+{
+    let answer = row_text::row_text(file, out);
+    tell(answer, place, result)
+}
+
+// The plan file of the row that a text says: how many bytes, or refusal 1 to 10, 13.
+#[no_mangle]
+pub extern "C" fn nuthatchet_pack_text(
+    text: &[u8],
+    file: &mut [u8],
+    place: &mut usize,
+    result: &mut usize,
+) -> usize
+    ensures { λ r. ⌜ TellsWritten (numbersOf (now (text .entry))) (now (file .entry)) (now (file .exit)) r (now (place .exit)) (now (result .exit)) ⌝ }
+{
+    let answer = row_text::pack_text(text, file);
+    tell(answer, place, result)
+}

@@ -1,0 +1,5 @@
+pub mod Verdicts
+pub mod Slacks
+pub mod Room
+pub mod Composing
+pub mod Theorems

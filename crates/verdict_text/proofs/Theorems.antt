@@ -1,0 +1,180 @@
+-- What holds of the text that the verdict program prints: a file has one text, every text has room in 34,700 bytes, the first 7,349 bytes of
+-- a file decide it, and a call that prints it allows one outcome.
+use Prim.Native.Nat.{ℕ, zero, suc, _+_, _*_, _≤_, _<_}
+use mathlib.Core.Path.{_≡_, refl, sym, _∙_, ap, ap₂, subst}
+use mathlib.Core.Bool.{Bool, true, false}
+use mathlib.Core.List.{List, [], _++_}
+use native.Mathlib.Omega.{arith}
+use lib.ListN.{length, take, length-append}
+use lib.Seq.{take-all}
+use lib.Dec.{ltb}
+use borrow.Author.Tests.{ltb-true, ltb-false, le-leb}
+use Rattle.scope.specs.declared.Answer.{Answer}
+use Rattle.scope.specs.declared.Answer.the-variants.{Gives}
+use Rattle.scope.specs.Outcome.{Outcome, gives, refused, outcomeOf}
+use Rattle.scope.specs.File.{walkFile, rowOf}
+use Rattle.scope.specs.Plan.{Plan, planOf}
+use Rattle.scope.specs.Questions.{readFile}
+use Rattle.scope.specs.Lines.{VerdictLine, resistant, failing, failingLine, UnderK, VerdictLines, VerdictText, slackLines, highestK, refusedLine, longestRow}
+use Rattle.scope.proofs.Order.{first-once, resistant-or-failing}
+use Rattle.flow.specs.Longest.{longestFile}
+use Rattle.flow.proofs.Theorems.{file-most, front-decides}
+use Rattle.text.specs.Text.{laid}
+use Rattle.text.proofs.Decimal.{decimal-all}
+use Rattle.listing.specs.Prints.{Prints}
+use Rattle.listing.proofs.Printing.{prints-only, prints-as}
+use Rattle.plan.specs.Answers.{GoodRow}
+use Rattle.plan.proofs.Ways.{good-row}
+use Rattle.plan.proofs.Reading.{read-judged}
+use Rattle.verdict_text.specs.Layout.{LinesUnder, Lays, PrintsOne}
+use Rattle.verdict_text.proofs.Composing.{highest-few, lays-prints}
+use Rattle.verdict_text.proofs.Verdicts.{few-messages}
+use Rattle.verdict_text.proofs.Room.{resistant-size, failing-size, slacks-size}
+
+-- a verdict has one line
+line-once : (plan : Plan) (k l : ℕ) (a b : List ℕ) → VerdictLine plan k l a → VerdictLine plan k l b → a ≡ b
+line-once plan k l _ _ (resistant x) (resistant y) = refl
+line-once plan k l _ _ (resistant x) (failing {cuts} y) = absurd (resistant-or-failing plan k l cuts x y)
+line-once plan k l _ _ (failing {cuts} x) (resistant y) = absurd (resistant-or-failing plan k l cuts y x)
+line-once plan k l _ _ (failing {cuts} x) (failing {cuts = others} y) = ap (failingLine k l) (first-once plan k l cuts others x y)
+
+under-once : (plan : Plan) (k : ℕ) (Rest : List ℕ → Type 0) → ((a b : List ℕ) → Rest a → Rest b → a ≡ b) → (l n : ℕ) (a b : List ℕ) →
+    UnderK plan k Rest l n a → UnderK plan k Rest l n b → a ≡ b
+unfolding UnderK
+under-once plan k Rest once l zero a b u v = once a b u v
+under-once plan k Rest once l (suc n) a b u v =
+    u .3 ∙ ap₂ _++_ (line-once plan k l (u .0) (v .0) (u .2) (v .2)) (under-once plan k Rest once (l + 1) n (u .1) (v .1) (u .4) (v .4)) ∙ sym (v .3)
+
+lines-once : (plan : Plan) (k n : ℕ) (a b : List ℕ) → VerdictLines plan k n a → VerdictLines plan k n b → a ≡ b
+unfolding VerdictLines
+lines-once plan k zero a b u v = u ∙ sym v
+lines-once plan k (suc n) a b u v =
+    under-once plan k (VerdictLines plan (k + 1) n) (lines-once plan (k + 1) n) 0 (length (plan .messages) + 1) a b u v
+
+-- so a call of `lines_under` allows one outcome
+pub one-lines : (plan : Plan) (k most at next next′ : ℕ) (entry exit exit′ : List ℕ) → Lays (LinesUnder plan k) most entry exit at next →
+    Lays (LinesUnder plan k) most entry exit′ at next′ → (next ≡ next′) × (exit ≡ exit′)
+one-lines plan k most at next next′ entry exit exit′ p q =
+    let same : p .text ≡ q .text =
+    under-once plan k (λ (rest : List ℕ). rest ≡ []) (λ a b e f. e ∙ sym f) 0 (length (plan .messages) + 1) (p .text) (q .text) (p .kind) (q .kind) in (
+      p .puts .ends ∙ ap (λ (t : List ℕ). at + length t) same ∙ sym (q .puts .ends),
+      p .puts .buffer ∙ ap (laid entry at) same ∙ sym (q .puts .buffer),
+    )
+
+-- the text by what reading the file gives
+pub text-refused : (file text : List ℕ) (k p : ℕ) → readFile file longestRow ≡ refused k p → text ≡ refusedLine k p → VerdictText file text
+unfolding VerdictText
+text-refused file text k p e is = rw e is
+
+pub text-given : (file row text : List ℕ) (n : ℕ) → readFile file longestRow ≡ gives n → row ≡ rowOf file →
+    VerdictLines (planOf row) 0 (1 + highestK (planOf row)) text → VerdictText file text
+unfolding VerdictText
+text-given file row text n e is lines =
+    rw e (subst (λ (r : List ℕ). VerdictLines (planOf r) 0 (1 + highestK (planOf r)) text) is lines)
+
+back-refused : (file text : List ℕ) (k p : ℕ) → readFile file longestRow ≡ refused k p → VerdictText file text → text ≡ refusedLine k p
+unfolding VerdictText
+back-refused file text k p e v = rw e at v
+
+back-given : (file text : List ℕ) (n : ℕ) → readFile file longestRow ≡ gives n → VerdictText file text →
+    VerdictLines (planOf (rowOf file)) 0 (1 + highestK (planOf (rowOf file))) text
+unfolding VerdictText
+back-given file text n e v = rw e at v
+
+-- what is printed for a file
+pub prints-refused : (file entry exit : List ℕ) (r : Answer) (k p : ℕ) → readFile file longestRow ≡ refused k p → Prints (refusedLine k p) entry exit r →
+    PrintsOne (VerdictText file) entry exit r
+prints-refused file entry exit r k p e prints = record { text = refusedLine k p; kind = text-refused file (refusedLine k p) k p e refl; prints = prints }
+
+pub prints-given : (file row entry exit : List ℕ) (n count : ℕ) → readFile file longestRow ≡ gives n → row ≡ rowOf file → 34700 ≤ length entry →
+    Lays (VerdictLines (planOf row) 0 (1 + highestK (planOf row))) 34700 entry exit 0 count → PrintsOne (VerdictText file) entry exit (Gives count)
+prints-given file row entry exit n count e is room lays =
+    let p = lays-prints room lays in
+    record { text = p .text; kind = text-given file row (p .text) n e is (p .kind); prints = p .prints }
+
+-- a row that was read is good
+pub read-good : (file row : List ℕ) (n : ℕ) → readFile file longestRow ≡ gives n → row ≡ rowOf file → GoodRow row
+read-good file row n e is = subst GoodRow (sym is) (good-row (rowOf file) (length (rowOf file)) (read-judged file longestRow n e))
+
+-- a file has one text
+pub text-once : (file a b : List ℕ) → VerdictText file a → VerdictText file b → a ≡ b
+text-once file a b u v = by (readFile file longestRow) refl
+  where
+    by : (o : Outcome) → readFile file longestRow ≡ o → a ≡ b
+    by (refused k p) e = back-refused file a k p e u ∙ sym (back-refused file b k p e v)
+    by (gives n) e =
+        lines-once (planOf (rowOf file)) 0 (1 + highestK (planOf (rowOf file))) a b (back-given file a n e u) (back-given file b n e v)
+
+-- two outcomes that the promise of printing it allows are equal
+pub one-text : (file entry exit exit′ : List ℕ) (r r′ : Answer) →
+    PrintsOne (VerdictText file) entry exit r → PrintsOne (VerdictText file) entry exit′ r′ → (r ≡ r′) × (exit ≡ exit′)
+one-text file entry exit exit′ r r′ p q =
+    prints-only (prints-as (text-once file (p .text) (q .text) (p .kind) (q .kind)) (p .prints)) (q .prints)
+
+-- every text has room in `ROOM` bytes
+verdict-size : (plan : Plan) (k l : ℕ) (line : List ℕ) → k ≤ 3 → l < 100 → VerdictLine plan k l line → length line ≤ 131
+verdict-size plan k l _ h g (resistant x) = resistant-size k l (omega arith) g
+verdict-size plan k l _ h g (failing {cuts} x) = failing-size k l cuts (omega arith) g (omega (arith, x .few))
+
+under-size : (plan : Plan) (k most : ℕ) (Rest : List ℕ → Type 0) → k ≤ 3 → ((rest : List ℕ) → Rest rest → length rest ≤ most) →
+    (l n : ℕ) (text : List ℕ) → l + n ≤ 100 → UnderK plan k Rest l n text → length text ≤ 131 * n + most
+unfolding UnderK
+under-size plan k most Rest h rest l zero text few u = omega (arith, rest text u)
+under-size plan k most Rest h rest l (suc n) text few u =
+    let a = verdict-size plan k l (u .0) h (omega arith) (u .2) in
+    let b = under-size plan k most Rest h rest (l + 1) n (u .1) (omega arith) (u .4) in
+    let e = ap length (u .3) ∙ length-append (u .0) (u .1) in
+    omega arith
+
+lines-room : (plan : Plan) (k n : ℕ) (text : List ℕ) → k + n ≤ 4 → length (plan .messages) ≤ 32 → length (slackLines plan 0 (plan .messages)) ≤ 17408 →
+    VerdictLines plan k n text → length text ≤ 4323 * n + 17408
+unfolding VerdictLines
+lines-room plan k zero text h few slacks u = omega (arith, ap length u)
+lines-room plan k (suc n) text h few slacks u =
+    let r =
+    under-size plan k (4323 * n + 17408) (VerdictLines plan (k + 1) n) (omega arith) (λ rest v. lines-room plan (k + 1) n rest (omega arith) few slacks v)
+    0 (length (plan .messages) + 1) text (omega arith) u in
+    omega arith
+
+pub text-room : (file text : List ℕ) → VerdictText file text → length text ≤ 34700
+text-room file text v = by (readFile file longestRow) refl
+  where
+    by : (o : Outcome) → readFile file longestRow ≡ o → length text ≤ 34700
+    by (refused k p) e =
+        let a = decimal-all k in
+        let b = decimal-all p in
+        let size : length (refusedLine k p) ≤ 56 = simp length-append (omega arith) in
+        omega (arith, ap length (back-refused file text k p e v))
+    by (gives n) e =
+        let g = read-good file (rowOf file) n e refl in
+        let plan = planOf (rowOf file) in
+        let high = highest-few plan in
+        let r = lines-room plan 0 (1 + highestK plan) text (omega arith) (few-messages (rowOf file) g) (slacks-size (rowOf file) g) (back-given file text n e v) in
+        omega arith
+
+-- so a call with so much room is never refused for room
+pub never-short : (file entry exit : List ℕ) (r : Answer) → 34700 ≤ length entry → (p : PrintsOne (VerdictText file) entry exit r) →
+    outcomeOf r ≡ gives (length (p .text))
+never-short file entry exit r room p =
+    let fits : length (p .text) ≤ length entry = omega (arith, text-room file (p .text) (p .kind)) in
+    p .prints .answer ∙ rw (le-leb (length (p .text)) (length entry) fits)
+
+-- a file that is longer than the longest has a form that is refused, and so have its first bytes
+form-refused : (file : List ℕ) (k p : ℕ) → walkFile file ≡ refused k p → readFile file longestRow ≡ refused k p
+unfolding readFile
+form-refused file k p e = rw e
+
+pub front-prints : (file text : List ℕ) → VerdictText (take 7349 file) text → VerdictText file text
+front-prints file text v = by (ltb longestFile (length file)) refl
+  where
+    long : longestFile < length file → (o : Outcome) → walkFile file ≡ o → VerdictText file text
+    long l (gives end) e = absurd (let m = file-most file end e in omega arith)
+    long l (refused k p) e =
+        text-refused file text k p (form-refused file k p e)
+        (back-refused (take 7349 file) text k p (form-refused (take 7349 file) k p (front-decides file l ∙ e)) v)
+
+    by : (t : Bool) → ltb longestFile (length file) ≡ t → VerdictText file text
+    by true e = long (ltb-true longestFile (length file) e) (walkFile file) refl
+    by false e =
+        let l = ltb-false longestFile (length file) e in
+        subst (λ (f : List ℕ). VerdictText f text) (take-all 7349 file (omega arith)) v

@@ -1,0 +1,29 @@
+/* Which lists of at most K cuts a plan survives, at any slots: `verdict [PLAN [K]]`, plan.bin and 1 if not given. It prints a line for each l,
+   as the verdict program does. */
+#include "../../include/nuthatchet.h"
+
+#include <stdio.h>
+#include <stdlib.h>
+
+int main(int argc, char **argv) {
+    static uint8_t file[NUTHATCHET_FILE + 1]; /* a byte more than the longest plan, so that a longer file is seen to be too long */
+    static uint16_t row[NUTHATCHET_ROW];
+    uint16_t list[NUTHATCHET_LIST];
+    size_t place, numbers, pairs;
+
+    FILE *plan = fopen(argc > 1 ? argv[1] : "plan.bin", "rb");
+    size_t bytes = plan ? fread(file, 1, sizeof file, plan) : 0;
+    size_t k = argc > 2 ? strtoul(argv[2], NULL, 10) : 1;
+
+    size_t refused = nuthatchet_read_file(file, bytes, row, NUTHATCHET_ROW, &place, &numbers);
+    for (size_t l = 0; refused == 0 && l <= (size_t)row[3] + 1; l++) { /* row[3] is one less than the number of messages */
+        refused = nuthatchet_verdict(row, numbers, k, l, list, NUTHATCHET_LIST, &place, &pairs);
+        if (refused != 0) break;
+        printf("%zu %zu", k, l);
+        if (pairs == 0) printf(" resistant");
+        for (size_t i = 0; i < 2 * pairs; i++) printf(" %u", (unsigned)list[i]);
+        printf("\n");
+    }
+    if (refused != 0) printf("refused %zu place %zu\n", refused, place);
+    return 0;
+}

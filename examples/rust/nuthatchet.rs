@@ -1,0 +1,88 @@
+//! Nuthatchet for Rust: the declarations of include/nuthatchet.h, and a safe function over each, so that no pointer can lie.
+
+extern "C" {
+    fn nuthatchet_judge(row: *const u16, row_len: usize, place: *mut usize, result: *mut usize) -> usize;
+    fn nuthatchet_read_file(file: *const u8, file_len: usize, row: *mut u16, row_len: usize, place: *mut usize, result: *mut usize) -> usize;
+    fn nuthatchet_write_file(row: *const u16, row_len: usize, file: *mut u8, file_len: usize, place: *mut usize, result: *mut usize) -> usize;
+    fn nuthatchet_second_path(row: *const u16, row_len: usize, m: usize, p: usize, index: *mut usize) -> usize;
+    fn nuthatchet_replay(row: *const u16, row_len: usize, cuts: *const u16, cuts_len: usize, events: *mut u16, events_len: usize, place: *mut usize, result: *mut usize) -> usize;
+    fn nuthatchet_verdict(row: *const u16, row_len: usize, k: usize, l: usize, list: *mut u16, list_len: usize, place: *mut usize, pairs: *mut usize) -> usize;
+    fn nuthatchet_all_answers(row: *const u16, row_len: usize, k: usize, out: *mut u16, out_len: usize, place: *mut usize, result: *mut usize) -> usize;
+    fn nuthatchet_slack(row: *const u16, row_len: usize, m: usize, p: usize, place: *mut usize, slots: *mut i32) -> usize;
+    fn nuthatchet_replay_text(file: *const u8, file_len: usize, input: *const u8, input_len: usize, out: *mut u8, out_len: usize, place: *mut usize, result: *mut usize) -> usize;
+    fn nuthatchet_row_text(file: *const u8, file_len: usize, out: *mut u8, out_len: usize, place: *mut usize, result: *mut usize) -> usize;
+    fn nuthatchet_pack_text(text: *const u8, text_len: usize, file: *mut u8, file_len: usize, place: *mut usize, result: *mut usize) -> usize;
+}
+
+/// What is always enough room.
+pub const FILE: usize = 7348;
+pub const ROW: usize = 10405;
+pub const EVENTS: usize = 4096;
+pub const LIST: usize = 6;
+pub const ANSWERS: usize = 231;
+
+#[derive(Debug, Clone, Copy, PartialEq, Eq)]
+pub struct Refusal {
+    pub number: usize,
+    pub place: usize,
+}
+
+/// A result, or the refusal that stands in its place.
+fn told<T: Default>(ask: impl FnOnce(&mut usize, &mut T) -> usize) -> Result<T, Refusal> {
+    let (mut place, mut result) = (0, T::default());
+    match ask(&mut place, &mut result) {
+        0 => Ok(result),
+        number => Err(Refusal { number, place }),
+    }
+}
+
+pub fn judge(row: &[u16]) -> Result<usize, Refusal> {
+    told(|place, result| unsafe { nuthatchet_judge(row.as_ptr(), row.len(), place, result) })
+}
+
+pub fn read_file(file: &[u8], row: &mut [u16]) -> Result<usize, Refusal> {
+    told(|place, result| unsafe { nuthatchet_read_file(file.as_ptr(), file.len(), row.as_mut_ptr(), row.len(), place, result) })
+}
+
+pub fn write_file(row: &[u16], file: &mut [u8]) -> Result<usize, Refusal> {
+    told(|place, result| unsafe { nuthatchet_write_file(row.as_ptr(), row.len(), file.as_mut_ptr(), file.len(), place, result) })
+}
+
+pub fn second_path(row: &[u16], m: usize, p: usize) -> &[u16] {
+    let mut index = 0;
+    let links = unsafe { nuthatchet_second_path(row.as_ptr(), row.len(), m, p, &mut index) };
+    &row[index..index + links]
+}
+
+pub fn replay(row: &[u16], cuts: &[u16], events: &mut [u16]) -> Result<usize, Refusal> {
+    told(|place, result| unsafe {
+        nuthatchet_replay(row.as_ptr(), row.len(), cuts.as_ptr(), cuts.len(), events.as_mut_ptr(), events.len(), place, result)
+    })
+}
+
+/// 0 if resistant, or how many pairs the first failing list has, at the front of `list`.
+pub fn verdict(row: &[u16], k: usize, l: usize, list: &mut [u16]) -> Result<usize, Refusal> {
+    told(|place, pairs| unsafe { nuthatchet_verdict(row.as_ptr(), row.len(), k, l, list.as_mut_ptr(), list.len(), place, pairs) })
+}
+
+pub fn all_answers(row: &[u16], k: usize, out: &mut [u16]) -> Result<usize, Refusal> {
+    told(|place, result| unsafe { nuthatchet_all_answers(row.as_ptr(), row.len(), k, out.as_mut_ptr(), out.len(), place, result) })
+}
+
+pub fn slack(row: &[u16], m: usize, p: usize) -> Result<i32, Refusal> {
+    told(|place, slots| unsafe { nuthatchet_slack(row.as_ptr(), row.len(), m, p, place, slots) })
+}
+
+pub fn replay_text(file: &[u8], input: &[u8], out: &mut [u8]) -> Result<usize, Refusal> {
+    told(|place, result| unsafe {
+        nuthatchet_replay_text(file.as_ptr(), file.len(), input.as_ptr(), input.len(), out.as_mut_ptr(), out.len(), place, result)
+    })
+}
+
+pub fn row_text(file: &[u8], out: &mut [u8]) -> Result<usize, Refusal> {
+    told(|place, result| unsafe { nuthatchet_row_text(file.as_ptr(), file.len(), out.as_mut_ptr(), out.len(), place, result) })
+}
+
+pub fn pack_text(text: &[u8], file: &mut [u8]) -> Result<usize, Refusal> {
+    told(|place, result| unsafe { nuthatchet_pack_text(text.as_ptr(), text.len(), file.as_mut_ptr(), file.len(), place, result) })
+}

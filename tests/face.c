@@ -1,0 +1,144 @@
+/* The probe of docs/TESTING.md once more, through include/nuthatchet.h: a question a line, an answer a line. `judge` and `all_answers`, which the
+   probe does not ask, are asked beside `write` and `verdict`, and an answer that does not fit says so. With words it lays out a text: `face replay PLAN`
+   and `face pack` take standard input, `face row PLAN` does not. */
+#include "../include/nuthatchet.h"
+
+#include <stdio.h>
+#include <stdlib.h>
+#include <string.h>
+
+enum { MOST = 70000 };
+static char line[8 * MOST];
+static uint16_t numbers[MOST], row16[MOST];
+static uint8_t bytes[MOST], row8[MOST];
+static size_t count, place, result;
+
+/* the decimals of a line, each 16 bits: how many, or -1 */
+static int read_numbers(char *at) {
+    count = 0;
+    while (*at == ' ') {
+        char *end = at + 1;
+        unsigned long n = 0;
+        while (*end >= '0' && *end <= '9' && n < 65536) n = 10 * n + (unsigned long)(*end++ - '0');
+        if (end == at + 1 || n > 65535) return -1;
+        numbers[count++] = (uint16_t)n;
+        at = end;
+    }
+    return *at == '\0' ? (int)count : -1;
+}
+
+static int digit(char c) { return c >= '0' && c <= '9' ? c - '0' : c >= 'a' && c <= 'f' ? c - 'a' + 10 : -1; }
+
+static int read_bytes(char *at) {
+    count = 0;
+    if (strcmp(at, "-") == 0) return 0;
+    while (at[0] != '\0') {
+        if (digit(at[0]) < 0 || digit(at[1]) < 0) return -1;
+        bytes[count++] = (uint8_t)(16 * digit(at[0]) + digit(at[1]));
+        at += 2;
+    }
+    return count == 0 ? -1 : (int)count;
+}
+
+static void put_numbers(const uint16_t *n, size_t many) { for (size_t i = 0; i < many; i++) printf(" %u", (unsigned)n[i]); }
+
+/* what stands outside the written part is as it was */
+static void put_end(size_t written, size_t room, int wide) {
+    int spoilt = 0;
+    for (size_t i = written; i < room + 8; i++) spoilt |= wide ? row16[i] != 0xA5A5 : row8[i] != 0xA5;
+    puts(spoilt ? " spoilt" : "");
+}
+
+static void lend(size_t room) { /* eight more than is lent, to see that none of them is touched */
+    for (size_t i = 0; i < room + 8; i++) row16[i] = 0xA5A5, row8[i] = 0xA5;
+}
+
+static int refused(size_t number) {
+    if (number != 0) printf("refused %zu place %zu%s", number, place, result == 0 ? "" : " with a result");
+    else if (place != 0) printf("a place and no refusal ");
+    return number != 0;
+}
+
+/* the seven numbers for l, or the refusal, of all answers */
+static int fits(const uint16_t *row, size_t many, size_t k, size_t l, size_t number, size_t pairs) {
+    uint16_t out[NUTHATCHET_ANSWERS];
+    size_t p, n, said = nuthatchet_all_answers(row, many, k, out, NUTHATCHET_ANSWERS, &p, &n);
+    if (number == 13 || (number == 11 && k <= 3)) return 1;
+    if (said != number || number != 0) return said == number && p == place && n == 0;
+    if (n < 7 * (l + 1) || out[7 * l] != (pairs == 0 ? 0 : pairs + 1)) return 0;
+    for (size_t i = 0; i < 6; i++) if (out[7 * l + 1 + i] != (i < 2 * pairs ? row16[i] : 0)) return 0;
+    return 1;
+}
+
+static void answer(void) {
+    size_t room = 0, number, n;
+    char *hex = strchr(line, ' ');
+    hex = hex ? strchr(hex + 1, ' ') : NULL;
+    if (strncmp(line, "read ", 5) == 0 && hex && (*hex = '\0', read_numbers(line + 4) == 1) && (room = numbers[0], read_bytes(hex + 1) >= 0)) {
+        lend(room);
+        if (refused(nuthatchet_read_file(bytes, count, row16, room, &place, &result))) { put_end(0, room, 1); return; }
+        printf("ok %zu", result);
+        put_numbers(row16, result);
+        put_end(result, room, 1);
+    } else if (strncmp(line, "write ", 6) == 0 && read_numbers(line + 5) >= 1) {
+        lend(room = numbers[0]);
+        size_t p, judged = nuthatchet_judge(numbers + 1, count - 1, &p, &n);
+        number = nuthatchet_write_file(numbers + 1, count - 1, row8, room, &place, &result);
+        if (number == 0 || number == 13 ? judged != 0 || p != 0 || n != count - 1 : judged != number || p != place || n != 0) printf("judge differs ");
+        if (refused(number)) { put_end(0, room, 0); return; }
+        printf("ok %zu ", result);
+        for (size_t i = 0; i < result; i++) printf("%02x", row8[i]);
+        put_end(result, room, 0);
+    } else if (strncmp(line, "replay ", 7) == 0 && read_numbers(line + 6) >= 2 && numbers[1] <= count - 2) {
+        lend(room = numbers[0]);
+        uint16_t *row = numbers + 2 + numbers[1];
+        if (refused(nuthatchet_replay(row, count - 2 - numbers[1], numbers + 2, numbers[1], row16, room, &place, &result))) { put_end(0, room, 1); return; }
+        n = 2 * ((size_t)row[3] + 1) * ((size_t)row[4] + 1);
+        printf("ok %zu", result);
+        put_numbers(row16, n);
+        put_end(n, room, 1);
+    } else if (strncmp(line, "verdict ", 8) == 0 && read_numbers(line + 7) >= 3) {
+        lend(room = numbers[2]);
+        number = nuthatchet_verdict(numbers + 3, count - 3, numbers[0], numbers[1], row16, room, &place, &result);
+        if ((numbers[0] < 2 || numbers[0] > 3) && !fits(numbers + 3, count - 3, numbers[0], numbers[1], number, result)) printf("all answers differ ");
+        if (refused(number)) { put_end(0, room, 1); return; }
+        if (result == 0) printf("ok resistant");
+        else printf("ok failing %zu", result), put_numbers(row16, 2 * result);
+        put_end(2 * result, room, 1);
+    } else if (strncmp(line, "slack ", 6) == 0 && read_numbers(line + 5) >= 2) {
+        int32_t slots;
+        number = nuthatchet_slack(numbers + 2, count - 2, numbers[0], numbers[1], &place, &slots);
+        result = slots != 0 && number != 0;
+        if (!refused(number)) printf("ok %d", (int)slots);
+        puts("");
+    } else if (strncmp(line, "second ", 7) == 0 && read_numbers(line + 6) >= 2) {
+        size_t index, links = nuthatchet_second_path(numbers + 2, count - 2, numbers[0], numbers[1], &index);
+        printf("part %zu", links);
+        put_numbers(numbers + 2 + index, links);
+        puts("");
+    } else puts("?");
+}
+
+static uint8_t plan[MOST], input[MOST], text[MOST];
+
+static int lay_text(const char *which, const char *path) {
+    FILE *file = path ? fopen(path, "rb") : NULL;
+    size_t long_plan = file ? fread(plan, 1, MOST, file) : 0, long_input = 0, number = 0;
+    if (strcmp(which, "row") != 0) long_input = fread(input, 1, MOST, stdin);
+    if (strcmp(which, "replay") == 0) number = nuthatchet_replay_text(plan, long_plan, input, long_input, text, MOST, &place, &result);
+    else if (strcmp(which, "row") == 0) number = nuthatchet_row_text(plan, long_plan, text, MOST, &place, &result);
+    else number = nuthatchet_pack_text(input, long_input, text, MOST, &place, &result);
+    if (!refused(number)) fwrite(text, 1, result, stdout);
+    else puts("");
+    return 0;
+}
+
+int main(int argc, char **argv) {
+    if (argc > 1) return lay_text(argv[1], argc > 2 ? argv[2] : NULL);
+    setvbuf(stdout, NULL, _IOLBF, 1 << 16);
+    while (fgets(line, sizeof line, stdin)) {
+        line[strcspn(line, "\n")] = '\0';
+        answer();
+    }
+    return 0;
+}
