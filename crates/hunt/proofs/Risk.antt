@@ -43,7 +43,7 @@ risk-some mark p h g = rw (ne-eqb (p .left) 0 h, lt-ltb 0 mark (omega (arith, g)
 pub by-marks : (table cuts marks : List ℕ) (ps : List Position) (n : ℕ) → Marks table cuts marks → n ≤ 32 → atRisk marks ps n ≡ risks table cuts ps n
 by-marks table cuts marks ps n m few =
     sum-same (λ k. riskIf (getD marks (k + 1) 0) (getD ps k home)) (λ k. riskIf (harm (entryFrom table (k + 1)) cuts (pairs cuts)) (getD ps k home)) n
-    (λ k l. ap (λ (w : ℕ). riskIf w (getD ps k home)) (m .is (k + 1) (omega arith)))
+    (λ k l. ap (λ (b : Bool). one (b && not (eqb (getD ps k home .left) 0))) (m .is (k + 1) (omega arith)))
 
 module _ (row table : List ℕ) (a : Asked) (p : Picked) (y : Playable row table a) (h : Holding row a p) (s : ℕ) (ps : List Position)
     (stand : StandAt row (a .messages) (cutsOf p) s ps) where
@@ -106,7 +106,6 @@ may-mark-all table p m =
     record {
       entries = m .entries;
       even = omega arith;
-      few = omega (arith, m .few);
       slots = m .slots;
       links = m .links;
       long = length-replicate {A = ℕ} 256 0;

@@ -1,9 +1,9 @@
--- The marks that a search makes: for each entry of the table, how often it stands on the link of a pair in the pair's slot or later.
+-- The marks that a search makes: an entry of the table is marked that stands on the link of a pair in the pair's slot or later.
 use Prim.Native.Nat.{ℕ, _+_, _-_, _*_, _≤_, _<_}
 use mathlib.Core.Path.{_≡_}
 use mathlib.Core.List.{List}
 use lib.ListN.{length, getD}
-use lib.Dec.{eqb}
+use lib.Dec.{ltb, eqb}
 use Rattle.scope.specs.Cuts.{pairs, cutSlot, cutLink}
 use Rattle.touch.specs.Sums.{sum, one}
 use Rattle.touch.specs.Touch.{harm}
@@ -12,29 +12,28 @@ use Rattle.touch.specs.Touch.{harm}
 abbrev pub entryFrom : List ℕ → ℕ → ℕ → ℕ → ℕ
 entryFrom table w s e = sum (λ i. one (eqb (getD table ((s + i) * 64 + e) 0) w)) (64 - s)
 
--- there is room for 64 marks more
+-- a pair may be marked
 pub record MayMark (table : List ℕ) (s e : ℕ) (marks : List ℕ) : Type 0 where
   pub entries : length table ≡ 4096
   pub slot : s ≤ 64
   pub link : e < 64
   pub long : length marks ≡ 256
-  pub room : (w : ℕ) → getD marks w 0 + 64 < 256
 
+-- marked is what was, and what the pair adds
 pub record Marked (table : List ℕ) (s e : ℕ) (old new : List ℕ) : Type 0 where
   pub long : length new ≡ 256
-  pub is : (w : ℕ) → w < 256 → getD new w 0 ≡ getD old w 0 + entryFrom table w s e
-  pub small : (w : ℕ) → getD new w 0 ≤ getD old w 0 + 64
+  pub is : (w : ℕ) → w < 256 → ltb 0 (getD new w 0) ≡ ltb 0 (getD old w 0 + entryFrom table w s e)
 
--- a list of at most three pairs may be marked
+-- all pairs of a list may be marked, and nothing is
 pub record MayMarkAll (table cuts marks : List ℕ) : Type 0 where
   pub entries : length table ≡ 4096
   pub even : length cuts ≡ 2 * pairs cuts
-  pub few : pairs cuts ≤ 3
   pub slots : (j : ℕ) → j < pairs cuts → cutSlot cuts j ≤ 64
   pub links : (j : ℕ) → j < pairs cuts → cutLink cuts j < 64
   pub long : length marks ≡ 256
   pub none : (w : ℕ) → getD marks w 0 ≡ 0
 
+-- marked is what the list's pairs add
 pub record Marks (table cuts marks : List ℕ) : Type 0 where
   pub long : length marks ≡ 256
-  pub is : (w : ℕ) → w < 256 → getD marks w 0 ≡ harm (entryFrom table w) cuts (pairs cuts)
+  pub is : (w : ℕ) → w < 256 → ltb 0 (getD marks w 0) ≡ ltb 0 (harm (entryFrom table w) cuts (pairs cuts))

@@ -56,7 +56,7 @@ pub fn need(messages: usize, least: usize) -> usize
     messages + 1 - least
 }
 
-// One mark more for each entry that stands on link e in slot s or later.
+// Marks each entry that stands on link e in slot s or later.
 fn mark(table: &[u8], s: usize, e: usize, marks: &mut [u8])
     requires { ⌜ MayMark (now table) s e (now marks) ⌝ }
     ensures { λ _. ⌜ Marked (now (table .entry)) s e (now (marks .entry)) (now (marks .exit)) ⌝ }
@@ -64,7 +64,7 @@ fn mark(table: &[u8], s: usize, e: usize, marks: &mut [u8])
     let mut i = s;
     while i < 64 {
         let w = table[i * 64 + e] as usize;
-        marks[w] = marks[w] + 1;
+        marks[w] = 1;
         i += 1;
     }
 }

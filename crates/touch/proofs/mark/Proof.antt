@@ -2,8 +2,7 @@
 use Prim.Native.Nat.{_+_, _-_, _*_}
 use native.Mathlib.Omega.{arith}
 use mathlib.Core.Path.{refl}
-use lib.ListN.{getD}
-use Rattle.touch.proofs.Marking.{Marking, marking-none, mark-fits, marking-more, marking-done}
+use Rattle.touch.proofs.Marking.{Marking, marking-none, marking-more, marking-done}
 use borrow.Author.Needs.{needs}
 use Rattle.touch.proofs.mark.Statement.{statement}
 use Rattle.touch.proofs.mark.Tie as tie
@@ -36,17 +35,9 @@ shared-slice-read-w c = search needs
 cast-w : tie.Need-cast-w Inv-loop μ-loop
 cast-w c = omega (arith, c .shared-slice-known .given (c .before .before .loop .i * 64 + c .before .before .before .args .e))
 
--- src/lib.rt:67:20
-slice-read-marks : tie.Need-slice-read-marks Inv-loop μ-loop
-slice-read-marks c = omega (arith, c .before .shared-slice-known .given (c .before .before .before .loop .i * 64 + c .before .before .before .before .args .e), c .before .before .before .loop .inv .long)
-
--- src/lib.rt:67:20
-add-marks : tie.Need-add-marks Inv-loop μ-loop
-add-marks c = omega (arith, mark-fits _ _ _ _ (c .before .before .before .before .pre) _ _ (c .before .before .before .loop .inv) (getD (c .before .before .before .before .args .table .now) (c .before .before .before .loop .i * 64 + c .before .before .before .before .args .e) 0) (c .before .before .loop-test .taken))
-
 -- src/lib.rt:67:9
 slice-write-marks : tie.Need-slice-write-marks Inv-loop μ-loop
-slice-write-marks c = omega (arith, c .before .shared-slice-known .given (c .before .before .before .loop .i * 64 + c .before .before .before .before .args .e), c .before .before .before .loop .inv .long)
+slice-write-marks c = omega (arith, c .shared-slice-known .given (c .before .before .loop .i * 64 + c .before .before .before .args .e), c .before .before .loop .inv .long)
 
 -- src/lib.rt:68:9
 add-i : tie.Need-add-i Inv-loop μ-loop
@@ -58,7 +49,7 @@ loop-less c = search needs
 
 -- src/lib.rt:65:5
 loop-again : tie.Need-loop-again Inv-loop μ-loop
-loop-again c = marking-more _ _ _ _ (c .before .before .before .before .pre) _ _ (c .before .before .before .loop .inv) _ (c .before .before .loop-test .taken) (omega (arith, c .before .shared-slice-known .given (c .before .before .before .loop .i * 64 + c .before .before .before .before .args .e))) refl
+loop-again c = marking-more _ _ _ _ (c .before .before .before .pre) _ _ (c .before .before .loop .inv) _ (c .before .loop-test .taken) (omega (arith, c .shared-slice-known .given (c .before .before .loop .i * 64 + c .before .before .before .args .e))) refl
 
 -- src/lib.rt:60:1
 same-length : tie.Need-same-length Inv-loop μ-loop
@@ -79,8 +70,6 @@ mark-spec =
     add-w
     shared-slice-read-w
     cast-w
-    slice-read-marks
-    add-marks
     slice-write-marks
     add-i
     loop-less
