@@ -15,7 +15,7 @@ use Rattle.scope.proofs.Cuts.{link-below}
 use Rattle.laws.proofs.Cuts.{not-cut}
 use Rattle.cuts.specs.From.{never, downOf}
 use Rattle.step.specs.declared.Position as P
-use Rattle.touch.specs.Sums.{sum}
+use Rattle.touch.specs.Sums.{sumOf}
 use Rattle.cycle.specs.Stand.{positionsOf, Become}
 use Rattle.cycle.specs.Slot.{ownerOf}
 use Rattle.cycle.specs.Play.{endsWith}
@@ -102,7 +102,7 @@ module _ (row table marks : List ℕ) (a : Asked) (ps : List P.Position) (p : Pi
     -- too few can be lost
     pub ends-light : (r : Found) (risk : ℕ) → r .found ≡ false → length (r .numbers) ≡ 6 → risk ≡ atRisk marks qs (a .messages) → risk < a .need →
         Sought row (a .least) p 0 r
-    unfolding sum
+    unfolding sumOf
     ends-light r risk t long is light =
         record {
           long = long;

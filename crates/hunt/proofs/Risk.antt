@@ -19,7 +19,7 @@ use Rattle.step.specs.Where.{positionOf}
 use Rattle.step.proofs.Steps.{home-is}
 use Rattle.cycle.specs.Stand.{home}
 use Rattle.cycle.specs.Slot.{ownerOf}
-use Rattle.touch.specs.Sums.{sum, one}
+use Rattle.touch.specs.Sums.{sumOf, oneIf}
 use Rattle.touch.specs.Touch.{harm}
 use Rattle.touch.specs.Harmed.{hers, harmed}
 use Rattle.touch.specs.Marks.{entryFrom, MayMarkAll, Marks}
@@ -43,17 +43,17 @@ risk-some mark p h g = rw (ne-eqb (p .left) 0 h, lt-ltb 0 mark (omega (arith, g)
 pub by-marks : (table cuts marks : List ℕ) (ps : List Position) (n : ℕ) → Marks table cuts marks → n ≤ 32 → atRisk marks ps n ≡ risks table cuts ps n
 by-marks table cuts marks ps n m few =
     sum-same (λ k. riskIf (getD marks (k + 1) 0) (getD ps k home)) (λ k. riskIf (harm (entryFrom table (k + 1)) cuts (pairs cuts)) (getD ps k home)) n
-    (λ k l. ap (λ (b : Bool). one (b && not (eqb (getD ps k home .left) 0))) (m .is (k + 1) (omega arith)))
+    (λ k l. ap (λ (b : Bool). oneIf (b && not (eqb (getD ps k home .left) 0))) (m .is (k + 1) (omega arith)))
 
 module _ (row table : List ℕ) (a : Asked) (p : Picked) (y : Playable row table a) (h : Holding row a p) (s : ℕ) (ps : List Position)
     (stand : StandAt row (a .messages) (cutsOf p) s ps) where
   -- the table says what the plan says
   entry-is : (m i e : ℕ) → e < 64 → entryFrom table (m + 1) i e ≡ hers (tableOf (planOf row)) m i e
   entry-is m i e l =
-      sum-same (λ k. one (eqb (getD table ((i + k) * 64 + e) 0) (m + 1))) (λ k. one (eqb (tableOf (planOf row) (i + k) e) (m + 1))) (64 - i)
+      sum-same (λ k. oneIf (eqb (getD table ((i + k) * 64 + e) 0) (m + 1))) (λ k. oneIf (eqb (tableOf (planOf row) (i + k) e) (m + 1))) (64 - i)
       (λ k g.
       let whole : ownerOf table (i + k) e ≡ getD table ((i + k) * 64 + e) 0 = rw (lt-ltb e 64 l) in
-      ap (λ (w : ℕ). one (eqb w (m + 1))) (sym whole ∙ ap (λ (f : ℕ → ℕ). f e) (y .owner (i + k) (omega arith))))
+      ap (λ (w : ℕ). oneIf (eqb w (m + 1))) (sym whole ∙ ap (λ (f : ℕ → ℕ). f e) (y .owner (i + k) (omega arith))))
 
   touched-is : (m : ℕ) → harm (entryFrom table (m + 1)) (cutsOf p) (pairs (cutsOf p)) ≡ harm (hers (tableOf (planOf row)) m) (cutsOf p) (pairs (cutsOf p))
   touched-is m =
@@ -73,14 +73,14 @@ module _ (row table : List ℕ) (a : Asked) (p : Picked) (y : Playable row table
   pub risks-are : risks table (cutsOf p) ps (a .messages) ≡ harmed (planOf row) (cutsOf p) s
   risks-are =
       sum-same (λ m. riskIf (harm (entryFrom table (m + 1)) (cutsOf p) (pairs (cutsOf p))) (getD ps m home))
-      (λ m. one (ltb 0 (harm (hers (tableOf (planOf row)) m) (cutsOf p) (pairs (cutsOf p))) &&
+      (λ m. oneIf (ltb 0 (harm (hers (tableOf (planOf row)) m) (cutsOf p) (pairs (cutsOf p))) &&
       not (S.atTarget (L.positionOf m (positions byNumber (isCut (cutsOf p)) (tableOf (planOf row)) 0 s (start (planOf row))))))) (a .messages)
       (λ m l.
       let q : Position = getD ps m home in
       let there : eqb (q .left) 0 ≡ S.atTarget (L.positionOf m (positions byNumber (isCut (cutsOf p)) (tableOf (planOf row)) 0 s (start (planOf row)))) =
       home-is row (q .at) (q .left) (q .turned) ∙ ap S.atTarget (sym (stands-at m l)) in
-      ap₂ (λ (w : ℕ) (b : Bool). one (ltb 0 w && not b)) (touched-is m) there) ∙
-      ap (sum (λ m. one (ltb 0 (harm (hers (tableOf (planOf row)) m) (cutsOf p) (pairs (cutsOf p))) &&
+      ap₂ (λ (w : ℕ) (b : Bool). oneIf (ltb 0 w && not b)) (touched-is m) there) ∙
+      ap (sumOf (λ m. oneIf (ltb 0 (harm (hers (tableOf (planOf row)) m) (cutsOf p) (pairs (cutsOf p))) &&
       not (S.atTarget (L.positionOf m (positions byNumber (isCut (cutsOf p)) (tableOf (planOf row)) 0 s (start (planOf row)))))))) (y .messages)
 
 -- counted by their marks
@@ -124,12 +124,12 @@ pub record Counting (marks : List ℕ) (ps : List Position) (n k count : ℕ) : 
   pub small : count ≤ k
   pub long : length ps ≡ 32
 
-one-less : (b : Bool) → one b ≤ 1
+one-less : (b : Bool) → oneIf b ≤ 1
 one-less true = omega arith
 one-less false = omega arith
 
 pub counting-none : (marks : List ℕ) (ps : List Position) (n : ℕ) → length ps ≡ 32 → Counting marks ps n 0 0
-unfolding sum
+unfolding sumOf
 counting-none marks ps n l = record { few = omega arith; is = refl; small = omega arith; long = l }
 
 module _ (marks : List ℕ) (ps : List Position) (n k count : ℕ) (g : Counting marks ps n k count) where
@@ -137,7 +137,7 @@ module _ (marks : List ℕ) (ps : List Position) (n k count : ℕ) (g : Counting
   risk-small v q e = omega (arith, one-less (ltb 0 (getD marks (k + 1) 0) && not (eqb (q .left) 0)))
 
   pub counting-more : (v : ℕ) → k < n → v ≡ riskIf (getD marks (k + 1) 0) (getD ps k home) → Counting marks ps n (k + 1) (count + v)
-  unfolding sum
+  unfolding sumOf
   counting-more v h e =
       let s : k + 1 ≡ suc k = omega arith in
       record {

@@ -10,7 +10,7 @@ use Rattle.scope.specs.Plan.{Plan}
 use Rattle.scope.specs.Cuts.{pairs, cutSlot, cutLink, isCutList}
 use Rattle.scope.specs.Cycle.{arrivals}
 use Rattle.scope.proofs.Cuts.{slot-below, link-below}
-use Rattle.touch.specs.Sums.{sum}
+use Rattle.touch.specs.Sums.{sumOf}
 use Rattle.touch.specs.Touch.{harm}
 use Rattle.touch.specs.Harmed.{harmed, NotBefore}
 use Rattle.touch.specs.Bound.{weightIn, Bound}
@@ -35,14 +35,14 @@ module _ (plan : Plan) (l need : ℕ) (weights most : List ℕ) (bound : Bound p
         bound .later s (cutSlot x j) (cutLink x j) low (omega (arith, high, slot-right pre x d long j)) (omega (arith, far, link-right pre x d long j))
 
     all-weigh : NotBefore s x n → (k : ℕ) → k ≤ n → harm (weightIn weights) x k ≤ k * getD most s 0
-    unfolding sum
+    unfolding sumOf
     all-weigh later zero h = omega arith
     all-weigh later (suc k) h =
         omega (arith, all-weigh later k (omega arith), one-pair k (omega arith) (later k (omega arith)), suc-mul k (getD most s 0))
 
     -- the first pair by its own weight
     then-weigh : NotBefore s x n → (k : ℕ) → k < n → harm (weightIn weights) x (suc k) ≤ weightIn weights (cutSlot x 0) (cutLink x 0) + k * getD most s 0
-    unfolding sum
+    unfolding sumOf
     then-weigh later zero h = omega arith
     then-weigh later (suc k) h =
         omega (arith, then-weigh later k (omega arith), one-pair (suc k) h (later (suc k) h), suc-mul k (getD most s 0))

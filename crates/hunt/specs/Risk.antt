@@ -9,7 +9,7 @@ use lib.Dec.{ltb, eqb}
 use Rattle.scope.specs.Cuts.{pairs, cutSlot, cutLink}
 use Rattle.step.specs.declared.Position.{Position}
 use Rattle.cycle.specs.Stand.{home}
-use Rattle.touch.specs.Sums.{sum, one}
+use Rattle.touch.specs.Sums.{sumOf, oneIf}
 use Rattle.touch.specs.Touch.{harm}
 use Rattle.touch.specs.Marks.{entryFrom}
 use Rattle.hunt.specs.declared.Picked.{Picked}
@@ -17,15 +17,15 @@ use Rattle.hunt.specs.Hunt.{cutsOf}
 
 -- one for a message that is marked and not at its target
 abbrev pub riskIf : ℕ → Position → ℕ
-riskIf mark p = one (ltb 0 mark && not (eqb (p .left) 0))
+riskIf mark p = oneIf (ltb 0 mark && not (eqb (p .left) 0))
 
 -- of the first n messages, by their marks
 abbrev pub atRisk : List ℕ → List Position → ℕ → ℕ
-atRisk marks ps n = sum (λ m. riskIf (getD marks (m + 1) 0) (getD ps m home)) n
+atRisk marks ps n = sumOf (λ m. riskIf (getD marks (m + 1) 0) (getD ps m home)) n
 
 -- and by what a list touches
 abbrev pub risks : List ℕ → List ℕ → List Position → ℕ → ℕ
-risks table cuts ps n = sum (λ m. riskIf (harm (entryFrom table (m + 1)) cuts (pairs cuts)) (getD ps m home)) n
+risks table cuts ps n = sumOf (λ m. riskIf (harm (entryFrom table (m + 1)) cuts (pairs cuts)) (getD ps m home)) n
 
 -- the pairs picked may be marked
 pub record MayMarkPicked (table : List ℕ) (p : Picked) : Type 0 where

@@ -12,7 +12,7 @@ use Rattle.scope.specs.Cuts.{pairs, cutSlot, cutLink}
 use Rattle.scope.specs.Cycle.{tableOf}
 use Rattle.scope.proofs.Cuts.{slot-below, link-below}
 use Rattle.table.specs.Table.{Table}
-use Rattle.touch.specs.Sums.{one}
+use Rattle.touch.specs.Sums.{oneIf}
 use Rattle.touch.specs.Bound.{weightIn, Bound}
 use Rattle.touch.specs.Touch.{harm, touches}
 use Rattle.touch.specs.Weights.{entriesFrom, Weighs, Tops}
@@ -25,10 +25,10 @@ weight-is : (owner : ℕ → ℕ → ℕ) (table weights : List ℕ) → Table o
     touches owner s e ≡ weightIn weights s e
 weight-is owner table weights t w s e hs he =
     let k : (s * 64 + e) / 64 ≡ s = omega arith in
-    sum-same (λ i. one (ltb 0 (owner (s + i) e))) (λ i. one (ltb 0 (getD table (s * 64 + e + i * 64) 0))) (64 - s)
+    sum-same (λ i. oneIf (ltb 0 (owner (s + i) e))) (λ i. oneIf (ltb 0 (getD table (s * 64 + e + i * 64) 0))) (64 - s)
     (λ i l.
     let j : (s + i) * 64 + e ≡ s * 64 + e + i * 64 = omega arith in
-    ap (λ (x : ℕ). one (ltb 0 x)) (sym (t .is (s + i) e (omega arith) he) ∙ ap (λ (x : ℕ). getD table x 0) j)) ∙
+    ap (λ (x : ℕ). oneIf (ltb 0 x)) (sym (t .is (s + i) e (omega arith) he) ∙ ap (λ (x : ℕ). getD table x 0) j)) ∙
     ap (λ (n : ℕ). entriesFrom table (64 - n) (s * 64 + e)) (sym k) ∙ sym (w .is (s * 64 + e) (omega arith))
 
 pub bound : (plan : Plan) (l need : ℕ) (table weights most : List ℕ) → rules plan ≡ gives 0 → plan .timeout ≤ 64 → length (plan .links) ≤ 64 →

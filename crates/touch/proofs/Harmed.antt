@@ -20,7 +20,7 @@ use Rattle.laws.proofs.Table.{table-gives}
 use Rattle.laws.proofs.Untouched.{untouched-arrives}
 use Rattle.laws.proofs.Turned.{at-target-stays}
 use Rattle.laws.proofs.Replay.{lengths-kept, positions-follow, depends-on-these-slots}
-use Rattle.touch.specs.Sums.{sum, one}
+use Rattle.touch.specs.Sums.{sumOf, oneIf}
 use Rattle.touch.specs.Touch.{harm}
 use Rattle.touch.specs.Harmed.{hers, isTouched, stands, harmed, NotBefore, LosesNoMoreFrom}
 use Rattle.touch.proofs.Sums.{sum-le, sum-ones, sum-plus}
@@ -57,28 +57,28 @@ module _ (plan : Plan) (pre x : List ℕ) (d n s : ℕ) (g : rules plan ≡ give
       (List·getD-map onFirst (plan .messages) m []) (good-rises plan g m)
       (unharmed (tableOf plan) (plan .timeout) m 0 (pre ++ x) (pathOf plan m) small (good-rises plan g m) (table-gives plan g m) none)
 
-  pub each-counts : 1 ≤ one (atTarget (stands plan (pre ++ x) (plan .timeout) m)) +
-      (one (isTouched plan pre m && not (atTarget (stands plan pre s m))) + harm (hers (tableOf plan) m) x n)
+  pub each-counts : 1 ≤ oneIf (atTarget (stands plan (pre ++ x) (plan .timeout) m)) +
+      (oneIf (isTouched plan pre m && not (atTarget (stands plan pre s m))) + harm (hers (tableOf plan) m) x n)
   each-counts =
       by (ltb 0 (harm (hers (tableOf plan) m) x n)) refl (isTouched plan pre m) refl (atTarget (stands plan pre s m)) refl
     where
       by : (a : Bool) → ltb 0 (harm (hers (tableOf plan) m) x n) ≡ a → (b : Bool) → isTouched plan pre m ≡ b → (c : Bool) → atTarget (stands plan pre s m) ≡ c →
-          1 ≤ one (atTarget (stands plan (pre ++ x) (plan .timeout) m)) + (one (b && not c) + harm (hers (tableOf plan) m) x n)
+          1 ≤ oneIf (atTarget (stands plan (pre ++ x) (plan .timeout) m)) + (oneIf (b && not c) + harm (hers (tableOf plan) m) x n)
       by true h b e c f = omega (arith, ltb-true 0 (harm (hers (tableOf plan) m) x n) h)
       by false h true e false f = omega arith
-      by false h true e true f = omega (arith, ap one (stays-there f))
+      by false h true e true f = omega (arith, ap oneIf (stays-there f))
       by false h false e c f =
           let a = ltb-false 0 (harm (hers (tableOf plan) m) pre (pairs pre)) e in
           let b = ltb-false 0 (harm (hers (tableOf plan) m) x n) h in
-          omega (arith, ap one (arrives (omega arith) (omega arith)))
+          omega (arith, ap oneIf (arrives (omega arith) (omega arith)))
 
 pub loses-no-more-from : LosesNoMoreFrom
 unfolding arrivals
 loses-no-more-from plan pre x d n s g small early long rest later =
     let owner = tableOf plan in
     let qs = positions byNumber (isCut (pre ++ x)) owner 0 (plan .timeout) (start plan) in
-    let there : ℕ → ℕ = λ m. one (atTarget (positionOf m qs)) in
-    let risk : ℕ → ℕ = λ m. one (isTouched plan pre m && not (atTarget (stands plan pre s m))) in
+    let there : ℕ → ℕ = λ m. oneIf (atTarget (positionOf m qs)) in
+    let risk : ℕ → ℕ = λ m. oneIf (isTouched plan pre m && not (atTarget (stands plan pre s m))) in
     let more : ℕ → ℕ = λ m. harm (hers owner m) x n in
     let size : length qs ≡ length (plan .messages) =
     lengths-kept .ofPositions byNumber (isCut (pre ++ x)) owner 0 (plan .timeout) (start plan) ∙ length-map (plan .messages) onFirst in
@@ -89,7 +89,7 @@ loses-no-more-from plan pre x d n s g small early long rest later =
       size,
       sum-ones (length qs),
       arrived-sum qs,
-      ap (sum risk) size,
+      ap (sumOf risk) size,
       sum-plus there (λ m. risk m + more m) (length qs),
       sum-plus risk more (length qs),
       all-harmed owner (length qs) x n,

@@ -9,13 +9,13 @@ use lib.Seq.{getD-set-same, getD-set-other}
 use lib.Dec.{ltb, eqb}
 use borrow.Author.Tests.{ltb-true, ltb-false, lt-ltb, eqb-true, eqb-false, eq-eqb, ne-eqb}
 use Rattle.scope.specs.Cuts.{pairs, cutSlot, cutLink}
-use Rattle.touch.specs.Sums.{sum, one}
+use Rattle.touch.specs.Sums.{sumOf, oneIf}
 use Rattle.touch.specs.Touch.{harm}
 use Rattle.touch.specs.Marks.{entryFrom, MayMark, Marked, MayMarkAll, Marks}
 
 -- how often entry w stands on link e in the n slots from slot s on
 abbrev standing : List ℕ → ℕ → ℕ → ℕ → ℕ → ℕ
-standing table w s e n = sum (λ i. one (eqb (getD table ((s + i) * 64 + e) 0) w)) n
+standing table w s e n = sumOf (λ i. oneIf (eqb (getD table ((s + i) * 64 + e) 0) w)) n
 
 -- what is more than nothing stays so with as much added
 same-some : (a b c : ℕ) → ltb 0 a ≡ ltb 0 b → ltb 0 (a + c) ≡ ltb 0 (b + c)
@@ -41,7 +41,7 @@ pub record Marking (table : List ℕ) (s e : ℕ) (old new : List ℕ) (i : ℕ)
 
 module _ (table : List ℕ) (s e : ℕ) (old : List ℕ) (m : MayMark table s e old) where
   pub marking-none : Marking table s e old old s
-  unfolding sum
+  unfolding sumOf
   marking-none =
       let z : s - s ≡ zero = omega arith in
       record {
@@ -53,7 +53,7 @@ module _ (table : List ℕ) (s e : ℕ) (old : List ℕ) (m : MayMark table s e 
 
   module _ (new : List ℕ) (i : ℕ) (g : Marking table s e old new i) where
     pub marking-more : (v : ℕ) → i < 64 → v < 256 → v ≡ getD table (i * 64 + e) 0 → Marking table s e old (set new v 1) (i + 1)
-    unfolding sum
+    unfolding sumOf
     marking-more v h small here =
         record {
           from = omega (arith, g .from);
@@ -65,10 +65,10 @@ module _ (table : List ℕ) (s e : ℕ) (old : List ℕ) (m : MayMark table s e 
         more : i + 1 - s ≡ suc (i - s)
         more = omega (arith, g .from)
 
-        last : (w : ℕ) (b : Bool) → eqb v w ≡ b → one (eqb (getD table ((s + (i - s)) * 64 + e) 0) w) ≡ one b
+        last : (w : ℕ) (b : Bool) → eqb v w ≡ b → oneIf (eqb (getD table ((s + (i - s)) * 64 + e) 0) w) ≡ oneIf b
         last w b q =
             let at : s + (i - s) ≡ i = omega (arith, g .from) in
-            ap (λ (j : ℕ). one (eqb (getD table (j * 64 + e) 0) w)) at ∙ ap (λ (y : ℕ). one (eqb y w)) (sym here) ∙ ap one q
+            ap (λ (j : ℕ). oneIf (eqb (getD table (j * 64 + e) 0) w)) at ∙ ap (λ (y : ℕ). oneIf (eqb y w)) (sym here) ∙ ap oneIf q
 
         is : (w : ℕ) → w < 256 → (b : Bool) → eqb w v ≡ b →
             ltb 0 (getD (set new v 1) w 0) ≡ ltb 0 (getD old w 0 + standing table w s e (i + 1 - s))
@@ -76,12 +76,12 @@ module _ (table : List ℕ) (s e : ℕ) (old : List ℕ) (m : MayMark table s e 
             let same : w ≡ v = eqb-true w v q in
             let put : getD (set new v 1) w 0 ≡ 1 = rw same (getD-set-same new v 1 0 (omega (arith, g .long))) in
             let one-more = last w true (eq-eqb v w (sym same)) in
-            rw (put, more) (sym (lt-ltb 0 (getD old w 0 + (standing table w s e (i - s) + one (eqb (getD table ((s + (i - s)) * 64 + e) 0) w))) (omega (arith, one-more))))
+            rw (put, more) (sym (lt-ltb 0 (getD old w 0 + (standing table w s e (i - s) + oneIf (eqb (getD table ((s + (i - s)) * 64 + e) 0) w))) (omega (arith, one-more))))
         is w l false q =
             let other : w ≡ v → ⊥ = eqb-false w v q in
             let none-more = last w false (ne-eqb v w (λ same. other (sym same))) in
             let whole : getD old w 0 + standing table w s e (i - s) ≡
-            getD old w 0 + (standing table w s e (i - s) + one (eqb (getD table ((s + (i - s)) * 64 + e) 0) w)) = omega (arith, none-more) in
+            getD old w 0 + (standing table w s e (i - s) + oneIf (eqb (getD table ((s + (i - s)) * 64 + e) 0) w)) = omega (arith, none-more) in
             rw more (ap (ltb 0) (getD-set-other new v w 1 0 other) ∙ g .is w l ∙ ap (ltb 0) whole)
 
     pub marking-done : 64 ≤ i → Marked table s e old new
@@ -100,7 +100,7 @@ pub record MarkingAll (table cuts marks : List ℕ) (j : ℕ) : Type 0 where
 
 module _ (table cuts old : List ℕ) (m : MayMarkAll table cuts old) where
   pub marking-all-none : MarkingAll table cuts old 0
-  unfolding sum
+  unfolding sumOf
   marking-all-none = record { few = omega arith; long = m .long; is = λ w h. ap (ltb 0) (m .none w) }
 
   module _ (marks : List ℕ) (j : ℕ) (g : MarkingAll table cuts marks j) (h : j < pairs cuts) where
@@ -109,7 +109,7 @@ module _ (table cuts old : List ℕ) (m : MayMarkAll table cuts old) where
         record { entries = m .entries; slot = omega (arith, m .slots j h); link = omega (arith, m .links j h); long = g .long }
 
     pub marking-all-more : (s e : ℕ) (new : List ℕ) → s ≡ cutSlot cuts j → e ≡ cutLink cuts j → Marked table s e marks new → MarkingAll table cuts new (j + 1)
-    unfolding sum
+    unfolding sumOf
     marking-all-more s e new a b k =
         let more : j + 1 ≡ suc j = omega arith in
         record {

@@ -10,7 +10,7 @@ use lib.Dec.{ltb, leb, eqb}
 use borrow.Author.Tests.{ltb-true, ltb-false, le-leb, eq-eqb}
 use Rattle.scope.specs.Cuts.{pairs, cutSlot, cutLink, isCut}
 use Rattle.laws.proofs.Cuts.{cut-pair, not-cut}
-use Rattle.touch.specs.Sums.{sum}
+use Rattle.touch.specs.Sums.{sumOf}
 use Rattle.touch.specs.Touch.{harm}
 use Rattle.touch.specs.Harmed.{NotBefore}
 use Rattle.touch.proofs.Sums.{sum-same}
@@ -44,7 +44,7 @@ module _ (weight : ℕ → ℕ → ℕ) (pre x : List ℕ) (d : ℕ) (long : len
       (λ j h. ap₂ weight (slot-left pre x d long j h) (link-left pre x d long j h))
 
   pub harm-both : (n : ℕ) → harm weight (pre ++ x) (d + n) ≡ harm weight pre d + harm weight x n
-  unfolding sum
+  unfolding sumOf
   harm-both zero = let z : d + 0 ≡ d = omega arith in rw z (omega (arith, harm-front))
   harm-both (suc n) =
       let e : d + suc n ≡ suc (d + n) = omega arith in

@@ -23,23 +23,23 @@ use Rattle.laws.proofs.Table.{table-gives}
 use Rattle.laws.proofs.Untouched.{untouched-arrives}
 use Rattle.laws.proofs.Cuts.{not-cut}
 use Rattle.laws.proofs.Replay.{lengths-kept}
-use Rattle.touch.specs.Sums.{sum, one}
+use Rattle.touch.specs.Sums.{sumOf, oneIf}
 use Rattle.touch.specs.Touch.{harm, touches, LosesNoMore}
 use Rattle.touch.specs.Harmed.{hers}
 use Rattle.touch.proofs.Sums.{sum-le, sum-term, sum-first, sum-ones, sum-plus, sum-swap, one-of-them}
 
 -- what all messages have of a link is what the link has
-all-hers : (owner : ℕ → ℕ → ℕ) (n s e : ℕ) → sum (λ m. hers owner m s e) n ≤ touches owner s e
+all-hers : (owner : ℕ → ℕ → ℕ) (n s e : ℕ) → sumOf (λ m. hers owner m s e) n ≤ touches owner s e
 all-hers owner n s e =
-    let swap = sum-swap (λ m i. one (eqb (owner (s + i) e) (m + 1))) n (64 - s) in
-    let less = sum-le (λ i. sum (λ m. one (eqb (owner (s + i) e) (m + 1))) n) (λ i. one (ltb 0 (owner (s + i) e))) (64 - s)
+    let swap = sum-swap (λ m i. oneIf (eqb (owner (s + i) e) (m + 1))) n (64 - s) in
+    let less = sum-le (λ i. sumOf (λ m. oneIf (eqb (owner (s + i) e) (m + 1))) n) (λ i. oneIf (ltb 0 (owner (s + i) e))) (64 - s)
     (λ i l. one-of-them (owner (s + i) e) n) in
     omega (arith, swap, less)
 
-pub all-harmed : (owner : ℕ → ℕ → ℕ) (n : ℕ) (cuts : List ℕ) (k : ℕ) → sum (λ m. harm (hers owner m) cuts k) n ≤ harm (touches owner) cuts k
+pub all-harmed : (owner : ℕ → ℕ → ℕ) (n : ℕ) (cuts : List ℕ) (k : ℕ) → sumOf (λ m. harm (hers owner m) cuts k) n ≤ harm (touches owner) cuts k
 all-harmed owner n cuts k =
     let swap = sum-swap (λ m j. hers owner m (cutSlot cuts j) (cutLink cuts j)) n k in
-    let less = sum-le (λ j. sum (λ m. hers owner m (cutSlot cuts j) (cutLink cuts j)) n) (λ j. touches owner (cutSlot cuts j) (cutLink cuts j)) k
+    let less = sum-le (λ j. sumOf (λ m. hers owner m (cutSlot cuts j) (cutLink cuts j)) n) (λ j. touches owner (cutSlot cuts j) (cutLink cuts j)) k
     (λ j l. all-hers owner n (cutSlot cuts j) (cutLink cuts j)) in
     omega (arith, swap, less)
 
@@ -48,8 +48,8 @@ counts : (owner : ℕ → ℕ → ℕ) (m s i e : ℕ) → s ≤ i → i < 64 �
 counts owner m s i e a b h =
     let at : s + (i - s) ≡ i = omega arith in
     let here : owner (s + (i - s)) e ≡ m + 1 = ap (λ (j : ℕ). owner j e) at ∙ h in
-    let term = sum-term (λ j. one (eqb (owner (s + j) e) (m + 1))) (64 - s) (i - s) (omega arith) in
-    omega (arith, term, ap one (eq-eqb (owner (s + (i - s)) e) (m + 1) here))
+    let term = sum-term (λ j. oneIf (eqb (owner (s + j) e) (m + 1))) (64 - s) (i - s) (omega arith) in
+    omega (arith, term, ap oneIf (eq-eqb (owner (s + (i - s)) e) (m + 1) here))
 
 -- no pair that counts an entry of message m: its first path is not cut in time
 pub unharmed : (owner : ℕ → ℕ → ℕ) (t m least : ℕ) (cuts : List ℕ) (path : List Place) → t ≤ 64 → slotsRise t least path ≡ true → TableGives owner m path →
@@ -71,10 +71,10 @@ unharmed owner t m least cuts (p ∷ ps) small r own none = (
         absurd (omega arith)
 
 -- how many are at their targets, as a sum
-pub arrived-sum : (qs : List Position) → arrived qs ≡ sum (λ m. one (atTarget (positionOf m qs))) (length qs)
-unfolding arrived sum
+pub arrived-sum : (qs : List Position) → arrived qs ≡ sumOf (λ m. oneIf (atTarget (positionOf m qs))) (length qs)
+unfolding arrived sumOf
 arrived-sum [] = refl
-arrived-sum (q ∷ qs) = omega (arith, arrived-sum qs, sum-first (λ m. one (atTarget (positionOf m (q ∷ qs)))) (length qs))
+arrived-sum (q ∷ qs) = omega (arith, arrived-sum qs, sum-first (λ m. oneIf (atTarget (positionOf m (q ∷ qs)))) (length qs))
 
 pub loses-no-more : LosesNoMore
 unfolding arrivals
@@ -84,24 +84,24 @@ loses-no-more plan cuts g small =
     let qs = positions byNumber (isCut cuts) owner 0 t (start plan) in
     let size : length qs ≡ length (plan .messages) =
     lengths-kept .ofPositions byNumber (isCut cuts) owner 0 t (start plan) ∙ length-map (plan .messages) onFirst in
-    let each = sum-le (λ m. 1) (λ m. one (atTarget (positionOf m qs)) + harm (hers owner m) cuts (pairs cuts)) (length qs) (λ m l. fine m) in
+    let each = sum-le (λ m. 1) (λ m. oneIf (atTarget (positionOf m qs)) + harm (hers owner m) cuts (pairs cuts)) (length qs) (λ m l. fine m) in
     omega (
       arith,
       each,
       size,
       sum-ones (length qs),
       arrived-sum qs,
-      sum-plus (λ m. one (atTarget (positionOf m qs))) (λ m. harm (hers owner m) cuts (pairs cuts)) (length qs),
+      sum-plus (λ m. oneIf (atTarget (positionOf m qs))) (λ m. harm (hers owner m) cuts (pairs cuts)) (length qs),
       all-harmed owner (length qs) cuts (pairs cuts),
     )
   where
     fine : (m : ℕ) → 1 ≤
-        one (atTarget (positionOf m (positions byNumber (isCut cuts) (tableOf plan) 0 (plan .timeout) (start plan)))) +
+        oneIf (atTarget (positionOf m (positions byNumber (isCut cuts) (tableOf plan) 0 (plan .timeout) (start plan)))) +
         harm (hers (tableOf plan) m) cuts (pairs cuts)
     fine m = by (ltb 0 (harm (hers (tableOf plan) m) cuts (pairs cuts))) refl
       where
         by : (b : Bool) → ltb 0 (harm (hers (tableOf plan) m) cuts (pairs cuts)) ≡ b → 1 ≤
-            one (atTarget (positionOf m (positions byNumber (isCut cuts) (tableOf plan) 0 (plan .timeout) (start plan)))) +
+            oneIf (atTarget (positionOf m (positions byNumber (isCut cuts) (tableOf plan) 0 (plan .timeout) (start plan)))) +
             harm (hers (tableOf plan) m) cuts (pairs cuts)
         by true h = omega (arith, ltb-true 0 (harm (hers (tableOf plan) m) cuts (pairs cuts)) h)
         by false h =
@@ -109,4 +109,4 @@ loses-no-more plan cuts g small =
             let there = untouched-arrives byNumber (isCut cuts) (tableOf plan) (plan .timeout) m (pathOf plan m) (start plan)
             (List·getD-map onFirst (plan .messages) m []) (good-rises plan g m)
             (unharmed (tableOf plan) (plan .timeout) m 0 cuts (pathOf plan m) small (good-rises plan g m) (table-gives plan g m) none) in
-            omega (arith, ap one there)
+            omega (arith, ap oneIf there)

@@ -8,31 +8,31 @@ use lib.ListN.{length, getD, set, length-set, List·getD-eq-default}
 use lib.Seq.{getD-set-same, getD-set-other}
 use lib.Dec.{ltb, eqb}
 use borrow.Author.Tests.{eqb-true, eqb-false, lt-ltb}
-use Rattle.touch.specs.Sums.{sum, one}
+use Rattle.touch.specs.Sums.{sumOf, oneIf}
 use Rattle.touch.specs.Bound.{weightIn}
 use Rattle.touch.specs.Weights.{entriesFrom, below, Weighs, Tops}
 use Rattle.touch.proofs.Sums.{sum-le, sum-same, sum-first, sum-ones}
 
-below-more : (table : List ℕ) (k : ℕ) → k < 4096 → below table k ≡ one (ltb 0 (getD table k 0)) + below table (k + 64)
+below-more : (table : List ℕ) (k : ℕ) → k < 4096 → below table k ≡ oneIf (ltb 0 (getD table k 0)) + below table (k + 64)
 below-more table k h =
     let e : 64 - k / 64 ≡ suc (64 - (k + 64) / 64) = omega arith in
     let z : k + 0 * 64 ≡ k = omega arith in
-    ap (λ (n : ℕ). entriesFrom table n k) e ∙ sum-first (λ i. one (ltb 0 (getD table (k + i * 64) 0))) (64 - (k + 64) / 64) ∙
-    ap₂ _+_ (ap (λ (i : ℕ). one (ltb 0 (getD table i 0))) z)
-    (sum-same (λ i. one (ltb 0 (getD table (k + suc i * 64) 0))) (λ i. one (ltb 0 (getD table (k + 64 + i * 64) 0))) (64 - (k + 64) / 64)
-    (λ i l. let s : k + suc i * 64 ≡ k + 64 + i * 64 = omega arith in ap (λ (j : ℕ). one (ltb 0 (getD table j 0))) s))
+    ap (λ (n : ℕ). entriesFrom table n k) e ∙ sum-first (λ i. oneIf (ltb 0 (getD table (k + i * 64) 0))) (64 - (k + 64) / 64) ∙
+    ap₂ _+_ (ap (λ (i : ℕ). oneIf (ltb 0 (getD table i 0))) z)
+    (sum-same (λ i. oneIf (ltb 0 (getD table (k + suc i * 64) 0))) (λ i. oneIf (ltb 0 (getD table (k + 64 + i * 64) 0))) (64 - (k + 64) / 64)
+    (λ i l. let s : k + suc i * 64 ≡ k + 64 + i * 64 = omega arith in ap (λ (j : ℕ). oneIf (ltb 0 (getD table j 0))) s))
 
 below-past : (table : List ℕ) (k : ℕ) → 4096 ≤ k → below table k ≡ 0
-unfolding sum
+unfolding sumOf
 below-past table k h = let e : 64 - k / 64 ≡ zero = omega arith in ap (λ (n : ℕ). entriesFrom table n k) e
 
-at-most-one : (b : Bool) → one b ≤ 1
+at-most-one : (b : Bool) → oneIf b ≤ 1
 at-most-one true = omega arith
 at-most-one false = omega arith
 
 below-small : (table : List ℕ) (k : ℕ) → below table k ≤ 64
 below-small table k =
-    let less = sum-le (λ i. one (ltb 0 (getD table (k + i * 64) 0))) (λ i. 1) (64 - k / 64) (λ i l. at-most-one (ltb 0 (getD table (k + i * 64) 0))) in
+    let less = sum-le (λ i. oneIf (ltb 0 (getD table (k + i * 64) 0))) (λ i. 1) (64 - k / 64) (λ i l. at-most-one (ltb 0 (getD table (k + i * 64) 0))) in
     omega (arith, less, sum-ones (64 - k / 64))
 
 pub record Weighing (table weights : List ℕ) (k : ℕ) : Type 0 where
@@ -52,7 +52,7 @@ module _ (table weights : List ℕ) (k : ℕ) (g : Weighing table weights k) whe
   pub weighing-small : (j : ℕ) → k ≤ j → getD weights j 0 ≤ 64
   weighing-small j h = omega (arith, g .is j h, below-small table j)
 
-  put : (v : ℕ) → 0 < k → v ≡ one (ltb 0 (getD table (k - 1) 0)) + getD weights (k - 1 + 64) 0 → Weighing table (set weights (k - 1) v) (k - 1)
+  put : (v : ℕ) → 0 < k → v ≡ oneIf (ltb 0 (getD table (k - 1) 0)) + getD weights (k - 1 + 64) 0 → Weighing table (set weights (k - 1) v) (k - 1)
   put v h e =
       record {
         few = omega (arith, g .few);
@@ -61,7 +61,7 @@ module _ (table weights : List ℕ) (k : ℕ) (g : Weighing table weights k) whe
       }
     where
       here : v ≡ below table (k - 1)
-      here = e ∙ ap (λ (n : ℕ). one (ltb 0 (getD table (k - 1) 0)) + n) (g .is (k - 1 + 64) (omega arith)) ∙ sym (below-more table (k - 1) (omega (arith, g .few)))
+      here = e ∙ ap (λ (n : ℕ). oneIf (ltb 0 (getD table (k - 1) 0)) + n) (g .is (k - 1 + 64) (omega arith)) ∙ sym (below-more table (k - 1) (omega (arith, g .few)))
 
       by : (j : ℕ) → k - 1 ≤ j → (b : Bool) → eqb j (k - 1) ≡ b → getD (set weights (k - 1) v) j 0 ≡ below table j
       by j l true b =

@@ -13,12 +13,12 @@ use Rattle.scope.specs.Slot.{Position, atTarget}
 use Rattle.scope.specs.Cuts.{pairs, cutSlot, isCut}
 use Rattle.scope.specs.Cycle.{byNumber, tableOf, start, positions, arrivals}
 use Rattle.laws.specs.Message.{positionOf}
-use Rattle.touch.specs.Sums.{sum, one}
+use Rattle.touch.specs.Sums.{sumOf, oneIf}
 use Rattle.touch.specs.Touch.{harm, touches}
 
 -- in how many slots from slot s on the table gives link e to message m
 abbrev pub hers : (ℕ → ℕ → ℕ) → ℕ → ℕ → ℕ → ℕ
-hers owner m s e = sum (λ i. one (eqb (owner (s + i) e) (m + 1))) (64 - s)
+hers owner m s e = sumOf (λ i. oneIf (eqb (owner (s + i) e) (m + 1))) (64 - s)
 
 -- a pair of the list touches message m
 abbrev pub isTouched : Plan → List ℕ → ℕ → Bool
@@ -30,7 +30,7 @@ stands plan cuts s m = positionOf m (positions byNumber (isCut cuts) (tableOf pl
 
 -- how many messages the list touches that are not at their targets at time s
 abbrev pub harmed : Plan → List ℕ → ℕ → ℕ
-harmed plan cuts s = sum (λ m. one (isTouched plan cuts m && not (atTarget (stands plan cuts s m)))) (length (plan .messages))
+harmed plan cuts s = sumOf (λ m. oneIf (isTouched plan cuts m && not (atTarget (stands plan cuts s m)))) (length (plan .messages))
 
 -- no pair is in a slot before s
 abbrev pub NotBefore : ℕ → List ℕ → ℕ → Type 0

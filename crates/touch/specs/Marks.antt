@@ -5,12 +5,12 @@ use mathlib.Core.List.{List}
 use lib.ListN.{length, getD}
 use lib.Dec.{ltb, eqb}
 use Rattle.scope.specs.Cuts.{pairs, cutSlot, cutLink}
-use Rattle.touch.specs.Sums.{sum, one}
+use Rattle.touch.specs.Sums.{sumOf, oneIf}
 use Rattle.touch.specs.Touch.{harm}
 
 -- how often a table of 64 slots and 64 links has entry w on link e in slot s or later
 abbrev pub entryFrom : List ℕ → ℕ → ℕ → ℕ → ℕ
-entryFrom table w s e = sum (λ i. one (eqb (getD table ((s + i) * 64 + e) 0) w)) (64 - s)
+entryFrom table w s e = sumOf (λ i. oneIf (eqb (getD table ((s + i) * 64 + e) 0) w)) (64 - s)
 
 -- a pair may be marked
 pub record MayMark (table : List ℕ) (s e : ℕ) (marks : List ℕ) : Type 0 where

@@ -9,15 +9,15 @@ use Rattle.scope.specs.Plan.{Plan}
 use Rattle.scope.specs.Good.{rules}
 use Rattle.scope.specs.Cuts.{pairs, cutSlot, cutLink}
 use Rattle.scope.specs.Cycle.{tableOf, arrivals}
-use Rattle.touch.specs.Sums.{sum, one}
+use Rattle.touch.specs.Sums.{sumOf, oneIf}
 
 -- the weight of the first n pairs of a list
 abbrev pub harm : (ℕ → ℕ → ℕ) → List ℕ → ℕ → ℕ
-harm weight cuts n = sum (λ j. weight (cutSlot cuts j) (cutLink cuts j)) n
+harm weight cuts n = sumOf (λ j. weight (cutSlot cuts j) (cutLink cuts j)) n
 
 -- how many messages the table gives link e in the n slots from slot s on: a good table gives each slot and link to one message at most
 abbrev pub touchedIn : (ℕ → ℕ → ℕ) → ℕ → ℕ → ℕ → ℕ
-touchedIn owner n s e = sum (λ i. one (ltb 0 (owner (s + i) e))) n
+touchedIn owner n s e = sumOf (λ i. oneIf (ltb 0 (owner (s + i) e))) n
 
 -- a pair touches no message in a slot from 64 on, where no plan has any
 abbrev pub touches : (ℕ → ℕ → ℕ) → ℕ → ℕ → ℕ

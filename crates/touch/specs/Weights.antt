@@ -4,12 +4,12 @@ use mathlib.Core.Path.{_≡_}
 use mathlib.Core.List.{List}
 use lib.ListN.{length, getD}
 use lib.Dec.{ltb}
-use Rattle.touch.specs.Sums.{sum, one}
+use Rattle.touch.specs.Sums.{sumOf, oneIf}
 use Rattle.touch.specs.Bound.{weightIn}
 
 -- how many entries a table of 64 links has in the n slots from index k on, on one link
 abbrev pub entriesFrom : List ℕ → ℕ → ℕ → ℕ
-entriesFrom table n k = sum (λ i. one (ltb 0 (getD table (k + i * 64) 0))) n
+entriesFrom table n k = sumOf (λ i. oneIf (ltb 0 (getD table (k + i * 64) 0))) n
 
 -- from index k on in all 64 slots
 abbrev pub below : List ℕ → ℕ → ℕ
