@@ -1,13 +1,12 @@
 -- The steps of the search: from what is known of the lists whose next pair has a lower code, what is known of more.
-use Prim.Native.Nat.{ℕ, zero, suc, _+_, _*_, _/_, _≤_, _<_}
+use Prim.Native.Nat.{ℕ, zero, suc, _+_, _*_, _≤_, _<_}
 use native.Mathlib.Omega.{arith}
 use mathlib.Core.Path.{_≡_, refl, sym, _∙_, ap, ap₂, subst}
-use mathlib.Core.Logic.{_⊎_, ⊎-elim}
 use mathlib.Core.Bool.{Bool, true, false, true≢false}
 use mathlib.Core.List.{List, [], _∷_, _++_, append-assoc, append-nil}
 use lib.ListN.{length, getD, length-append}
-use lib.Dec.{ltb, leb, eqb}
-use borrow.Author.Tests.{ltb-true, ltb-false, leb-true, leb-false, eqb-true, eqb-false}
+use lib.Dec.{ltb}
+use borrow.Author.Tests.{ltb-true, ltb-false}
 use Rattle.scope.specs.Plan.{Plan}
 use Rattle.scope.specs.Cuts.{pairs, cutSlot, cutLink, isCutList}
 use Rattle.scope.specs.Cycle.{arrivals}
@@ -15,7 +14,7 @@ use Rattle.scope.specs.Verdict.{earlier}
 use Rattle.scope.proofs.Order.{earlier-self}
 use Rattle.touch.specs.Harmed.{harmed}
 use Rattle.touch.specs.Bound.{weightIn, Bound}
-use Rattle.hunt.specs.Search.{code, codeAt, Chosen, AllLeave, FirstOf, Leave, FirstFrom}
+use Rattle.hunt.specs.Search.{code, Chosen, AllLeave, FirstOf, Leave, FirstFrom}
 use Rattle.touch.proofs.Parts.{slot-right, link-right}
 use Rattle.hunt.proofs.Pairs.{Next, next-pair, one-more}
 use Rattle.hunt.proofs.Before.{earlier-under, not-earlier}

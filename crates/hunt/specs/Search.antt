@@ -1,8 +1,8 @@
 -- What a search over the lists that extend a given one says. A pair has a code, and codes rise as pairs do: by slot, then by link.
 use Prim.Native.Nat.{ℕ, _+_, _*_, _≤_, _<_}
 use mathlib.Core.Path.{_≡_}
-use mathlib.Core.Bool.{Bool, true, false}
-use mathlib.Core.List.{List, [], _∷_, _++_}
+use mathlib.Core.Bool.{true}
+use mathlib.Core.List.{List, _∷_, _++_}
 use lib.ListN.{length}
 use Rattle.scope.specs.Plan.{Plan}
 use Rattle.scope.specs.Cuts.{cutSlot, cutLink, isCutList}

@@ -1,12 +1,12 @@
 -- "some number below n passes the test", from what is known of each.
-use Prim.Native.Nat.{ℕ, zero, suc, _+_, _≤_, _<_}
+use Prim.Native.Nat.{ℕ, _+_, _<_}
 use native.Mathlib.Omega.{arith}
 use mathlib.Core.Path.{_≡_, refl, sym, _∙_}
-use mathlib.Core.Bool.{Bool, true, false, cond, _||_, true≢false}
+use mathlib.Core.Bool.{Bool, true, false, _||_, true≢false}
 use lib.Dec.{ltb}
-use borrow.Author.Tests.{ltb-true, ltb-false, lt-ltb, le-ltb}
-use Rattle.scope.specs.Lowest.{seek, lowest, some}
-use Rattle.scope.proofs.Lowest.{seek-is, seek-low, seek-same, seek-most}
+use borrow.Author.Tests.{ltb-true, ltb-false}
+use Rattle.scope.specs.Lowest.{lowest, some}
+use Rattle.scope.proofs.Lowest.{seek-is, seek-low, seek-same}
 
 pub none : (test : ℕ → Bool) (n : ℕ) → ((i : ℕ) → i < n → test i ≡ false) → some test n ≡ false
 none test n h = by (some test n) refl

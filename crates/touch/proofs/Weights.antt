@@ -9,7 +9,6 @@ use lib.Seq.{getD-set-same, getD-set-other}
 use lib.Dec.{ltb, eqb}
 use borrow.Author.Tests.{eqb-true, eqb-false, lt-ltb}
 use Rattle.touch.specs.Sums.{sumOf, oneIf}
-use Rattle.touch.specs.Bound.{weightIn}
 use Rattle.touch.specs.Weights.{entriesFrom, below, Weighs, Tops}
 use Rattle.touch.proofs.Sums.{sum-le, sum-same, sum-first, sum-ones}
 

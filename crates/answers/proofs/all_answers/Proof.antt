@@ -9,31 +9,24 @@ use Rattle.answers.proofs.all_answers.Lts as lts
 use Rattle.answers.proofs.all_good.Reads as all-good-reads
 use Rattle.plan.proofs.judge.Reads as judge-reads
 
--- src/lib.rt:159:9
 judge-requires : tie.Need-judge-requires
 judge-requires c κs = search needs
 
--- src/lib.rt:161:25
 enum-known-judged : tie.Need-enum-known-judged
 enum-known-judged c = search needs
 
--- src/lib.rt:162:46
 enum-told : tie.Need-enum-told
 enum-told c = search needs
 
--- src/lib.rt:162:29
 all-good-requires : tie.Need-all-good-requires
 all-good-requires c κs = record { size = _; good = gave _ (c .before .enum-told .given .1) (c .before .before .before .judge .ensures) }
 
--- src/lib.rt:156:1
 returns : tie.Need-returns
 returns c = bad-row (c .before .before .before .before .before .before .args .row .now) (c .before .before .before .before .before .before .args .k) (c .before .before .before .before .before .before .args .out .now) _ (refused-as _ (c .before .judged .given .1) (c .before .before .before .judge .ensures))
 
--- src/lib.rt:156:1
 same-length : tie.Need-same-length
 same-length c = search needs
 
--- src/lib.rt:156:1
 returns-2 : tie.Need-returns-2
 returns-2 c = search needs
 

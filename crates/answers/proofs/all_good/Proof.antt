@@ -9,35 +9,27 @@ use Rattle.answers.proofs.all_good.Lts as lts
 use Rattle.answers.proofs.fill.Reads as fill-reads
 use Rattle.view.proofs.messages.Reads as messages-reads
 
--- src/lib.rt:142:9
 returns : tie.Need-returns
 returns c = k-too-large _ _ _ (c .before .before .before .pre) (c .if1 .taken)
 
--- src/lib.rt:144:23
 messages-requires : tie.Need-messages-requires
 messages-requires c κs = search needs
 
--- src/lib.rt:144:23
 add-needed : tie.Need-add-needed
 add-needed c = search needs
 
--- src/lib.rt:144:18
 mul-needed : tie.Need-mul-needed
 mul-needed c = search needs
 
--- src/lib.rt:146:9
 returns-2 : tie.Need-returns-2
 returns-2 c = too-short _ _ _ (c .before .before .before .before .before .pre) (c .before .before .if1 .left) _ _ (c .before .messages .ensures .is) refl (c .if2 .taken)
 
--- src/lib.rt:151:5
 fill-requires : tie.Need-fill-requires
 fill-requires c κs = may-fill-all _ _ (c .before .before .before .before .before .before .args .out .now) (c .before .before .before .before .before .before .pre) (c .before .before .before .if1 .left) _ _ (c .before .before .messages .ensures .is) refl (c .before .if2 .left)
 
--- src/lib.rt:137:1
 same-length : tie.Need-same-length
 same-length c = search needs
 
--- src/lib.rt:137:1
 returns-3 : tie.Need-returns-3
 returns-3 c = answered _ _ _ (c .before .before .before .before .before .before .before .before .before .pre) (c .before .before .before .before .before .before .if1 .left) _ _ (c .before .before .before .before .before .messages .ensures .is) refl (c .before .before .before .before .if2 .left) _ (c .before .before .fill .ensures)
 

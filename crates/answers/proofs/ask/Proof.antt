@@ -8,15 +8,12 @@ use Rattle.answers.proofs.ask.Lts as lts
 use Rattle.hunt.proofs.first_list.Reads as first-list-reads
 use Rattle.touch.proofs.need.Reads as need-reads
 
--- src/lib.rt:79:15
 need-requires : tie.Need-need-requires
 need-requires c κs = search needs
 
--- src/lib.rt:81:5
 first-list-requires : tie.Need-first-list-requires
 first-list-requires c κs = ask-on _ _ _ _ _ _ _ _ _ _ (c .before .before .before .before .before .pre) (c .need .ensures)
 
--- src/lib.rt:52:1
 returns : tie.Need-returns
 returns c = search needs
 

@@ -16,43 +16,33 @@ Inv-loop row table weights most ps a k out₀ l₀ h₀ out l h = Descending row
 abbrev μ-loop : tie.MeasureT-loop
 μ-loop row table weights most ps a k out₀ l₀ h₀ out l h = l
 
--- src/lib.rt:101:9
 ask-requires : tie.Need-ask-requires Inv-loop μ-loop
 ask-requires c κs = ask-first _ _ _ _ _ _ _ (c .before .before .before .before .before .args .out .now) (c .before .before .before .before .before .pre) _ refl
 
--- src/lib.rt:102:5
 loop-holds : tie.Need-loop-holds Inv-loop μ-loop
 loop-holds c = descend-first _ _ _ _ _ _ _ _ (c .before .before .before .before .before .before .pre) _ _ refl (c .ask .ensures)
 
--- src/lib.rt:103:9
 put-failing-requires : tie.Need-put-failing-requires Inv-loop μ-loop
 put-failing-requires c κs = may-put _ _ _ _ _ _ _ _ (c .before .before .before .before .before .before .before .before .before .pre) _ _ _ (c .before .before .loop .inv) (c .before .loop-test .taken)
 
--- src/lib.rt:105:13
 ask-requires-2 : tie.Need-ask-requires-2 Inv-loop μ-loop
 ask-requires-2 c κs = ask-next _ _ _ _ _ _ _ _ (c .before .before .before .before .before .before .before .before .before .before .before .before .pre) _ _ _ (c .before .before .before .before .before .loop .inv) _ (c .before .before .before .before .loop-test .taken) refl
 
--- src/lib.rt:102:5
 loop-less : tie.Need-loop-less Inv-loop μ-loop
 loop-less c = less _ _ _ _ _ _ _ _ (c .before .before .before .before .before .before .before .before .before .before .before .before .before .pre) _ _ _ (c .before .before .before .before .before .before .loop .inv) (c .before .before .before .before .before .loop-test .taken)
 
--- src/lib.rt:102:5
 loop-again : tie.Need-loop-again Inv-loop μ-loop
 loop-again c = descend-on _ _ _ _ _ _ _ _ (c .before .before .before .before .before .before .before .before .before .before .before .before .before .pre) _ _ _ (c .before .before .before .before .before .before .loop .inv) _ _ (c .before .before .before .before .before .loop-test .taken) (c .before .before .before .put-failing .kept .0) (c .before .before .before .put-failing .ensures) (c .ask2 .ensures)
 
--- src/lib.rt:109:25
 add-put-answers : tie.Need-add-put-answers Inv-loop μ-loop
 add-put-answers c = omega (arith, c .before .before .loop .inv .within, c .before .before .before .before .before .before .before .before .before .pre .few)
 
--- src/lib.rt:109:5
 put-answers-requires : tie.Need-put-answers-requires Inv-loop μ-loop
 put-answers-requires c κs = room-all _ _ _ _ _ _ _ _ (c .before .before .before .before .before .before .before .before .before .pre) _ _ _ (c .before .before .loop .inv)
 
--- src/lib.rt:87:1
 same-length : tie.Need-same-length Inv-loop μ-loop
 same-length c = c .before .before .put-answers .kept .0 ∙ c .before .before .before .before .before .loop .inv .same
 
--- src/lib.rt:87:1
 returns : tie.Need-returns Inv-loop μ-loop
 returns c = descend-done _ _ _ _ _ _ _ _ (c .before .before .before .before .before .before .before .before .before .before .before .before .pre) _ _ _ (c .before .before .before .before .before .loop .inv) _ (c .before .before .before .before .loop-test .left) (c .before .before .put-answers .ensures)
 

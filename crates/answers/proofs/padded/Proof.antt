@@ -10,23 +10,18 @@ use Rattle.answers.proofs.padded.Reads as reads
 use Rattle.answers.proofs.padded.Lts as lts
 use Rattle.plan.proofs.copy.Reads as copy-reads
 
--- src/lib.rt:21:16
 array-share-prefix-numbers : tie.Need-array-share-prefix-numbers
 array-share-prefix-numbers c = search needs
 
--- src/lib.rt:21:16
 slice-aggregate-copy : tie.Need-slice-aggregate-copy
 slice-aggregate-copy c = sym (length-take-le _ (c .before .args .t1) (omega (arith, c .before .pre .0, c .before .pre .1)))
 
--- src/lib.rt:21:31
 slice-aggregate-copy-2 : tie.Need-slice-aggregate-copy-2
 slice-aggregate-copy-2 c = search needs
 
--- src/lib.rt:21:5
 copy-requires : tie.Need-copy-requires
 copy-requires c κs = omega (arith, length-take-le (c .before .before .args .n) (c .before .before .args .t1) (omega (arith, c .before .before .pre .0, c .before .before .pre .1)), c .before .before .pre .0)
 
--- src/lib.rt:16:1
 returns : tie.Need-returns
 returns c = pads _ _ _ (c .before .before .before .before .pre .0) (c .before .before .before .before .pre .1) (c .before .copy .ensures)
 

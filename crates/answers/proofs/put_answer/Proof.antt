@@ -11,35 +11,27 @@ use Rattle.answers.proofs.put_answer.Reads as reads
 use Rattle.answers.proofs.put_answer.Lts as lts
 use Rattle.plan.proofs.copy.Reads as copy-reads
 
--- src/lib.rt:30:5
 slice-write-out : tie.Need-slice-write-out
 slice-write-out c = search needs
 
--- src/lib.rt:31:16
 slice-aggregate-copy : tie.Need-slice-aggregate-copy
 slice-aggregate-copy c = search needs
 
--- src/lib.rt:31:26
 sub-copy : tie.Need-sub-copy
 sub-copy c = simp length-set (omega (arith, c .before .before .pre))
 
--- src/lib.rt:31:26
 part-copy-start : tie.Need-part-copy-start
 part-copy-start c = simp length-set (omega (arith, c .before .before .pre))
 
--- src/lib.rt:31:26
 part-copy-end : tie.Need-part-copy-end
 part-copy-end c = search needs
 
--- src/lib.rt:31:5
 copy-requires : tie.Need-copy-requires
 copy-requires c κs = let z : length (c .before .before .before .args .t3) ≡ 6 = search needs in rw z (room-left (set (c .before .before .before .args .out .now) 0 (c .before .before .before .args .head)) 1 6 (simp length-set (omega (arith, c .before .before .before .pre))))
 
--- src/lib.rt:26:1
 same-length : tie.Need-same-length
 same-length c = let z : length (c .before .before .before .before .before .before .args .t3) ≡ 6 = search needs in seven-length (c .before .before .before .before .before .before .args .out .now) (c .before .before .before .before .before .before .args .t3) _ (c .before .before .before .before .before .before .args .head) (c .before .before .before .before .before .before .pre) z (puts-seven (c .before .before .before .before .before .before .args .out .now) (c .before .before .before .before .before .before .args .t3) _ _ (c .before .before .before .before .before .before .args .head) (c .before .before .before .before .before .before .pre) z (c .before .before .copy .ensures) refl)
 
--- src/lib.rt:26:1
 returns : tie.Need-returns
 returns c = let z : length (c .before .before .before .before .before .before .args .t3) ≡ 6 = search needs in puts-seven (c .before .before .before .before .before .before .args .out .now) (c .before .before .before .before .before .before .args .t3) _ _ (c .before .before .before .before .before .before .args .head) (c .before .before .before .before .before .before .pre) z (c .before .before .copy .ensures) refl
 

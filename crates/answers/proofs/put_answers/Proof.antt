@@ -16,51 +16,39 @@ Inv-loop out₀ from to head numbers l₀ out l = Putting from to head numbers o
 abbrev μ-loop : tie.MeasureT-loop
 μ-loop out₀ from to head numbers l₀ out l = to - l
 
--- src/lib.rt:40:5
 loop-holds : tie.Need-loop-holds Inv-loop μ-loop
 loop-holds c = putting-none _ _ _ _ _ (c .before .pre .0)
 
--- src/lib.rt:41:18
 mul-at : tie.Need-mul-at Inv-loop μ-loop
 mul-at c = omega (arith, c .loop-test .taken, c .before .before .before .pre .1)
 
--- src/lib.rt:42:20
 mul-put-answer : tie.Need-mul-put-answer Inv-loop μ-loop
 mul-put-answer c = search needs
 
--- src/lib.rt:42:20
 sub-put-answer : tie.Need-sub-put-answer Inv-loop μ-loop
 sub-put-answer c = omega (arith, c .loop-test .taken, c .before .before .before .pre .2, c .before .loop .inv .same)
 
--- src/lib.rt:42:20
 part-put-answer-start : tie.Need-part-put-answer-start Inv-loop μ-loop
 part-put-answer-start c = omega (arith, c .loop-test .taken, c .before .before .before .pre .2, c .before .loop .inv .same)
 
--- src/lib.rt:42:20
 part-put-answer-end : tie.Need-part-put-answer-end Inv-loop μ-loop
 part-put-answer-end c = search needs
 
--- src/lib.rt:42:9
 put-answer-requires : tie.Need-put-answer-requires Inv-loop μ-loop
 put-answer-requires c κs = room-left (c .before .before .loop .out) (7 * c .before .before .loop .l) 7 (omega (arith, c .before .loop-test .taken, c .before .before .before .before .pre .2, c .before .before .loop .inv .same))
 
--- src/lib.rt:43:9
 add-l : tie.Need-add-l Inv-loop μ-loop
 add-l c = omega (arith, c .before .before .before .before .loop-test .taken, c .before .before .before .before .before .before .before .pre .1)
 
--- src/lib.rt:40:5
 loop-less : tie.Need-loop-less Inv-loop μ-loop
 loop-less c = omega (arith, c .before .before .before .before .loop-test .taken)
 
--- src/lib.rt:40:5
 loop-again : tie.Need-loop-again Inv-loop μ-loop
 loop-again c = putting-more _ _ _ _ _ _ _ (c .before .before .before .before .before .loop .inv) _ _ (c .before .before .before .before .loop-test .taken) (c .before .before .before .before .before .before .before .pre .2) (search needs) (c .before .before .put-answer .ensures) refl
 
--- src/lib.rt:35:1
 same-length : tie.Need-same-length Inv-loop μ-loop
 same-length c = c .before .loop .inv .same
 
--- src/lib.rt:35:1
 returns : tie.Need-returns Inv-loop μ-loop
 returns c = putting-done _ _ _ _ _ _ _ (c .before .loop .inv) (c .loop-test .left)
 

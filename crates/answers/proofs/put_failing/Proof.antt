@@ -7,39 +7,30 @@ use Rattle.answers.proofs.put_failing.Lts as lts
 use Rattle.answers.proofs.padded.Reads as padded-reads
 use Rattle.answers.proofs.put_answers.Reads as put-answers-reads
 
--- src/lib.rt:82:31
 mul-padded : tie.Need-mul-padded
 mul-padded c = search needs
 
--- src/lib.rt:82:9
 padded-requires : tie.Need-padded-requires
 padded-requires c κs = search needs
 
--- src/lib.rt:83:22
 add-put-answers : tie.Need-add-put-answers
 add-put-answers c = search needs
 
--- src/lib.rt:83:38
 add-put-answers-2 : tie.Need-add-put-answers-2
 add-put-answers-2 c = search needs
 
--- src/lib.rt:83:46
 add-put-answers-3 : tie.Need-add-put-answers-3
 add-put-answers-3 c = search needs
 
--- src/lib.rt:83:45
 cast-put-answers : tie.Need-cast-put-answers
 cast-put-answers c = search needs
 
--- src/lib.rt:83:5
 put-answers-requires : tie.Need-put-answers-requires
 put-answers-requires c κs = search needs
 
--- src/lib.rt:76:1
 same-length : tie.Need-same-length
 same-length c = search needs
 
--- src/lib.rt:76:1
 returns : tie.Need-returns
 returns c = rw (c .before .before .before .before .before .padded .ensures) at (c .before .before .put-answers .ensures)
 

@@ -49,7 +49,6 @@ in-slot-Inv-loop row table weights most a ps p n s e risk from links base top fl
 abbrev in-slot-μ-loop : in-slot-lts.MeasureT-loop
 in-slot-μ-loop row table weights most a ps p n s e risk from links base top floor i₀ i = links - i
 
--- src/lib.rt:241:16
 in-slot-mul-base : (t : ℕ) → in-slot-lts.Need-mul-base (
   heaviest-reads.Asked,
   heaviest-reads.Learnt,
@@ -68,7 +67,6 @@ in-slot-mul-base : (t : ℕ) → in-slot-lts.Need-mul-base (
 ) (in-slot-at t) in-slot.Post in-slot-Inv-loop in-slot-μ-loop
 in-slot-mul-base t c = omega (arith, c .before .before .before .before .before .pre .1 .early, c .before .before .before .before .before .pre .1 .ready .play .short)
 
--- src/lib.rt:242:15
 in-slot-shared-slice-read-top : (t : ℕ) → in-slot-lts.Need-shared-slice-read-top (
   heaviest-reads.Asked,
   heaviest-reads.Learnt,
@@ -87,7 +85,6 @@ in-slot-shared-slice-read-top : (t : ℕ) → in-slot-lts.Need-shared-slice-read
 ) (in-slot-at t) in-slot.Post in-slot-Inv-loop in-slot-μ-loop
 in-slot-shared-slice-read-top t c = omega (arith, c .before .before .before .before .before .before .pre .1 .early, c .before .before .before .before .before .before .pre .1 .ready .play .short, c .before .before .before .before .before .before .pre .1 .ready .tops)
 
--- src/lib.rt:242:15
 in-slot-cast-top : (t : ℕ) → in-slot-lts.Need-cast-top (
   heaviest-reads.Asked,
   heaviest-reads.Learnt,
@@ -106,7 +103,6 @@ in-slot-cast-top : (t : ℕ) → in-slot-lts.Need-cast-top (
 ) (in-slot-at t) in-slot.Post in-slot-Inv-loop in-slot-μ-loop
 in-slot-cast-top t c = omega (arith, c .shared-slice-known5 .given (c .before .before .before .before .before .before .args .s))
 
--- src/lib.rt:243:48
 in-slot-sub-heaviest : (t : ℕ) → in-slot-lts.Need-sub-heaviest (
   heaviest-reads.Asked,
   heaviest-reads.Learnt,
@@ -125,7 +121,6 @@ in-slot-sub-heaviest : (t : ℕ) → in-slot-lts.Need-sub-heaviest (
 ) (in-slot-at t) in-slot.Post in-slot-Inv-loop in-slot-μ-loop
 in-slot-sub-heaviest t c = omega (arith, c .before .before .before .before .before .before .pre .1 .some)
 
--- src/lib.rt:243:33
 in-slot-heaviest-requires : (t : ℕ) → in-slot-lts.Need-heaviest-requires (
   heaviest-reads.Asked,
   heaviest-reads.Learnt,
@@ -144,7 +139,6 @@ in-slot-heaviest-requires : (t : ℕ) → in-slot-lts.Need-heaviest-requires (
 ) (in-slot-at t) in-slot.Post in-slot-Inv-loop in-slot-μ-loop
 in-slot-heaviest-requires t c κs = omega (arith, c .before .before .before .before .before .before .pre .1 .small, c .before .before .before .before .before .before .pre .1 .few, c .shared-slice-known5 .given (c .before .before .before .before .before .before .args .s))
 
--- src/lib.rt:243:9
 in-slot-lacking-requires : (t : ℕ) → in-slot-lts.Need-lacking-requires (
   heaviest-reads.Asked,
   heaviest-reads.Learnt,
@@ -163,7 +157,6 @@ in-slot-lacking-requires : (t : ℕ) → in-slot-lts.Need-lacking-requires (
 ) (in-slot-at t) in-slot.Post in-slot-Inv-loop in-slot-μ-loop
 in-slot-lacking-requires t c κs = search needs
 
--- src/lib.rt:244:27
 in-slot-slice-aggregate-next-link : (t : ℕ) → in-slot-lts.Need-slice-aggregate-next-link (
   heaviest-reads.Asked,
   heaviest-reads.Learnt,
@@ -182,7 +175,6 @@ in-slot-slice-aggregate-next-link : (t : ℕ) → in-slot-lts.Need-slice-aggrega
 ) (in-slot-at t) in-slot.Post in-slot-Inv-loop in-slot-μ-loop
 in-slot-slice-aggregate-next-link t c = search needs
 
--- src/lib.rt:244:9
 in-slot-next-link-requires : (t : ℕ) → in-slot-lts.Need-next-link-requires (
   heaviest-reads.Asked,
   heaviest-reads.Learnt,
@@ -201,7 +193,6 @@ in-slot-next-link-requires : (t : ℕ) → in-slot-lts.Need-next-link-requires (
 ) (in-slot-at t) in-slot.Post in-slot-Inv-loop in-slot-μ-loop
 in-slot-next-link-requires t c κs = omega (arith, c .before .before .before .before .before .before .before .before .before .pre .1 .link, c .before .before .before .before .before .before .before .before .before .pre .1 .early, c .before .before .before .before .before .before .before .before .before .pre .1 .ready .play .few, c .before .before .before .before .before .before .before .before .before .pre .1 .ready .play .short, c .before .before .before .before .before .before .before .before .before .pre .1 .ready .heavy, c .before .before .before .before .before .before .before .before .before .pre .1 .holding .tells .long)
 
--- src/lib.rt:245:5
 in-slot-loop-holds : (t : ℕ) → in-slot-lts.Need-loop-holds (
   heaviest-reads.Asked,
   heaviest-reads.Learnt,
@@ -220,7 +211,6 @@ in-slot-loop-holds : (t : ℕ) → in-slot-lts.Need-loop-holds (
 ) (in-slot-at t) in-slot.Post in-slot-Inv-loop in-slot-μ-loop
 in-slot-loop-holds t c = looks-first _ _ _ _ _ _ _ _ _ _ _ (c .before .before .before .before .before .before .before .before .before .before .pre .1) _ _ _ (c .before .before .lacking .ensures) (c .before .before .before .heaviest .ensures) (c .next-link .ensures)
 
--- src/lib.rt:246:13
 in-slot-pick-requires : (t : ℕ) → in-slot-lts.Need-pick-requires (
   heaviest-reads.Asked,
   heaviest-reads.Learnt,
@@ -239,7 +229,6 @@ in-slot-pick-requires : (t : ℕ) → in-slot-lts.Need-pick-requires (
 ) (in-slot-at t) in-slot.Post in-slot-Inv-loop in-slot-μ-loop
 in-slot-pick-requires t c κs = omega (arith, c .loop-test .taken, c .before .before .before .before .before .before .before .before .before .before .before .before .pre .1 .early, c .before .before .before .before .before .before .before .before .before .before .before .before .pre .1 .few, c .before .before .before .before .before .before .before .before .before .before .before .before .pre .1 .some, c .before .before .before .before .before .before .before .before .before .before .before .before .pre .1 .ready .play .few, c .before .before .before .before .before .before .before .before .before .before .before .before .pre .1 .ready .play .short)
 
--- src/lib.rt:247:21
 in-slot-marks-of-requires : (t : ℕ) → in-slot-lts.Need-marks-of-requires (
   heaviest-reads.Asked,
   heaviest-reads.Learnt,
@@ -258,7 +247,6 @@ in-slot-marks-of-requires : (t : ℕ) → in-slot-lts.Need-marks-of-requires (
 ) (in-slot-at t) in-slot.Post in-slot-Inv-loop in-slot-μ-loop
 in-slot-marks-of-requires t c κs = may-mark-next _ _ _ _ _ _ _ _ _ _ _ (c .before .before .before .before .before .before .before .before .before .before .before .before .before .pre .1) _ _ _ (c .before .before .loop .inv) (c .before .loop-test .taken) (c .pick .ensures)
 
--- src/lib.rt:248:50
 in-slot-slice-aggregate-level : (t : ℕ) → in-slot-lts.Need-slice-aggregate-level (
   heaviest-reads.Asked,
   heaviest-reads.Learnt,
@@ -277,7 +265,6 @@ in-slot-slice-aggregate-level : (t : ℕ) → in-slot-lts.Need-slice-aggregate-l
 ) (in-slot-at t) in-slot.Post in-slot-Inv-loop in-slot-μ-loop
 in-slot-slice-aggregate-level t c = search needs
 
--- src/lib.rt:248:68
 in-slot-sub-level : (t : ℕ) → in-slot-lts.Need-sub-level (
   heaviest-reads.Asked,
   heaviest-reads.Learnt,
@@ -296,7 +283,6 @@ in-slot-sub-level : (t : ℕ) → in-slot-lts.Need-sub-level (
 ) (in-slot-at t) in-slot.Post in-slot-Inv-loop in-slot-μ-loop
 in-slot-sub-level t c = omega (arith, c .before .before .before .before .before .before .before .before .before .before .before .before .before .before .before .pre .1 .some)
 
--- src/lib.rt:248:13
 in-slot-level-requires : (t : ℕ) → in-slot-lts.Need-level-requires (
   heaviest-reads.Asked,
   heaviest-reads.Learnt,
@@ -315,7 +301,6 @@ in-slot-level-requires : (t : ℕ) → in-slot-lts.Need-level-requires (
 ) (in-slot-at t) in-slot.Post in-slot-Inv-loop in-slot-μ-loop
 in-slot-level-requires t c κs = (omega (arith, c .before .before .before .before .before .before .before .before .before .before .before .before .before .before .before .pre .0, c .before .before .before .before .before .before .before .before .before .before .before .before .before .before .before .pre .1 .some), may-go-on _ _ _ _ _ _ _ _ _ _ _ (c .before .before .before .before .before .before .before .before .before .before .before .before .before .before .before .pre .1) _ _ _ _ (c .before .before .before .before .loop .inv) (c .before .before .before .loop-test .taken) (c .before .before .pick .ensures) (c .before .marks-of .ensures))
 
--- src/lib.rt:250:13
 in-slot-returns : (t : ℕ) → in-slot-lts.Need-returns (
   heaviest-reads.Asked,
   heaviest-reads.Learnt,
@@ -334,7 +319,6 @@ in-slot-returns : (t : ℕ) → in-slot-lts.Need-returns (
 ) (in-slot-at t) in-slot.Post in-slot-Inv-loop in-slot-μ-loop
 in-slot-returns t c = looks-some _ _ _ _ _ _ _ _ _ _ _ (c .before .before .before .before .before .before .before .before .before .before .before .before .before .before .before .before .before .pre .1) _ _ _ _ (c .before .before .before .before .before .before .loop .inv) (c .before .before .before .before .before .loop-test .taken) (c .before .before .before .before .pick .ensures) (c .before .level .ensures) (c .if1 .taken)
 
--- src/lib.rt:252:23
 in-slot-slice-aggregate-next-link-2 : (t : ℕ) → in-slot-lts.Need-slice-aggregate-next-link-2 (
   heaviest-reads.Asked,
   heaviest-reads.Learnt,
@@ -353,7 +337,6 @@ in-slot-slice-aggregate-next-link-2 : (t : ℕ) → in-slot-lts.Need-slice-aggre
 ) (in-slot-at t) in-slot.Post in-slot-Inv-loop in-slot-μ-loop
 in-slot-slice-aggregate-next-link-2 t c = sym (c .before .before .before .before .before .before .before .before .before .before .before .before .before .before .before .before .before .before .pre .1 .holding .tells .long)
 
--- src/lib.rt:252:52
 in-slot-add-next-link : (t : ℕ) → in-slot-lts.Need-add-next-link (
   heaviest-reads.Asked,
   heaviest-reads.Learnt,
@@ -372,7 +355,6 @@ in-slot-add-next-link : (t : ℕ) → in-slot-lts.Need-add-next-link (
 ) (in-slot-at t) in-slot.Post in-slot-Inv-loop in-slot-μ-loop
 in-slot-add-next-link t c = omega (arith, c .before .before .before .before .before .before .loop-test .taken, c .before .before .before .before .before .before .before .before .before .before .before .before .before .before .before .before .before .before .pre .1 .ready .play .few)
 
--- src/lib.rt:252:9
 in-slot-next-link-requires-2 : (t : ℕ) → in-slot-lts.Need-next-link-requires-2 (
   heaviest-reads.Asked,
   heaviest-reads.Learnt,
@@ -391,7 +373,6 @@ in-slot-next-link-requires-2 : (t : ℕ) → in-slot-lts.Need-next-link-requires
 ) (in-slot-at t) in-slot.Post in-slot-Inv-loop in-slot-μ-loop
 in-slot-next-link-requires-2 t c κs = omega (arith, c .before .before .before .before .before .before .loop-test .taken, c .before .before .before .before .before .before .before .before .before .before .before .before .before .before .before .before .before .before .pre .1 .early, c .before .before .before .before .before .before .before .before .before .before .before .before .before .before .before .before .before .before .pre .1 .ready .play .few, c .before .before .before .before .before .before .before .before .before .before .before .before .before .before .before .before .before .before .pre .1 .ready .play .short, c .before .before .before .before .before .before .before .before .before .before .before .before .before .before .before .before .before .before .pre .1 .ready .heavy, c .before .before .before .before .before .before .before .before .before .before .before .before .before .before .before .before .before .before .pre .1 .holding .tells .long)
 
--- src/lib.rt:245:5
 in-slot-loop-less : (t : ℕ) → in-slot-lts.Need-loop-less (
   heaviest-reads.Asked,
   heaviest-reads.Learnt,
@@ -410,7 +391,6 @@ in-slot-loop-less : (t : ℕ) → in-slot-lts.Need-loop-less (
 ) (in-slot-at t) in-slot.Post in-slot-Inv-loop in-slot-μ-loop
 in-slot-loop-less t c = omega (arith, c .before .before .before .before .before .before .before .loop-test .taken, goes-up _ _ _ _ (c .next-link2 .ensures))
 
--- src/lib.rt:245:5
 in-slot-loop-again : (t : ℕ) → in-slot-lts.Need-loop-again (
   heaviest-reads.Asked,
   heaviest-reads.Learnt,
@@ -429,7 +409,6 @@ in-slot-loop-again : (t : ℕ) → in-slot-lts.Need-loop-again (
 ) (in-slot-at t) in-slot.Post in-slot-Inv-loop in-slot-μ-loop
 in-slot-loop-again t c = looks-on _ _ _ _ _ _ _ _ _ _ _ (c .before .before .before .before .before .before .before .before .before .before .before .before .before .before .before .before .before .before .before .pre .1) _ _ _ _ (c .before .before .before .before .before .before .before .before .loop .inv) (c .before .before .before .before .before .before .before .loop-test .taken) (c .before .before .before .before .before .before .pick .ensures) (c .before .before .before .level .ensures) _ _ (c .before .before .if1 .left) (c .before .before .before .before .before .before .before .before .before .before .before .lacking .ensures) (c .before .before .before .before .before .before .before .before .before .before .before .before .heaviest .ensures) (c .next-link2 .ensures)
 
--- src/lib.rt:254:5
 in-slot-nothing-requires : (t : ℕ) → in-slot-lts.Need-nothing-requires (
   heaviest-reads.Asked,
   heaviest-reads.Learnt,
@@ -448,7 +427,6 @@ in-slot-nothing-requires : (t : ℕ) → in-slot-lts.Need-nothing-requires (
 ) (in-slot-at t) in-slot.Post in-slot-Inv-loop in-slot-μ-loop
 in-slot-nothing-requires t c κs = search needs
 
--- src/lib.rt:223:1
 in-slot-returns-2 : (t : ℕ) → in-slot-lts.Need-returns-2 (
   heaviest-reads.Asked,
   heaviest-reads.Learnt,
@@ -473,7 +451,6 @@ level-Inv-loop row table weights most marks a p n qs₀ s₀ e₀ qs s e = Climb
 abbrev level-μ-loop : level-lts.MeasureT-loop
 level-μ-loop row table weights most marks a p n qs₀ s₀ e₀ qs s e = a .timeout - s
 
--- src/lib.rt:273:9
 level-play-out-requires : (t : ℕ) → level-lts.Need-play-out-requires (
   play-out-reads.Asked,
   play-out-reads.Learnt,
@@ -490,7 +467,6 @@ level-play-out-requires : (t : ℕ) → level-lts.Need-play-out-requires (
 ) (level-at t) level.Post level-Inv-loop level-μ-loop
 level-play-out-requires t c κs = record { play = c .before .before .before .before .before .before .pre .1 .ready .play; holding = c .before .before .before .before .before .before .pre .1 .holding; stand = c .before .before .before .before .before .before .pre .1 .stand; marked = c .before .before .before .before .before .before .pre .1 .marked; weights = _; most = _; bound = c .before .before .before .before .before .before .pre .1 .ready .bound }
 
--- src/lib.rt:273:9
 level-returns : (t : ℕ) → level-lts.Need-returns (
   play-out-reads.Asked,
   play-out-reads.Learnt,
@@ -507,7 +483,6 @@ level-returns : (t : ℕ) → level-lts.Need-returns (
 ) (level-at t) level.Post level-Inv-loop level-μ-loop
 level-returns t c = rw (c .before .if1 .taken) (c .play-out .ensures)
 
--- src/lib.rt:278:5
 level-loop-holds : (t : ℕ) → level-lts.Need-loop-holds (
   play-out-reads.Asked,
   play-out-reads.Learnt,
@@ -524,7 +499,6 @@ level-loop-holds : (t : ℕ) → level-lts.Need-loop-holds (
 ) (level-at t) level.Post level-Inv-loop level-μ-loop
 level-loop-holds t c = climbs-first _ _ _ _ _ _ _ _ _ (c .before .before .before .before .before .before .pre .1) (c .if1 .left)
 
--- src/lib.rt:279:19
 level-shared-slice-read-top : (t : ℕ) → level-lts.Need-shared-slice-read-top (
   play-out-reads.Asked,
   play-out-reads.Learnt,
@@ -541,7 +515,6 @@ level-shared-slice-read-top : (t : ℕ) → level-lts.Need-shared-slice-read-top
 ) (level-at t) level.Post level-Inv-loop level-μ-loop
 level-shared-slice-read-top t c = omega (arith, c .before .if2 .taken, c .before .before .before .before .before .before .before .before .before .before .pre .1 .ready .play .short, c .before .before .before .before .before .before .before .before .before .before .pre .1 .ready .tops)
 
--- src/lib.rt:279:19
 level-cast-top : (t : ℕ) → level-lts.Need-cast-top (
   play-out-reads.Asked,
   play-out-reads.Learnt,
@@ -558,7 +531,6 @@ level-cast-top : (t : ℕ) → level-lts.Need-cast-top (
 ) (level-at t) level.Post level-Inv-loop level-μ-loop
 level-cast-top t c = omega (arith, c .shared-slice-known6 .given (c .before .before .before .loop .s))
 
--- src/lib.rt:280:13
 level-at-risk-requires : (t : ℕ) → level-lts.Need-at-risk-requires (
   play-out-reads.Asked,
   play-out-reads.Learnt,
@@ -575,7 +547,6 @@ level-at-risk-requires : (t : ℕ) → level-lts.Need-at-risk-requires (
 ) (level-at t) level.Post level-Inv-loop level-μ-loop
 level-at-risk-requires t c κs = (c .before .before .before .loop .inv .stand .stand .few, c .before .before .before .before .before .before .before .before .before .before .pre .1 .marked .long)
 
--- src/lib.rt:281:12
 level-heaviest-requires : (t : ℕ) → level-lts.Need-heaviest-requires (
   play-out-reads.Asked,
   play-out-reads.Learnt,
@@ -592,7 +563,6 @@ level-heaviest-requires : (t : ℕ) → level-lts.Need-heaviest-requires (
 ) (level-at t) level.Post level-Inv-loop level-μ-loop
 level-heaviest-requires t c κs = omega (arith, c .before .shared-slice-known6 .given (c .before .before .before .before .loop .s), c .before .before .before .before .before .before .before .before .before .before .before .pre .1 .few, c .at-risk .ensures .1, c .before .before .before .before .loop .inv .stand .stand .few)
 
--- src/lib.rt:282:13
 level-nothing-requires : (t : ℕ) → level-lts.Need-nothing-requires (
   play-out-reads.Asked,
   play-out-reads.Learnt,
@@ -609,7 +579,6 @@ level-nothing-requires : (t : ℕ) → level-lts.Need-nothing-requires (
 ) (level-at t) level.Post level-Inv-loop level-μ-loop
 level-nothing-requires t c κs = search needs
 
--- src/lib.rt:282:13
 level-returns-2 : (t : ℕ) → level-lts.Need-returns-2 (
   play-out-reads.Asked,
   play-out-reads.Learnt,
@@ -626,7 +595,6 @@ level-returns-2 : (t : ℕ) → level-lts.Need-returns-2 (
 ) (level-at t) level.Post level-Inv-loop level-μ-loop
 level-returns-2 t c = climbs-light _ _ _ _ _ _ _ _ _ (c .before .before .before .before .before .before .before .before .before .before .before .before .before .before .before .pre .1) (c .before .before .before .before .before .before .before .before .before .if1 .left) _ _ _ (c .before .before .before .before .before .before .before .before .loop .inv) _ _ _ (c .nothing .ensures .0) (c .nothing .ensures .1) (c .before .before .before .before .at-risk .ensures .0) (c .before .before .before .heaviest .ensures) (c .before .if3 .taken)
 
--- src/lib.rt:284:13
 level-in-slot-requires : (t : ℕ) → level-lts.Need-in-slot-requires (
   play-out-reads.Asked,
   play-out-reads.Learnt,
@@ -643,7 +611,6 @@ level-in-slot-requires : (t : ℕ) → level-lts.Need-in-slot-requires (
 ) (level-at t) level.Post level-Inv-loop level-μ-loop
 level-in-slot-requires t c κs = (omega (arith, c .before .before .before .before .before .before .before .before .before .before .before .before .before .before .pre .0), may-look _ _ _ _ _ _ _ _ _ (c .before .before .before .before .before .before .before .before .before .before .before .before .before .before .pre .1) (c .before .before .before .before .before .before .before .before .if1 .left) _ _ _ (c .before .before .before .before .before .before .before .loop .inv) _ (c .before .before .before .before .before .if2 .taken) (c .before .before .before .at-risk .ensures .0) (c .before .before .before .at-risk .ensures .1))
 
--- src/lib.rt:286:13
 level-returns-3 : (t : ℕ) → level-lts.Need-returns-3 (
   play-out-reads.Asked,
   play-out-reads.Learnt,
@@ -660,7 +627,6 @@ level-returns-3 : (t : ℕ) → level-lts.Need-returns-3 (
 ) (level-at t) level.Post level-Inv-loop level-μ-loop
 level-returns-3 t c = climbs-some _ _ _ _ _ _ _ _ _ (c .before .before .before .before .before .before .before .before .before .before .before .before .before .before .before .before .pre .1) (c .before .before .before .before .before .before .before .before .before .before .if1 .left) _ _ _ (c .before .before .before .before .before .before .before .before .before .loop .inv) _ (c .before .in-slot .ensures) (c .if4 .taken)
 
--- src/lib.rt:288:13
 level-advance-requires : (t : ℕ) → level-lts.Need-advance-requires (
   play-out-reads.Asked,
   play-out-reads.Learnt,
@@ -677,7 +643,6 @@ level-advance-requires : (t : ℕ) → level-lts.Need-advance-requires (
 ) (level-at t) level.Post level-Inv-loop level-μ-loop
 level-advance-requires t c κs = may-advance _ _ _ _ _ _ _ _ _ (c .before .before .before .before .before .before .before .before .before .before .before .before .before .before .before .before .pre .1) (c .before .before .before .before .before .before .before .before .before .before .if1 .left) _ _ _ (c .before .before .before .before .before .before .before .before .before .loop .inv) (c .before .before .before .before .before .before .before .if2 .taken)
 
--- src/lib.rt:290:9
 level-add-s : (t : ℕ) → level-lts.Need-add-s (
   play-out-reads.Asked,
   play-out-reads.Learnt,
@@ -694,7 +659,6 @@ level-add-s : (t : ℕ) → level-lts.Need-add-s (
 ) (level-at t) level.Post level-Inv-loop level-μ-loop
 level-add-s t c = omega (arith, c .before .before .before .before .before .before .before .before .if2 .taken, c .before .before .before .before .before .before .before .before .before .before .before .before .before .before .before .before .before .pre .1 .ready .play .short)
 
--- src/lib.rt:278:5
 level-loop-less : (t : ℕ) → level-lts.Need-loop-less (
   play-out-reads.Asked,
   play-out-reads.Learnt,
@@ -711,7 +675,6 @@ level-loop-less : (t : ℕ) → level-lts.Need-loop-less (
 ) (level-at t) level.Post level-Inv-loop level-μ-loop
 level-loop-less t c = omega (arith, c .before .before .before .before .before .before .before .before .if2 .taken)
 
--- src/lib.rt:278:5
 level-loop-again : (t : ℕ) → level-lts.Need-loop-again (
   play-out-reads.Asked,
   play-out-reads.Learnt,
@@ -728,7 +691,6 @@ level-loop-again : (t : ℕ) → level-lts.Need-loop-again (
 ) (level-at t) level.Post level-Inv-loop level-μ-loop
 level-loop-again t c = climbs-on _ _ _ _ _ _ _ _ _ (c .before .before .before .before .before .before .before .before .before .before .before .before .before .before .before .before .before .pre .1) (c .before .before .before .before .before .before .before .before .before .before .before .if1 .left) _ _ _ (c .before .before .before .before .before .before .before .before .before .before .loop .inv) _ (c .before .before .in-slot .ensures) _ (c .before .if4 .left) (c .before .before .before .before .before .before .before .before .if2 .taken) (c .advance .ensures)
 
--- src/lib.rt:293:5
 level-nothing-requires-2 : (t : ℕ) → level-lts.Need-nothing-requires-2 (
   play-out-reads.Asked,
   play-out-reads.Learnt,
@@ -745,7 +707,6 @@ level-nothing-requires-2 : (t : ℕ) → level-lts.Need-nothing-requires-2 (
 ) (level-at t) level.Post level-Inv-loop level-μ-loop
 level-nothing-requires-2 t c κs = search needs
 
--- src/lib.rt:258:1
 level-returns-4 : (t : ℕ) → level-lts.Need-returns-4 (
   play-out-reads.Asked,
   play-out-reads.Learnt,

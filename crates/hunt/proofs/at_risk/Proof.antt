@@ -17,47 +17,36 @@ Inv-loop n marks ps count₀ m₀ count m = Counting marks ps n m count
 abbrev μ-loop : tie.MeasureT-loop
 μ-loop n marks ps count₀ m₀ count m = n - m
 
--- src/lib.rt:154:5
 loop-holds : tie.Need-loop-holds Inv-loop μ-loop
 loop-holds c = counting-none _ _ _ (search needs)
 
--- src/lib.rt:155:17
 mul-p : tie.Need-mul-p Inv-loop μ-loop
 mul-p c = search needs
 
--- src/lib.rt:155:17
 array-copy-out-p : tie.Need-array-copy-out-p Inv-loop μ-loop
 array-copy-out-p c = search needs
 
--- src/lib.rt:156:36
 add-risk-one : tie.Need-add-risk-one Inv-loop μ-loop
 add-risk-one c = search needs
 
--- src/lib.rt:156:30
 shared-slice-read-risk-one : tie.Need-shared-slice-read-risk-one Inv-loop μ-loop
 shared-slice-read-risk-one c = search needs
 
--- src/lib.rt:156:18
 risk-one-requires : tie.Need-risk-one-requires Inv-loop μ-loop
 risk-one-requires c κs = search needs
 
--- src/lib.rt:156:9
 add-count : tie.Need-add-count Inv-loop μ-loop
 add-count c = omega (arith, risk-small _ _ _ _ _ (c .before .before .before .before .loop .inv) _ (getD (c .before .before .before .before .before .before .args .t1) (c .before .before .before .before .loop .m) home) (c .risk-one .ensures), c .before .before .before .before .loop .inv .small, c .before .before .before .before .loop .inv .few, c .before .before .before .before .before .before .pre .0)
 
--- src/lib.rt:157:9
 add-m : tie.Need-add-m Inv-loop μ-loop
 add-m c = search needs
 
--- src/lib.rt:154:5
 loop-less : tie.Need-loop-less Inv-loop μ-loop
 loop-less c = search needs
 
--- src/lib.rt:154:5
 loop-again : tie.Need-loop-again Inv-loop μ-loop
 loop-again c = counting-more _ _ _ _ _ (c .before .before .before .before .loop .inv) _ (c .before .before .before .loop-test .taken) (c .risk-one .ensures)
 
--- src/lib.rt:148:1
 returns : tie.Need-returns Inv-loop μ-loop
 returns c = counting-done _ _ _ _ _ (c .before .loop .inv) (c .loop-test .left)
 

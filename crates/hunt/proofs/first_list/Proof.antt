@@ -24,37 +24,30 @@ returns c = none-for-nought _ _ _ _ (c .if1 .taken) refl refl refl
 no-pair-requires : tie.Need-no-pair-requires Inv-loop μ-loop
 no-pair-requires c κs = search needs
 
--- src/lib.rt:257:5
 marks-of-requires : tie.Need-marks-of-requires Inv-loop μ-loop
 marks-of-requires c κs = may-mark-none _ _ _ _ _ _ _ _ (c .before .before .before .before .before .before .before .pre) _ (c .no-pair .ensures)
 
 loop-holds : tie.Need-loop-holds Inv-loop μ-loop
 loop-holds c = hunt-first _ _ _ _ _ _ _ _ (c .before .before .before .before .before .before .before .before .pre)
 
--- src/lib.rt:258:13
 slice-aggregate-level : tie.Need-slice-aggregate-level Inv-loop μ-loop
 slice-aggregate-level c = search needs
 
 level-requires : tie.Need-level-requires Inv-loop μ-loop
 level-requires c κs = may-seek _ _ _ _ _ _ _ _ (c .before .before .before .before .before .before .before .before .before .before .before .pre) _ _ _ (c .before .loop-test .taken) (c .before .before .before .before .no-pair .ensures) (c .before .before .before .marks-of .ensures)
 
--- src/lib.rt:261:13
 returns-2 : tie.Need-returns-2 Inv-loop μ-loop
 returns-2 c = hunt-some _ _ _ _ _ _ _ _ (c .before .before .before .before .before .before .before .before .before .before .before .before .before .before .pre) _ (c .before .before .before .before .before .loop .inv) _ _ (c .before .before .before .before .before .before .before .no-pair .ensures) (c .before .before .level .ensures) _ (c .before .before .before .before .loop-test .taken) (c .before .if2 .taken) refl refl refl refl
 
--- src/lib.rt:268:9
 add-n : tie.Need-add-n Inv-loop μ-loop
 add-n c = omega (arith, c .before .before .before .loop-test .taken, c .before .before .before .before .before .before .before .before .before .before .before .before .before .pre .few)
 
--- src/lib.rt:257:5
 loop-less : tie.Need-loop-less Inv-loop μ-loop
 loop-less c = omega (arith, c .before .before .before .loop-test .taken)
 
--- src/lib.rt:257:5
 loop-again : tie.Need-loop-again Inv-loop μ-loop
 loop-again c = hunt-on _ _ _ _ _ _ _ _ (c .before .before .before .before .before .before .before .before .before .before .before .before .before .pre) _ (c .before .before .before .before .loop .inv) _ _ (c .before .before .before .before .before .before .no-pair .ensures) (c .before .level .ensures) (c .before .before .before .loop-test .taken) (c .if2 .left)
 
--- src/lib.rt:242:1
 returns-3 : tie.Need-returns-3 Inv-loop μ-loop
 returns-3 c = hunt-over _ _ _ _ _ _ _ _ (c .before .before .before .before .before .before .before .before .before .before .pre) _ _ (c .before .loop .inv) (c .loop-test .left) refl refl refl
 

@@ -10,27 +10,21 @@ use Rattle.hunt.proofs.marks_of.Reads as reads
 use Rattle.hunt.proofs.marks_of.Lts as lts
 use Rattle.touch.proofs.mark_all.Reads as mark-all-reads
 
--- src/lib.rt:167:39
 mul-numbers : tie.Need-mul-numbers
 mul-numbers c = search needs
 
--- src/lib.rt:167:28
 array-share-prefix-numbers : tie.Need-array-share-prefix-numbers
 array-share-prefix-numbers c = search needs
 
--- src/lib.rt:167:28
 slice-aggregate-mark-all : tie.Need-slice-aggregate-mark-all
 slice-aggregate-mark-all c = sym (length-take-le _ (c .before .before .before .before .args .p .numbers) (omega (arith, c .before .before .before .before .pre .few, c .before .before .before .before .pre .long)))
 
--- src/lib.rt:167:53
 slice-aggregate-mark-all-2 : tie.Need-slice-aggregate-mark-all-2
 slice-aggregate-mark-all-2 c = search needs
 
--- src/lib.rt:167:5
 mark-all-requires : tie.Need-mark-all-requires
 mark-all-requires c κs = may-mark-all _ _ (c .before .before .before .before .before .pre)
 
--- src/lib.rt:161:1
 returns : tie.Need-returns
 returns c = search needs
 

@@ -8,31 +8,24 @@ use Rattle.hunt.proofs.may.Tie as tie
 use Rattle.hunt.proofs.may.Reads as reads
 use Rattle.hunt.proofs.may.Lts as lts
 
--- src/lib.rt:71:8
 mul-if1 : tie.Need-mul-if1
 mul-if1 c = search needs
 
--- src/lib.rt:71:8
 shared-slice-read-if1 : tie.Need-shared-slice-read-if1
 shared-slice-read-if1 c = search needs
 
--- src/lib.rt:72:9
 returns : tie.Need-returns
 returns c = rw (ne-eqb _ _ (c .if1 .taken))
 
--- src/lib.rt:74:22
 add-result : tie.Need-add-result
 add-result c = search needs
 
--- src/lib.rt:74:14
 shared-slice-read-result : tie.Need-shared-slice-read-result
 shared-slice-read-result c = search needs
 
--- src/lib.rt:74:14
 cast-result : tie.Need-cast-result
 cast-result c = omega (arith, c .shared-slice-known2 .given (c .before .before .before .args .base + c .before .before .before .args .e))
 
--- src/lib.rt:67:1
 returns-2 : tie.Need-returns-2
 returns-2 c = rw (eq-eqb _ _ (c .before .if1 .left))
 

@@ -17,31 +17,24 @@ Inv-loop from weights base floor e links i₀ i = (i ≤ links) × (seek (passes
 abbrev μ-loop : tie.MeasureT-loop
 μ-loop from weights base floor e links i₀ i = links - i
 
--- src/lib.rt:83:5
 loop-holds : tie.Need-loop-holds Inv-loop μ-loop
 loop-holds c = (c .before .before .pre .0, refl)
 
--- src/lib.rt:84:12
 may-requires : tie.Need-may-requires Inv-loop μ-loop
 may-requires c κs = search needs
 
--- src/lib.rt:85:13
 returns : tie.Need-returns Inv-loop μ-loop
 returns c = sym (seek-found _ _ _ (c .before .before .loop-test .taken) (sym (c .before .may .ensures) ∙ c .if1 .taken)) ∙ c .before .before .before .loop .inv .1
 
--- src/lib.rt:87:9
 add-i : tie.Need-add-i Inv-loop μ-loop
 add-i c = search needs
 
--- src/lib.rt:83:5
 loop-less : tie.Need-loop-less Inv-loop μ-loop
 loop-less c = search needs
 
--- src/lib.rt:83:5
 loop-again : tie.Need-loop-again Inv-loop μ-loop
 loop-again c = (search needs, sym (seek-next _ _ _ (c .before .before .loop-test .taken) (sym (c .before .may .ensures) ∙ c .if1 .left)) ∙ c .before .before .before .loop .inv .1)
 
--- src/lib.rt:78:1
 returns-2 : tie.Need-returns-2 Inv-loop μ-loop
 returns-2 c = sym (seek-done _ _ _ (c .loop-test .left)) ∙ c .before .loop .inv .1
 

@@ -19,51 +19,39 @@ Inv-loop row table marks a p qs₀ i₀ qs i = Ending row a p i qs
 abbrev μ-loop : tie.MeasureT-loop
 μ-loop row table marks a p qs₀ i₀ qs i = a .timeout - i
 
--- src/lib.rt:201:5
 loop-holds : tie.Need-loop-holds Inv-loop μ-loop
 loop-holds c = ends-first _ _ _ _ _ _ (c .before .before .before .pre)
 
--- src/lib.rt:202:12
 at-risk-requires : tie.Need-at-risk-requires Inv-loop μ-loop
 at-risk-requires c κs = (c .before .before .loop .inv .stand .stand .few, c .before .before .before .before .before .before .pre .marked .long)
 
--- src/lib.rt:203:13
 nothing-requires : tie.Need-nothing-requires Inv-loop μ-loop
 nothing-requires c κs = search needs
 
--- src/lib.rt:203:13
 returns : tie.Need-returns Inv-loop μ-loop
 returns c = ends-light _ _ _ _ _ _ (c .before .before .before .before .before .before .before .before .before .before .pre) _ _ (c .before .before .before .before .before .before .loop .inv) _ _ (c .nothing .ensures .0) (c .nothing .ensures .1) (c .before .before .before .at-risk .ensures .0) (c .before .if2 .taken)
 
--- src/lib.rt:205:13
 advance-requires : tie.Need-advance-requires Inv-loop μ-loop
 advance-requires c κs = ends-may _ _ _ _ _ _ (c .before .before .before .before .before .before .before .before .before .pre) _ _ (c .before .before .before .before .before .loop .inv) (c .before .before .before .if1 .taken)
 
--- src/lib.rt:207:9
 add-i : tie.Need-add-i Inv-loop μ-loop
 add-i c = omega (arith, c .before .before .before .before .if1 .taken, c .before .before .before .before .before .before .before .before .before .before .pre .play .short)
 
--- src/lib.rt:201:5
 loop-less : tie.Need-loop-less Inv-loop μ-loop
 loop-less c = omega (arith, c .before .before .before .before .if1 .taken)
 
--- src/lib.rt:201:5
 loop-again : tie.Need-loop-again Inv-loop μ-loop
 loop-again c = ends-more _ _ _ _ _ _ (c .before .before .before .before .before .before .before .before .before .before .pre) _ _ (c .before .before .before .before .before .before .loop .inv) _ (c .before .before .before .before .if1 .taken) (c .advance .ensures)
 
--- src/lib.rt:209:9
 count-home-requires : tie.Need-count-home-requires Inv-loop μ-loop
 count-home-requires c κs = c .before .before .loop .inv .stand .stand .few
 
--- src/lib.rt:218:9
 nothing-requires-2 : tie.Need-nothing-requires-2 Inv-loop μ-loop
 nothing-requires-2 c κs = search needs
 
--- src/lib.rt:188:1
 returns-2 : tie.Need-returns-2 Inv-loop μ-loop
 returns-2 c = settled-some _ _ _ _ (c .before .before .before .before .before .before .before .before .before .before .pre .play) (c .before .before .before .before .before .before .before .before .before .before .pre .holding) _ _ refl refl refl (ends-over _ _ _ _ _ _ (c .before .before .before .before .before .before .before .before .before .before .pre) _ _ (c .before .before .before .before .before .before .loop .inv) _ (c .before .before .before .before .if1 .left) (c .before .before .before .count-home .ensures _)) (c .before .if3 .taken)
 
--- src/lib.rt:188:1
 returns-3 : tie.Need-returns-3 Inv-loop μ-loop
 returns-3 c = settled-none _ _ _ _ (c .before .before .before .before .before .before .before .before .before .before .pre .play) (c .before .before .before .before .before .before .before .before .before .before .pre .holding) _ _ (c .nothing2 .ensures .0) (c .nothing2 .ensures .1) (ends-over _ _ _ _ _ _ (c .before .before .before .before .before .before .before .before .before .before .pre) _ _ (c .before .before .before .before .before .before .loop .inv) _ (c .before .before .before .before .if1 .left) (c .before .before .before .count-home .ensures _)) (c .before .if3 .left)
 

@@ -5,15 +5,12 @@ use Rattle.hunt.proofs.risk_one.Tie as tie
 use Rattle.hunt.proofs.risk_one.Reads as reads
 use Rattle.hunt.proofs.risk_one.Lts as lts
 
--- src/lib.rt:142:9
 returns : tie.Need-returns
 returns c = risk-home (c .before .before .args .mark) (c .before .before .args .p) (c .if1 .taken)
 
--- src/lib.rt:138:1
 returns-2 : tie.Need-returns-2
 returns-2 c = risk-free (c .before .before .before .args .mark) (c .before .before .before .args .p) (c .if2 .taken)
 
--- src/lib.rt:138:1
 returns-3 : tie.Need-returns-3
 returns-3 c = risk-some (c .before .before .before .args .mark) (c .before .before .before .args .p) (c .before .if1 .left) (c .if2 .left)
 

@@ -17,75 +17,57 @@ use Rattle.view.proofs.links.Reads as links-reads
 use Rattle.view.proofs.messages.Reads as messages-reads
 use Rattle.view.proofs.timeout.Reads as timeout-reads
 
--- src/lib.rt:27:28
 slice-aggregate-fill-table : tie.Need-slice-aggregate-fill-table
 slice-aggregate-fill-table c = search needs
 
--- src/lib.rt:27:5
 fill-table-requires : tie.Need-fill-table-requires
 fill-table-requires c κs = (search needs, lies (c .before .before .args .row .now) (c .before .before .pre .judged) .messages)
 
--- src/lib.rt:29:18
 slice-aggregate-weigh : tie.Need-slice-aggregate-weigh
 slice-aggregate-weigh c = search needs
 
--- src/lib.rt:29:26
 slice-aggregate-weigh-2 : tie.Need-slice-aggregate-weigh-2
 slice-aggregate-weigh-2 c = search needs
 
--- src/lib.rt:29:5
 weigh-requires : tie.Need-weigh-requires
 weigh-requires c κs = search needs
 
--- src/lib.rt:31:17
 slice-aggregate-tops : tie.Need-slice-aggregate-tops
 slice-aggregate-tops c = search needs
 
--- src/lib.rt:31:27
 slice-aggregate-tops-2 : tie.Need-slice-aggregate-tops-2
 slice-aggregate-tops-2 c = search needs
 
--- src/lib.rt:31:5
 tops-requires : tie.Need-tops-requires
 tops-requires c κs = search needs
 
--- src/lib.rt:32:9
 messages-requires : tie.Need-messages-requires
 messages-requires c κs = search needs
 
--- src/lib.rt:33:9
 start-all-requires : tie.Need-start-all-requires
 start-all-requires c κs = may-start (c .before .before .before .before .before .before .before .before .before .before .before .before .before .args .row .now) (c .before .before .before .before .before .before .before .before .before .before .before .before .before .pre .judged) _ (c .messages .ensures .is)
 
--- src/lib.rt:35:18
 timeout-requires : tie.Need-timeout-requires
 timeout-requires c κs = search needs
 
--- src/lib.rt:36:16
 links-requires : tie.Need-links-requires
 links-requires c κs = search needs
 
--- src/lib.rt:39:15
 need-requires : tie.Need-need-requires
 need-requires c κs = omega (arith, c .before .before .before .messages .ensures .is, c .before .before .before .messages .ensures .small, c .before .before .before .before .before .before .before .before .before .before .before .before .before .before .before .before .pre .least, message-count (c .before .before .before .before .before .before .before .before .before .before .before .before .before .before .before .before .args .row .now))
 
--- src/lib.rt:41:27
 slice-aggregate-first-list : tie.Need-slice-aggregate-first-list
 slice-aggregate-first-list c = search needs
 
--- src/lib.rt:41:35
 slice-aggregate-first-list-2 : tie.Need-slice-aggregate-first-list-2
 slice-aggregate-first-list-2 c = search needs
 
--- src/lib.rt:41:45
 slice-aggregate-first-list-3 : tie.Need-slice-aggregate-first-list-3
 slice-aggregate-first-list-3 c = search needs
 
--- src/lib.rt:41:5
 first-list-requires : tie.Need-first-list-requires
 first-list-requires c κs = may-hunt (c .before .before .before .before .before .before .before .before .before .before .before .before .before .before .before .before .before .before .before .before .args .row .now) (c .before .before .before .before .before .before .before .before .before .before .before .before .before .before .before .before .before .before .before .before .pre .judged) _ _ _ (c .before .before .before .before .before .timeout .ensures .is) (c .before .before .before .before .links .ensures .is) (c .before .before .before .before .before .before .before .messages .ensures .is) _ _ _ _ (c .before .before .before .before .before .before .before .before .before .before .before .before .before .before .before .before .before .fill-table .ensures) (c .before .before .before .before .before .before .before .before .before .before .before .before .before .weigh .ensures) (c .before .before .before .before .before .before .before .before .before .tops .ensures) (c .before .before .before .before .before .before .start-all .ensures) _ _ _ (c .before .before .before .before .before .before .before .before .before .before .before .before .before .before .before .before .before .before .before .before .pre .few) (c .before .before .before .need .ensures)
 
--- src/lib.rt:22:1
 returns : tie.Need-returns
 returns c = search needs
 

@@ -9,31 +9,24 @@ use Rattle.resist.proofs.verdict.Lts as lts
 use Rattle.plan.proofs.judge.Reads as judge-reads
 use Rattle.resist.proofs.verdict_good.Reads as verdict-good-reads
 
--- src/lib.rt:69:9
 judge-requires : tie.Need-judge-requires
 judge-requires c κs = search needs
 
--- src/lib.rt:71:25
 enum-known-judged : tie.Need-enum-known-judged
 enum-known-judged c = search needs
 
--- src/lib.rt:72:53
 enum-told : tie.Need-enum-told
 enum-told c = search needs
 
--- src/lib.rt:72:29
 verdict-good-requires : tie.Need-verdict-good-requires
 verdict-good-requires c κs = record { size = _; good = gave _ (c .before .enum-told .given .1) (c .before .before .before .judge .ensures) }
 
--- src/lib.rt:66:1
 returns : tie.Need-returns
 returns c = bad-row (c .before .before .before .before .before .before .args .row .now) (c .before .before .before .before .before .before .args .k) (c .before .before .before .before .before .before .args .l) (c .before .before .before .before .before .before .args .list .now) _ (refused-as _ (c .before .judged .given .1) (c .before .before .before .judge .ensures))
 
--- src/lib.rt:66:1
 same-length : tie.Need-same-length
 same-length c = search needs
 
--- src/lib.rt:66:1
 returns-2 : tie.Need-returns-2
 returns-2 c = search needs
 

@@ -11,59 +11,45 @@ use Rattle.plan.proofs.copy.Reads as copy-reads
 use Rattle.resist.proofs.decide.Reads as decide-reads
 use Rattle.view.proofs.messages.Reads as messages-reads
 
--- src/lib.rt:46:9
 returns : tie.Need-returns
 returns c = k-too-large _ _ _ _ (c .before .before .before .pre) (c .if1 .taken)
 
--- src/lib.rt:48:8
 messages-requires : tie.Need-messages-requires
 messages-requires c κs = search needs
 
--- src/lib.rt:49:9
 returns-2 : tie.Need-returns-2
 returns-2 c = l-too-large _ _ _ _ (c .before .before .before .before .before .pre) _ (c .before .messages .ensures .is) (c .if2 .taken)
 
--- src/lib.rt:51:21
 mul-if3 : tie.Need-mul-if3
 mul-if3 c = search needs
 
--- src/lib.rt:52:57
 mul-t13 : tie.Need-mul-t13
 mul-t13 c = search needs
 
--- src/lib.rt:52:9
 returns-3 : tie.Need-returns-3
 returns-3 c = too-short _ _ _ _ (c .before .before .before .before .before .before .pre) _ (c .before .before .messages .ensures .is) (c .before .before .before .if1 .left) (c .before .if2 .left) (c .if3 .taken)
 
--- src/lib.rt:54:9
 decide-requires : tie.Need-decide-requires
 decide-requires c κs = may-ask _ _ _ (c .before .before .before .before .before .before .args .list .now) (c .before .before .before .before .before .before .pre) _ (c .before .before .messages .ensures .is) (c .before .before .before .if1 .left) (c .before .if2 .left)
 
--- src/lib.rt:58:31
 mul-numbers : tie.Need-mul-numbers
 mul-numbers c = search needs
 
--- src/lib.rt:58:20
 array-share-prefix-numbers : tie.Need-array-share-prefix-numbers
 array-share-prefix-numbers c = search needs
 
--- src/lib.rt:58:20
 slice-aggregate-copy : tie.Need-slice-aggregate-copy
 slice-aggregate-copy c = sym (front _ _ _ (c .before .before .before .before .before .before .before .before .before .before .args .list .now) (c .before .before .before .before .before .before .before .before .before .before .pre) _ (c .before .before .before .before .before .before .messages .ensures .is) (c .before .before .before .before .before .before .before .if1 .left) (c .before .before .before .before .before .if2 .left) (c .before .before .before .before .if3 .left) _ (c .before .before .before .decide .ensures))
 
--- src/lib.rt:58:9
 copy-requires : tie.Need-copy-requires
 copy-requires c κs = omega (arith, front _ _ _ (c .before .before .before .before .before .before .before .before .before .before .before .args .list .now) (c .before .before .before .before .before .before .before .before .before .before .before .pre) _ (c .before .before .before .before .before .before .before .messages .ensures .is) (c .before .before .before .before .before .before .before .before .if1 .left) (c .before .before .before .before .before .before .if2 .left) (c .before .before .before .before .before .if3 .left) _ (c .before .before .before .before .decide .ensures), c .before .before .before .before .decide .ensures .few, c .before .before .before .before .before .if3 .left)
 
--- src/lib.rt:41:1
 same-length : tie.Need-same-length
 same-length c = search needs
 
--- src/lib.rt:41:1
 returns-4 : tie.Need-returns-4
 returns-4 c = fails _ _ _ _ (c .before .before .before .before .before .before .before .before .before .before .before .before .before .before .pre) _ (c .before .before .before .before .before .before .before .before .before .before .messages .ensures .is) (c .before .before .before .before .before .before .before .before .before .before .before .if1 .left) (c .before .before .before .before .before .before .before .before .before .if2 .left) (c .before .before .before .before .before .before .before .before .if3 .left) _ (c .before .before .before .before .before .before .before .decide .ensures) _ (c .before .before .before .before .before .before .if4 .taken) (c .before .before .copy .ensures)
 
--- src/lib.rt:41:1
 returns-5 : tie.Need-returns-5
 returns-5 c = resists _ _ _ _ (c .before .before .before .before .before .before .before .before .pre) _ (c .before .before .before .before .messages .ensures .is) (c .before .before .before .before .before .if1 .left) (c .before .before .before .if2 .left) (c .before .before .if3 .left) _ (c .before .decide .ensures) (c .if4 .left)
 

@@ -7,15 +7,12 @@ use Rattle.touch.proofs.at.Tie as tie
 use Rattle.touch.proofs.at.Reads as reads
 use Rattle.touch.proofs.at.Lts as lts
 
--- src/lib.rt:13:28
 shared-slice-read-result : tie.Need-shared-slice-read-result
 shared-slice-read-result c = search needs
 
--- src/lib.rt:10:1
 returns : tie.Need-returns
 returns c = search needs
 
--- src/lib.rt:10:1
 returns-2 : tie.Need-returns-2
 returns-2 c = sym (List·getD-eq-default (c .before .args .weights .now) 0 (c .if1 .left))
 

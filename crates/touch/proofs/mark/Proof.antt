@@ -15,47 +15,36 @@ Inv-loop table s e marks₀ i₀ marks i = Marking table s e marks₀ marks i
 abbrev μ-loop : tie.MeasureT-loop
 μ-loop table s e marks₀ i₀ marks i = 64 - i
 
--- src/lib.rt:65:5
 loop-holds : tie.Need-loop-holds Inv-loop μ-loop
 loop-holds c = marking-none _ _ _ _ (c .pre)
 
--- src/lib.rt:66:23
 mul-w : tie.Need-mul-w Inv-loop μ-loop
 mul-w c = search needs
 
--- src/lib.rt:66:23
 add-w : tie.Need-add-w Inv-loop μ-loop
 add-w c = search needs
 
--- src/lib.rt:66:17
 shared-slice-read-w : tie.Need-shared-slice-read-w Inv-loop μ-loop
 shared-slice-read-w c = search needs
 
--- src/lib.rt:66:17
 cast-w : tie.Need-cast-w Inv-loop μ-loop
 cast-w c = omega (arith, c .shared-slice-known .given (c .before .before .loop .i * 64 + c .before .before .before .args .e))
 
--- src/lib.rt:67:9
 slice-write-marks : tie.Need-slice-write-marks Inv-loop μ-loop
 slice-write-marks c = omega (arith, c .shared-slice-known .given (c .before .before .loop .i * 64 + c .before .before .before .args .e), c .before .before .loop .inv .long)
 
--- src/lib.rt:68:9
 add-i : tie.Need-add-i Inv-loop μ-loop
 add-i c = search needs
 
--- src/lib.rt:65:5
 loop-less : tie.Need-loop-less Inv-loop μ-loop
 loop-less c = search needs
 
--- src/lib.rt:65:5
 loop-again : tie.Need-loop-again Inv-loop μ-loop
 loop-again c = marking-more _ _ _ _ (c .before .before .before .pre) _ _ (c .before .before .loop .inv) _ (c .before .loop-test .taken) (omega (arith, c .shared-slice-known .given (c .before .before .loop .i * 64 + c .before .before .before .args .e))) refl
 
--- src/lib.rt:60:1
 same-length : tie.Need-same-length Inv-loop μ-loop
 same-length c = search needs
 
--- src/lib.rt:60:1
 returns : tie.Need-returns Inv-loop μ-loop
 returns c = marking-done _ _ _ _ (c .before .before .pre) _ _ (c .before .loop .inv) (c .loop-test .left)
 

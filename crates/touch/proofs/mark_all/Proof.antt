@@ -16,67 +16,51 @@ Inv-loop table cuts marks₀ n j₀ marks j = MarkingAll table cuts marks j
 abbrev μ-loop : tie.MeasureT-loop
 μ-loop table cuts marks₀ n j₀ marks j = n - j
 
--- src/lib.rt:79:5
 loop-holds : tie.Need-loop-holds Inv-loop μ-loop
 loop-holds c = marking-all-none _ _ _ (c .before .before .before .pre)
 
--- src/lib.rt:80:26
 mul-mark : tie.Need-mul-mark Inv-loop μ-loop
 mul-mark c = search needs
 
--- src/lib.rt:80:21
 mul-mark-2 : tie.Need-mul-mark-2 Inv-loop μ-loop
 mul-mark-2 c = search needs
 
--- src/lib.rt:80:21
 shared-slice-read-mark : tie.Need-shared-slice-read-mark Inv-loop μ-loop
 shared-slice-read-mark c = search needs
 
--- src/lib.rt:80:21
 cast-mark : tie.Need-cast-mark Inv-loop μ-loop
 cast-mark c = omega (arith, c .shared-slice-known3 .given (2 * c .before .before .loop .j))
 
--- src/lib.rt:80:48
 mul-mark-3 : tie.Need-mul-mark-3 Inv-loop μ-loop
 mul-mark-3 c = search needs
 
--- src/lib.rt:80:48
 add-mark : tie.Need-add-mark Inv-loop μ-loop
 add-mark c = search needs
 
--- src/lib.rt:80:43
 mul-mark-4 : tie.Need-mul-mark-4 Inv-loop μ-loop
 mul-mark-4 c = search needs
 
--- src/lib.rt:80:43
 shared-slice-read-mark-2 : tie.Need-shared-slice-read-mark-2 Inv-loop μ-loop
 shared-slice-read-mark-2 c = search needs
 
--- src/lib.rt:80:43
 cast-mark-2 : tie.Need-cast-mark-2 Inv-loop μ-loop
 cast-mark-2 c = omega (arith, c .shared-slice-known4 .given (2 * c .before .before .before .loop .j + 1))
 
--- src/lib.rt:80:9
 mark-requires : tie.Need-mark-requires Inv-loop μ-loop
 mark-requires c κs = may-mark _ _ _ (c .before .before .before .before .before .before .before .before .pre) _ _ (c .before .before .before .before .loop .inv) (omega (arith, c .before .before .before .loop-test .taken)) _ _ refl refl
 
--- src/lib.rt:81:9
 add-j : tie.Need-add-j Inv-loop μ-loop
 add-j c = search needs
 
--- src/lib.rt:79:5
 loop-less : tie.Need-loop-less Inv-loop μ-loop
 loop-less c = search needs
 
--- src/lib.rt:79:5
 loop-again : tie.Need-loop-again Inv-loop μ-loop
 loop-again c = marking-all-more _ _ _ (c .before .before .before .before .before .before .before .before .before .before .before .pre) _ _ (c .before .before .before .before .before .before .before .loop .inv) (omega (arith, c .before .before .before .before .before .before .loop-test .taken)) _ _ _ refl refl (c .before .before .mark .ensures)
 
--- src/lib.rt:73:1
 same-length : tie.Need-same-length Inv-loop μ-loop
 same-length c = search needs
 
--- src/lib.rt:73:1
 returns : tie.Need-returns Inv-loop μ-loop
 returns c = marking-all-done _ _ _ (c .before .before .before .before .before .pre) _ _ (c .before .loop .inv) (omega (arith, c .loop-test .left, c .before .before .before .before .before .pre .even))
 

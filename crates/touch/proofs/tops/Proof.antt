@@ -14,35 +14,27 @@ Inv-loop weights most₀ top₀ k₀ most top k = Topping weights most top k
 abbrev μ-loop : tie.MeasureT-loop
 μ-loop weights most₀ top₀ k₀ most top k = k
 
--- src/lib.rt:40:5
 loop-holds : tie.Need-loop-holds Inv-loop μ-loop
 loop-holds c = topping-none _ _ (c .pre .0) (c .pre .1)
 
--- src/lib.rt:41:9
 sub-k : tie.Need-sub-k Inv-loop μ-loop
 sub-k c = search needs
 
--- src/lib.rt:42:17
 shared-slice-read-w : tie.Need-shared-slice-read-w Inv-loop μ-loop
 shared-slice-read-w c = search needs
 
--- src/lib.rt:46:9
 slice-write-most : tie.Need-slice-write-most Inv-loop μ-loop
 slice-write-most c = search needs
 
--- src/lib.rt:40:5
 loop-less : tie.Need-loop-less Inv-loop μ-loop
 loop-less c = search needs
 
--- src/lib.rt:40:5
 loop-again : tie.Need-loop-again Inv-loop μ-loop
 loop-again c = ⊎-elim (λ w. topping-more _ _ _ _ (c .before .before .before .loop .inv) _ (c .before .before .loop-test .taken) (omega arith) (omega arith)) (λ w. topping-more _ _ _ _ (c .before .before .before .loop .inv) _ (c .before .before .loop-test .taken) (omega arith) (omega arith)) (c .if1 .came)
 
--- src/lib.rt:34:1
 same-length : tie.Need-same-length Inv-loop μ-loop
 same-length c = search needs
 
--- src/lib.rt:34:1
 returns : tie.Need-returns Inv-loop μ-loop
 returns c = topping-done _ _ _ _ (c .before .loop .inv) (c .loop-test .left)
 

@@ -15,59 +15,45 @@ Inv-loop table weights₀ k₀ weights k = Weighing table weights k
 abbrev μ-loop : tie.MeasureT-loop
 μ-loop table weights₀ k₀ weights k = k
 
--- src/lib.rt:22:5
 loop-holds : tie.Need-loop-holds Inv-loop μ-loop
 loop-holds c = weighing-none _ _ (c .before .before .pre .1)
 
--- src/lib.rt:23:9
 sub-k : tie.Need-sub-k Inv-loop μ-loop
 sub-k c = search needs
 
--- src/lib.rt:24:33
 add-at : tie.Need-add-at Inv-loop μ-loop
 add-at c = search needs
 
--- src/lib.rt:24:13
 at-requires : tie.Need-at-requires Inv-loop μ-loop
 at-requires c κs = search needs
 
--- src/lib.rt:25:12
 shared-slice-read-if1 : tie.Need-shared-slice-read-if1 Inv-loop μ-loop
 shared-slice-read-if1 c = search needs
 
--- src/lib.rt:26:13
 slice-write-weights : tie.Need-slice-write-weights Inv-loop μ-loop
 slice-write-weights c = search needs
 
--- src/lib.rt:22:5
 loop-less : tie.Need-loop-less Inv-loop μ-loop
 loop-less c = search needs
 
--- src/lib.rt:22:5
 loop-again : tie.Need-loop-again Inv-loop μ-loop
 loop-again c = weighing-zero _ _ _ (c .before .before .before .before .before .loop .inv) _ (c .before .before .before .before .loop-test .taken) (c .if1 .taken) (c .before .before .at .ensures)
 
--- src/lib.rt:28:26
 add-weights : tie.Need-add-weights Inv-loop μ-loop
 add-weights c = omega (arith, weighing-small _ _ _ (c .before .before .before .before .before .loop .inv) (c .before .before .before .before .before .loop .k - 1 + 64) (omega arith), c .before .before .at .ensures)
 
--- src/lib.rt:28:13
 slice-write-weights-2 : tie.Need-slice-write-weights-2 Inv-loop μ-loop
 slice-write-weights-2 c = search needs
 
--- src/lib.rt:22:5
 loop-less-2 : tie.Need-loop-less-2 Inv-loop μ-loop
 loop-less-2 c = search needs
 
--- src/lib.rt:22:5
 loop-again-2 : tie.Need-loop-again-2 Inv-loop μ-loop
 loop-again-2 c = weighing-one _ _ _ (c .before .before .before .before .before .loop .inv) _ (c .before .before .before .before .loop-test .taken) (c .if1 .left) (c .before .before .at .ensures)
 
--- src/lib.rt:17:1
 same-length : tie.Need-same-length Inv-loop μ-loop
 same-length c = search needs
 
--- src/lib.rt:17:1
 returns : tie.Need-returns Inv-loop μ-loop
 returns c = weighing-done _ _ _ (c .before .loop .inv) (c .loop-test .left)
 
