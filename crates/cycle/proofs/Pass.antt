@@ -13,7 +13,7 @@ use Rattle.scope.proofs.Lowest.{seek-most, seek-same}
 use Rattle.scope.specs.Slot as S
 use Rattle.scope.specs.Cycle.{byNumber, foremost, moves, slot}
 use Rattle.cycle.specs.Pass.{triers, triedLink, triedBy, foundAt, firstTrier, noted, Noting, triedAfter, does, pass}
-use Rattle.cycle.proofs.Tried.{fore-lowest, lowest-keep, lowest-here, lowest-next, trier-found, trier-none, noted-length, noted-count, link-old, by-old, link-new, by-new}
+use Rattle.cycle.proofs.Tried.{fore-lowest, lowest-keep, lowest-here, lowest-next, trier-found, trier-none, noted-count, link-old, by-old, link-new, by-new, fits-noted}
 
 -- `ts` has the links that all messages try, plus one
 module _ (ts : List ℕ) where
@@ -65,10 +65,11 @@ module _ (ts : List ℕ) where
     -- message m tries link e₀
     pub knows-try : (e₀ : ℕ) → m < 32 → getD ts m 0 ≡ e₀ + 1 → Knows (noted tried e₀ m) (m + 1)
     knows-try e₀ l z =
+        let f = fits-noted tried m n e₀ in
         record {
-          room = rw (noted-length tried m n e₀) (k .room);
-          few = omega (arith, count, k .few);
-          below = λ j h. low j h (ltb j (triers tried)) refl;
+          room = omega (arith, f .same, k .room);
+          few = f .few;
+          below = f .below;
           is = λ e. by e (ltb (foundAt tried e) (triers tried)) refl;
         }
       where
@@ -77,13 +78,6 @@ module _ (ts : List ℕ) where
 
         count : triers (noted tried e₀ m) ≡ triers tried + 1
         count = noted-count tried m n e₀
-
-        low : (j : ℕ) → j < triers (noted tried e₀ m) → (b : Bool) → ltb j (triers tried) ≡ b → triedBy (noted tried e₀ m) j < m + 1
-        low j h true b = let g : j < triers tried = ltb-true j (triers tried) b in rw (by-old tried m n e₀ j g) (omega (arith, k .below j g))
-        low j h false b =
-            let g : triers tried ≤ j = ltb-false j (triers tried) b in
-            let e : j ≡ triers tried = omega (arith, count) in
-            rw (e, by-new tried m n e₀) (omega arith)
 
         -- the entries that were there are looked at as before
         same : (e : ℕ) → lowest (λ j. eqb (triedLink (noted tried e₀ m) j) e) (triers tried) ≡ foundAt tried e

@@ -7,44 +7,23 @@ use native.Mathlib.Omega.{arith}
 use native.Mathlib.Numerals.{add-one}
 use lib.ListN.{length, getD, take, drop, length-map, List·getD-map, drop-of-length-le}
 use lib.Seq.{length-take-le, getD-take, getD-drop, drop-drop, drop-cons}
-use lib.Dec.{ltb, eqb}
-use borrow.Author.Tests.{ltb-true, ltb-false}
+use lib.Dec.{eqb}
 use Rattle.scope.specs.Slot as S
 use Rattle.step.specs.declared.Position.{Position}
 use Rattle.step.specs.Where.{positionOf}
 use Rattle.cycle.specs.Stand.{home, positionsOf}
 use Rattle.cycle.specs.Pass.{triers, triedBy, noted, Noting, triedAfter, allTried, does, pass}
-use Rattle.cycle.proofs.Tried.{noted-length, noted-count, by-old, by-new}
+use Rattle.cycle.proofs.Tried.{Fits, fits-noted}
 
 -- message m has been noted, or has tried nothing: the list has room for the next
 module _ (down : ℕ → Bool) (tried : List ℕ) (m : ℕ) (n : Noting tried m) (p : S.Position) where
-  pub record Fits (tried′ : List ℕ) : Type 0 where
-    pub same : length tried′ ≡ length tried
-    pub few : triers tried′ ≤ m + 1
-    pub below : (j : ℕ) → j < triers tried′ → triedBy tried′ j < m + 1
-
-  fits-noted : (e : ℕ) → Fits (noted tried e m)
-  fits-noted e =
-      record {
-        same = noted-length tried m n e;
-        few = omega (arith, noted-count tried m n e, n .few);
-        below = λ j h. by j h (ltb j (triers tried)) refl;
-      }
-    where
-      by : (j : ℕ) → j < triers (noted tried e m) → (b : Bool) → ltb j (triers tried) ≡ b → triedBy (noted tried e m) j < m + 1
-      by j h true b = let g : j < triers tried = ltb-true j (triers tried) b in rw (by-old tried m n e j g) (omega (arith, n .below j g))
-      by j h false b =
-          let g : triers tried ≤ j = ltb-false j (triers tried) b in
-          let z : j ≡ triers tried = omega (arith, noted-count tried m n e) in
-          rw (z, by-new tried m n e) (omega arith)
-
-  pub fits-after : Fits (triedAfter down tried m p)
+  pub fits-after : Fits tried m (triedAfter down tried m p)
   unfolding triedAfter
   fits-after = by (eqb (S.tries down (S.turn down p)) 0)
     where
-      by : (b : Bool) → Fits (cond b tried (noted tried (S.nextSecond (S.turn down p)) m))
+      by : (b : Bool) → Fits tried m (cond b tried (noted tried (S.nextSecond (S.turn down p)) m))
       by true = record { same = refl; few = omega (arith, n .few); below = λ j h. omega (arith, n .below j h) }
-      by false = fits-noted (S.nextSecond (S.turn down p))
+      by false = fits-noted tried m n (S.nextSecond (S.turn down p))
 
 module _ (row : List ℕ) (down : ℕ → Bool) (owner : ℕ → ℕ) (i n : ℕ) (old : List Position) (tried₀ : List ℕ) where
   -- where the messages stand, and what all do

@@ -8,7 +8,7 @@ use native.Mathlib.Omega.{arith}
 use lib.ListN.{length, getD, take, drop, set, length-set, List·getD-eq-default}
 use lib.Seq.{take-suc, drop-cons, getD-set-same, getD-set-other}
 use lib.Dec.{ltb, eqb}
-use borrow.Author.Tests.{lt-ltb, le-ltb, eq-eqb, ne-eqb, eqb-true, eqb-false}
+use borrow.Author.Tests.{lt-ltb, le-ltb, ltb-true, ltb-false, eq-eqb, ne-eqb, eqb-true, eqb-false}
 use Rattle.scope.specs.Lowest.{seek, lowest}
 use Rattle.scope.proofs.Lowest.{seek-most}
 use Rattle.scope.specs.Slot as S
@@ -167,6 +167,27 @@ module _ (tried : List ℕ) (m : ℕ) (n : Noting tried m) (e₀ : ℕ) where
   by-new =
       getD-set-other (set (set tried (2 * triers tried + 1) e₀) (2 * triers tried + 2) m) 0 (2 * triers tried + 2) (triers tried + 1) 0 (λ z. omega arith)
       ∙ getD-set-same (set tried (2 * triers tried + 1) e₀) (2 * triers tried + 2) m 0 (omega (arith, length-set tried (2 * triers tried + 1) e₀, n .room, n .few, n .low))
+
+-- after message m there is room to note the next, and whoever has been noted is lower than that
+pub record Fits (tried : List ℕ) (m : ℕ) (tried′ : List ℕ) : Type 0 where
+  pub same : length tried′ ≡ length tried
+  pub few : triers tried′ ≤ m + 1
+  pub below : (j : ℕ) → j < triers tried′ → triedBy tried′ j < m + 1
+
+pub fits-noted : (tried : List ℕ) (m : ℕ) (n : Noting tried m) (e : ℕ) → Fits tried m (noted tried e m)
+fits-noted tried m n e =
+    record {
+      same = noted-length tried m n e;
+      few = omega (arith, noted-count tried m n e, n .few);
+      below = λ j h. by j h (ltb j (triers tried)) refl;
+    }
+  where
+    by : (j : ℕ) → j < triers (noted tried e m) → (b : Bool) → ltb j (triers tried) ≡ b → triedBy (noted tried e m) j < m + 1
+    by j h true b = let g : j < triers tried = ltb-true j (triers tried) b in rw (by-old tried m n e j g) (omega (arith, n .below j g))
+    by j h false b =
+        let g : triers tried ≤ j = ltb-false j (triers tried) b in
+        let z : j ≡ triers tried = omega (arith, noted-count tried m n e) in
+        rw (z, by-new tried m n e) (omega arith)
 
 -- the three ways to read the table
 module _ (table : List ℕ) (i e : ℕ) where
