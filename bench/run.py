@@ -136,6 +136,20 @@ def each_walk():
             print('%-10s %2s %5s %12s %12s %18d   %s' % (plan, l, pairs, lists, slots, there, arrivals), flush=True)
 
 
+def asked_of(solver, plan, read, l, edge):
+    """The solver's seconds for one l. Its answer has to be ours: the highest l that is resistant is the edge."""
+    expected = 'sat' if l > edge else 'unsat'
+    with tempfile.NamedTemporaryFile('w', suffix='.smt2') as question:
+        question.write(encode.encode(*read, 3, l))
+        question.flush()
+        said, seconds, _ = run([solver, '-T:%d' % limit, question.name])
+    said = said.strip()
+    if said not in (expected, 'timeout'):
+        sys.exit('%s, k 3, l %d: the solver says %s, and we say %s' % (plan, l, said, expected))
+    note('%s, l %d: done' % (plan, l))
+    return seconds, '> ' if said == 'timeout' else ''
+
+
 def against_solver(each, edges):
     solver = shutil.which('z3')
     if not solver:
@@ -143,25 +157,25 @@ def against_solver(each, edges):
         return
     version = subprocess.run([solver, '--version'], stdout=subprocess.PIPE, check=True).stdout.decode().split(' - ')[0]
     print('\n%-10s %2s %-9s %10s %14s   %s, one l / ours, every l' % ('plan', 'l', 'answer', 'solver, s', 'ours, s', version), flush=True)
-    with tempfile.TemporaryDirectory() as work:
-        question = os.path.join(work, 'question.smt2')
-        for plan in searched:
-            read = plan_of(plan)
-            for l, expected in ((edges[plan] + 1, 'sat'), (edges[plan], 'unsat')):
-                if l == 0 or l > len(read[2]):
-                    continue
-                with open(question, 'w') as file:
-                    file.write(encode.encode(*read, 3, l))
-                said, seconds, _ = run([solver, '-T:%d' % limit, question])
-                said = said.strip()
-                if said not in (expected, 'timeout'):
-                    sys.exit('%s, k 3, l %d: the solver says %s, and we say %s' % (plan, l, said, expected))
-                more = '> ' if said == 'timeout' else ''
-                meant = 'failing' if expected == 'sat' else 'resistant'
-                ratio = seconds / each[plan]
-                times = more + ('%.1f' if ratio >= 1 else '%.2f') % ratio
-                print('%-10s %2d %-9s %10s %14.5f   %s' % (plan, l, meant, more + '%.2f' % seconds, each[plan], times), flush=True)
-                note('%s, l %d: done' % (plan, l))
+    near = []
+    for plan in searched:
+        read = plan_of(plan)
+        for l in edges[plan] + 1, edges[plan]:
+            if l == 0 or l > len(read[2]):
+                continue
+            seconds, more = asked_of(solver, plan, read, l, edges[plan])
+            meant = 'failing' if l > edges[plan] else 'resistant'
+            ratio = seconds / each[plan]
+            times = more + ('%.1f' if ratio >= 1 else '%.2f') % ratio
+            print('%-10s %2d %-9s %10s %14.5f   %s' % (plan, l, meant, more + '%.2f' % seconds, each[plan], times), flush=True)
+            if ratio < 100 and plan not in near:
+                near.append(plan)
+    print('\n%-10s %9s %10s %14s   %s, every l / ours, every l' % ('plan', 'questions', 'solver, s', 'ours, s', version), flush=True)
+    for plan in near:
+        read = plan_of(plan)
+        taken = [asked_of(solver, plan, read, l, edges[plan]) for l in range(1, len(read[2]) + 1)]
+        seconds, more = sum(second for second, _ in taken), max(more for _, more in taken)
+        print('%-10s %9d %10s %14.5f   %s' % (plan, len(taken), more + '%.2f' % seconds, each[plan], more + '%.1f' % (seconds / each[plan])), flush=True)
 
 
 make_plans()
