@@ -17,14 +17,14 @@ static uint16_t numbers[MOST], row16[MOST];
 static uint8_t bytes[MOST], row8[MOST];
 static size_t count, place, result;
 
-/* the decimals of a line, each 16 bits: how many, or -1 */
+/* the decimals of a line, each 16 bits and without needless zeros: how many, or -1 */
 static int read_numbers(char *at) {
     count = 0;
     while (*at == ' ') {
         char *end = at + 1;
         unsigned long n = 0;
         while (*end >= '0' && *end <= '9' && n < 65536) n = 10 * n + (unsigned long)(*end++ - '0');
-        if (end == at + 1 || n > 65535) return -1;
+        if (end == at + 1 || n > 65535 || (at[1] == '0' && end > at + 2)) return -1;
         numbers[count++] = (uint16_t)n;
         at = end;
     }
