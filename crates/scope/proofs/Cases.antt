@@ -12,8 +12,8 @@ use Rattle.scope.specs.Cuts.{checkCuts, isCut}
 use Rattle.scope.specs.Cycle.{foremost, tableOf, moves, slot, numbers, positions, events, arrived, arrivals, eventRow}
 use Rattle.scope.specs.Verdict.{FirstFailing, earlier}
 use Rattle.scope.specs.Spare.{entriesOf, entries, hasSecondThrough, lowerThrough, delay}
-use Rattle.scope.specs.Questions.{judge, readFile, writeFile, replay, maySpare, slack}
-use Rattle.scope.specs.Cases.{kindsOf, table, ownTable, All, rowA, rowLate, rowOrder}
+use Rattle.scope.specs.Questions.{judge, readFile, writeFile, replay, mayJudge, maySpare, slack}
+use Rattle.scope.specs.Cases.{table, ownTable, All, rowA, rowLate, rowOrder}
 use Rattle.scope.proofs.First.{every, spared, before-one, before-two}
 
 -- "A: cuts (0,0), (0,2): .. this is the list for k 2, l 1"
@@ -48,7 +48,7 @@ first-of-order =
     }
 
 pub cases : All table
-unfolding seek bitsOf bits numberFrom bytesOf walkBits fieldsOf zeros endsAt walkFile rowOf packed fileOf walkFrom walkRow numbersAt linksAt placesAt afterPlaces messagesAt afterMessages planOf has different areLinks joins visited slotsRise holds taken goodSeconds rules checkCuts isCut foremost tableOf moves slot numbers positions events arrived arrivals eventRow entriesOf entries hasSecondThrough lowerThrough delay judge readFile writeFile replay maySpare slack kindsOf
+unfolding seek bitsOf bits numberFrom bytesOf walkBits fieldsOf zeros endsAt walkFile rowOf packed fileOf walkFrom walkRow numbersAt linksAt placesAt afterPlaces messagesAt afterMessages planOf has different areLinks joins visited slotsRise holds taken goodSeconds rules checkCuts isCut foremost tableOf moves slot numbers positions events arrived arrivals eventRow entriesOf entries hasSecondThrough lowerThrough delay judge readFile writeFile replay mayJudge maySpare slack
 cases = (
   (refl, refl, refl, refl),
   (
@@ -78,7 +78,7 @@ cases = (
                           (
                             (refl, refl),
                             (
-                              first-of-A,
+                              (refl, first-of-A),
                               tt,
                             ),
                           ),
@@ -97,5 +97,5 @@ cases = (
 )
 
 pub own-cases : All ownTable
-unfolding seek bitsOf bits numberFrom bytesOf walkBits fieldsOf zeros endsAt walkFile rowOf packed fileOf walkFrom walkRow numbersAt linksAt placesAt afterPlaces messagesAt afterMessages planOf has different areLinks joins visited slotsRise holds taken goodSeconds rules checkCuts isCut foremost tableOf moves slot numbers positions events arrived arrivals eventRow entriesOf entries hasSecondThrough lowerThrough delay judge readFile writeFile replay maySpare slack kindsOf
-own-cases = (first-of-late, (first-of-order, ((refl, refl), ((refl, refl), (refl, ((refl, refl), tt))))))
+unfolding seek bitsOf bits numberFrom bytesOf walkBits fieldsOf zeros endsAt walkFile rowOf packed fileOf walkFrom walkRow numbersAt linksAt placesAt afterPlaces messagesAt afterMessages planOf has different areLinks joins visited slotsRise holds taken goodSeconds rules checkCuts isCut foremost tableOf moves slot numbers positions events arrived arrivals eventRow entriesOf entries hasSecondThrough lowerThrough delay judge readFile writeFile replay mayJudge maySpare slack
+own-cases = ((refl, first-of-late), ((refl, first-of-order), ((refl, refl), ((refl, refl), (refl, ((refl, refl), ((refl, refl), tt)))))))

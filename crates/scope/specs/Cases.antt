@@ -1,9 +1,9 @@
 -- "Examples": the cases that document 01 marks P, as rows of one table. What it says of a row is `Holds`, and proofs/Cases.antt proves the table.
-use Prim.Native.Nat.{ℕ, zero, suc, _-_, _*_}
+use Prim.Native.Nat.{ℕ, _-_, _*_}
 use mathlib.Core.Path.{_≡_}
 use mathlib.Core.Bool.{Bool, true, false, _&&_}
 use mathlib.Core.List.{List, [], _∷_}
-use lib.ListN.{length, getD, drop}
+use lib.ListN.{length, getD}
 use lib.IntN.{ℤ, pos, negsuc}
 use lib.Dec.{eqb}
 use Rattle.scope.specs.Outcome.{Outcome, gives, refused}
@@ -13,7 +13,7 @@ use Rattle.scope.specs.Cuts.{isCut}
 use Rattle.scope.specs.Slot.{onSecond, atTarget}
 use Rattle.scope.specs.Cycle.{byNumber, tableOf, start, positions, events, eventRow}
 use Rattle.scope.specs.Verdict.{FirstFailing}
-use Rattle.scope.specs.Questions.{readFile, writeFile, replay, slack, maySpare}
+use Rattle.scope.specs.Questions.{readFile, writeFile, replay, mayJudge, slack, maySpare}
 
 -- Plan B: "links 0→1, 0→2, 2→1 and t = 4. Both messages have first path link 0, message 0 in slot 0 and message 1 in slot 1, and second path
 -- links 1, 2."
@@ -61,19 +61,14 @@ rowTwice =
     1 ∷ 0 ∷ 0 ∷ 1 ∷ 1 ∷ 2 ∷ 3 ∷ 1 ∷ 1 ∷ 1 ∷ 1 ∷ 4 ∷ 3 ∷
     1 ∷ 0 ∷ 1 ∷ 1 ∷ 1 ∷ 2 ∷ 3 ∷ 1 ∷ 2 ∷ 0 ∷ []
 
+-- plan B with a message 2, which has link 0 in slot 2: under a cut in slot 1 it is held by message 1, and message 0 is at its target
+abbrev pub rowThree : List ℕ
+rowThree =
+    1 ∷ 2 ∷ 2 ∷ 2 ∷ 3 ∷ 0 ∷ 1 ∷ 0 ∷ 2 ∷ 2 ∷ 1 ∷ 0 ∷ 0 ∷ 0 ∷ 1 ∷ 1 ∷ 1 ∷ 2 ∷ 0 ∷ 0 ∷ 1 ∷ 1 ∷ 1 ∷ 1 ∷ 2 ∷ 0 ∷ 0 ∷ 2 ∷ 1 ∷ 1 ∷ 1 ∷ 2 ∷ []
+
 -- link 0 is down in slot 0 and whole again from slot 1 on: no cut list does this, and a message once turned stays turned
 abbrev pub brief : ℕ → ℕ → Bool
 brief i e = eqb i 0 && eqb e 0
-
--- the kinds of message m in so many slots of a row of events: every other number, message by message
-unfoldable pub kindsOf : ℕ → ℕ → ℕ → List ℕ → List ℕ
-kindsOf messages m zero row = []
-kindsOf messages m (suc slots) row = getD row (m * 2) 0 ∷ kindsOf messages m slots (drop (messages * 2) row)
-
-abbrev pub kindsUnder : (ℕ → ℕ → Bool) → List ℕ → ℕ → List ℕ
-kindsUnder down row m =
-    kindsOf (length (planOf row .messages)) m (planOf row .timeout)
-    (events byNumber down (tableOf (planOf row)) 0 (planOf row .timeout) (start (planOf row)))
 
 -- message m is at its target at a time
 abbrev pub thereAt : List ℕ → List ℕ → ℕ → ℕ → Bool
@@ -88,29 +83,26 @@ pub data Case : Type 0 where
   same : List ℕ → List ℕ → Case
   -- a row, a cut list, the arrivals and the events
   plays : List ℕ → List ℕ → ℕ → List ℕ → Case
-  -- a row, a cut list, the arrivals, and one message with its kinds, slot by slot
-  follows : List ℕ → List ℕ → ℕ → ℕ → List ℕ → Case
   -- a row, a cut list, a message, and the time at which it arrives
   arrives : List ℕ → List ℕ → ℕ → ℕ → Case
-  -- a row, what is down in which slot, and one message with its kinds
-  comesAndGoes : List ℕ → (ℕ → ℕ → Bool) → ℕ → List ℕ → Case
+  -- a row, what is down in which slot, and the events
+  comesAndGoes : List ℕ → (ℕ → ℕ → Bool) → List ℕ → Case
   -- a row, a message, a place, and the slack
   spares : List ℕ → ℕ → ℕ → ℤ → Case
-  -- a row, k, l, and the list that the verdict answers
+  -- a row, k, l, and the list that the verdict answers, with exactly the room needed
   fails : List ℕ → ℕ → ℕ → List ℕ → Case
 
 abbrev pub Holds : Case → Type 0
 Holds (reads file lent says) = readFile file lent ≡ says
 Holds (same file row) =
     (rowOf file ≡ row) × (fileOf row ≡ file) × (readFile file (length row) ≡ gives (length row)) × (writeFile row (length file) ≡ gives (length file))
-Holds (plays row cuts n events) =
-    (replay row cuts (length events) ≡ gives n) × (eventRow (planOf row) cuts ≡ events)
-Holds (follows row cuts n m kinds) =
-    (replay row cuts 16 ≡ gives n) × (kindsUnder (isCut cuts) row m ≡ kinds)
+Holds (plays row cuts n told) =
+    (replay row cuts (length told) ≡ gives n) × (eventRow (planOf row) cuts ≡ told)
 Holds (arrives row cuts m time) = (thereAt row cuts m (time - 1) ≡ false) × (thereAt row cuts m time ≡ true)
-Holds (comesAndGoes row down m kinds) = kindsUnder down row m ≡ kinds
+Holds (comesAndGoes row down told) =
+    events byNumber down (tableOf (planOf row)) 0 (planOf row .timeout) (start (planOf row)) ≡ told
 Holds (spares row m p z) = (maySpare row m p ≡ gives 0) × (slack row m p ≡ z)
-Holds (fails row k l cuts) = FirstFailing (planOf row) k l cuts
+Holds (fails row k l cuts) = (mayJudge row k l (2 * k) ≡ gives (2 * k)) × FirstFailing (planOf row) k l cuts
 
 -- the cases marked P
 abbrev pub table : List Case
@@ -121,16 +113,20 @@ table =
     reads (fileWith 0x20 0x00) 25 (refused 1 0) ∷
     plays rowB (0 ∷ 0 ∷ []) 2
     (3 ∷ 1 ∷ 5 ∷ 0 ∷ 3 ∷ 2 ∷ 3 ∷ 1 ∷ 0 ∷ 0 ∷ 3 ∷ 2 ∷ 0 ∷ 0 ∷ 0 ∷ 0 ∷ []) ∷
-    follows rowB (1 ∷ 0 ∷ []) 2 1 (1 ∷ 3 ∷ 3 ∷ 0 ∷ []) ∷
+    plays rowB (1 ∷ 0 ∷ []) 2
+    (2 ∷ 0 ∷ 1 ∷ 0 ∷ 0 ∷ 0 ∷ 3 ∷ 1 ∷ 0 ∷ 0 ∷ 3 ∷ 2 ∷ 0 ∷ 0 ∷ 0 ∷ 0 ∷ []) ∷
     spares rowB 0 0 (pos 2) ∷
     spares rowB 1 0 (negsuc 0) ∷
     arrives rowB (0 ∷ 0 ∷ []) 1 3 ∷
     plays rowA [] 2
     (2 ∷ 0 ∷ 2 ∷ 2 ∷ 2 ∷ 1 ∷ 2 ∷ 3 ∷ 0 ∷ 0 ∷ 0 ∷ 0 ∷ 0 ∷ 0 ∷ 0 ∷ 0 ∷ []) ∷
-    follows rowA (0 ∷ 0 ∷ []) 2 0 (4 ∷ 3 ∷ 3 ∷ 0 ∷ []) ∷
+    plays rowA (0 ∷ 0 ∷ []) 2
+    (4 ∷ 1 ∷ 2 ∷ 2 ∷ 3 ∷ 2 ∷ 2 ∷ 3 ∷ 3 ∷ 3 ∷ 0 ∷ 0 ∷ 0 ∷ 0 ∷ 0 ∷ 0 ∷ []) ∷
     arrives rowA (0 ∷ 0 ∷ []) 0 3 ∷
-    follows rowA (1 ∷ 1 ∷ []) 1 0 (2 ∷ 6 ∷ 6 ∷ 6 ∷ []) ∷
-    follows rowA (0 ∷ 0 ∷ 0 ∷ 2 ∷ []) 0 0 (7 ∷ 7 ∷ 7 ∷ 7 ∷ []) ∷
+    plays rowA (1 ∷ 1 ∷ []) 1
+    (2 ∷ 0 ∷ 2 ∷ 2 ∷ 6 ∷ 1 ∷ 2 ∷ 3 ∷ 6 ∷ 1 ∷ 0 ∷ 0 ∷ 6 ∷ 1 ∷ 0 ∷ 0 ∷ []) ∷
+    plays rowA (0 ∷ 0 ∷ 0 ∷ 2 ∷ []) 0
+    (7 ∷ 2 ∷ 7 ∷ 0 ∷ 7 ∷ 2 ∷ 7 ∷ 0 ∷ 7 ∷ 2 ∷ 7 ∷ 0 ∷ 7 ∷ 2 ∷ 7 ∷ 0 ∷ []) ∷
     fails rowA 2 1 (0 ∷ 0 ∷ 0 ∷ 2 ∷ []) ∷
     []
 
@@ -139,10 +135,13 @@ abbrev pub ownTable : List Case
 ownTable =
     fails rowLate 1 2 (2 ∷ 0 ∷ []) ∷
     fails rowOrder 1 3 (0 ∷ 3 ∷ []) ∷
-    follows rowOwn (0 ∷ 0 ∷ []) 1 0 (3 ∷ 3 ∷ 4 ∷ 3 ∷ []) ∷
+    plays rowOwn (0 ∷ 0 ∷ []) 1 (3 ∷ 2 ∷ 3 ∷ 3 ∷ 4 ∷ 0 ∷ 3 ∷ 1 ∷ []) ∷
     spares rowOwn 0 0 (pos 0) ∷
-    comesAndGoes rowB brief 1 (5 ∷ 3 ∷ 3 ∷ 0 ∷ []) ∷
+    comesAndGoes rowB brief
+    (3 ∷ 1 ∷ 5 ∷ 0 ∷ 3 ∷ 2 ∷ 3 ∷ 1 ∷ 0 ∷ 0 ∷ 3 ∷ 2 ∷ 0 ∷ 0 ∷ 0 ∷ 0 ∷ []) ∷
     spares rowTwice 1 0 (pos 3) ∷
+    plays rowThree (1 ∷ 0 ∷ []) 3
+    (2 ∷ 0 ∷ 1 ∷ 0 ∷ 1 ∷ 0 ∷ 0 ∷ 0 ∷ 3 ∷ 1 ∷ 5 ∷ 1 ∷ 0 ∷ 0 ∷ 3 ∷ 2 ∷ 3 ∷ 1 ∷ 0 ∷ 0 ∷ 0 ∷ 0 ∷ 3 ∷ 2 ∷ []) ∷
     []
 
 -- every row of a table holds
