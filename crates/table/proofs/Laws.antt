@@ -1,5 +1,4 @@
 -- Laws of the table: one place put, the places of a message put one by one, and the entries of one message more.
--- an entry that nobody enters stays
 use Prim.Native.Nat.{ℕ, zero, suc, _+_, _-_, _*_, _≤_, _<_}
 use mathlib.Core.Path.{_≡_, refl, sym, _∙_, ap}
 use mathlib.Core.Bool.{Bool, true, false, cond, _&&_, _||_}
@@ -20,8 +19,10 @@ use Rattle.scope.specs.Cycle.{entryOf, tableOf}
 use Rattle.view.specs.View.{Is}
 use Rattle.view.proofs.Index.{places-first, places-next, places-done, messages-suc}
 use Rattle.view.proofs.Parts.{places-all, places-more, places-none, message-count, path-at}
-use Rattle.table.specs.Table.{Table, Entered, Below, entryAt, marked, entered, ownerBelow}
+use Rattle.table.specs.Table.{Table, Entered, Below, indexOf, entryAt, marked, entered, ownerBelow}
+use Rattle.table.proofs.Entries.{entry-in}
 
+-- an entry that nobody enters stays
 stays : (old : ℕ) → cond (ltb 0 old) old 0 ≡ old
 stays old = by (ltb 0 old) refl
   where
@@ -59,30 +60,32 @@ module _ (table : List ℕ) (w link slot : ℕ) (long : length table ≡ 4096) w
       held i e p q = rw (← p, ← q) (some (entryAt table slot link) h)
 
   -- they are free
-  pub mark-free : link < 64 → slot < 64 → entryAt table slot link ≡ 0 →
-      Table (λ i e. marked w link slot i e (entryAt table i e)) (set table (slot * 64 + link) w)
-  mark-free hl hs h =
-      record { long = length-set table (slot * 64 + link) w ∙ long; is = λ i e hi he. by i e hi he (eqb link e) (eqb slot i) refl refl }
+  pub mark-free : (k : ℕ) → k ≡ indexOf slot link → link < 64 → slot < 64 → entryAt table slot link ≡ 0 →
+      Table (λ i e. marked w link slot i e (entryAt table i e)) (set table k w)
+  mark-free k z hl hs h =
+      record { long = length-set table k w ∙ long; is = λ i e hi he. entry-in (set table k w) i e hi he ∙ by i e hi he (eqb link e) (eqb slot i) refl refl }
     where
       free : (i e : ℕ) → link ≡ e → slot ≡ i → entryAt table i e ≡ 0
       free i e p q = rw (← p, ← q) h
 
+      -- another entry stays as it was
+      other : (i e : ℕ) → i < 64 → e < 64 → (indexOf i e ≡ k → ⊥) → getD (set table k w) (indexOf i e) 0 ≡ cond (ltb 0 (entryAt table i e)) (entryAt table i e) 0
+      other i e hi he n = getD-set-other table k (indexOf i e) w 0 n ∙ sym (entry-in table i e hi he) ∙ sym (stays (entryAt table i e))
+
       by : (i e : ℕ) → i < 64 → e < 64 → (s t : Bool) → eqb link e ≡ s → eqb slot i ≡ t →
-          entryAt (set table (slot * 64 + link) w) i e ≡ cond (ltb 0 (entryAt table i e)) (entryAt table i e) (cond (s && t) w 0)
+          getD (set table k w) (indexOf i e) 0 ≡ cond (ltb 0 (entryAt table i e)) (entryAt table i e) (cond (s && t) w 0)
       by i e hi he true true p q =
           let a : link ≡ e = eqb-true link e p in
           let b : slot ≡ i = eqb-true slot i q in
-          let k : i * 64 + e ≡ slot * 64 + link = omega arith in
-          let z : entryAt table i e ≡ 0 = free i e a b in
-          let f : ltb 0 0 ≡ false = refl in
-          let g : getD (set table (slot * 64 + link) w) (slot * 64 + link) 0 ≡ w = getD-set-same table (slot * 64 + link) w 0 (omega arith) in
-          ap (λ n. getD (set table (slot * 64 + link) w) n 0) k ∙ g ∙ sym (ap (λ x. cond (ltb 0 x) x w) z)
+          let same : indexOf i e ≡ k = omega arith in
+          let l : k < length table = omega arith in
+          ap (λ n. getD (set table k w) n 0) same ∙ getD-set-same table k w 0 l ∙ sym (ap (λ x. cond (ltb 0 x) x w) (free i e a b))
       by i e hi he true false p q =
           let b : slot ≡ i → ⊥ = eqb-false slot i q in
-          getD-set-other table (slot * 64 + link) (i * 64 + e) w 0 (λ g. b (omega arith)) ∙ sym (stays (entryAt table i e))
+          other i e hi he (λ g. b (omega arith))
       by i e hi he false t p q =
           let b : link ≡ e → ⊥ = eqb-false link e p in
-          getD-set-other table (slot * 64 + link) (i * 64 + e) w 0 (λ g. b (omega arith)) ∙ sym (stays (entryAt table i e))
+          other i e hi he (λ g. b (omega arith))
 
 -- one place of a message put, and then the others
 pub enter-place : (w : ℕ) (p : Place) (ps : List Place) (i e old : ℕ) → 0 < w →
@@ -153,7 +156,7 @@ pub zeros-next : (table : List ℕ) (k : ℕ) → k < length table → ((j : ℕ
 zeros-next table k h z = below-more (λ j. getD (set table k 0) j 0 ≡ 0) k (λ j l. getD-set-other table k j 0 0 (λ e. omega arith) ∙ z j l) (getD-set-same table k 0 0 h)
 
 pub zeros-done : (table : List ℕ) (k : ℕ) → length table ≡ 4096 → 4096 ≤ k → ((j : ℕ) → j < k → getD table j 0 ≡ 0) → Table (λ i e. 0) table
-zeros-done table k long h z = record { long = long; is = λ i e hi he. z (i * 64 + e) (omega arith) }
+zeros-done table k long h z = record { long = long; is = λ i e hi he. entry-in table i e hi he ∙ z (indexOf i e) (omega arith) }
 
 -- the lowest of one number more
 lowest-next : (test : ℕ → Bool) (m : ℕ) → lowest test (m + 1) ≡ cond (ltb (lowest test m) m) (lowest test m) (cond (test m) m (m + 1))

@@ -11,8 +11,12 @@ use Rattle.scope.specs.Good.{holds}
 use Rattle.scope.specs.Cycle.{entryOf}
 use Rattle.scope.specs.SecondPath.{messageIndex}
 
+abbrev pub indexOf : ℕ → ℕ → ℕ
+indexOf i e = i * 64 + e
+
+-- who has link e in slot i: nobody where the table has no such slot or link
 abbrev pub entryAt : List ℕ → ℕ → ℕ → ℕ
-entryAt table i e = getD table (i * 64 + e) 0
+entryAt table i e = cond (ltb i 64 && ltb e 64) (getD table (indexOf i e) 0) 0
 
 -- an entry after a place was put: who holds it already keeps it
 abbrev pub marked : ℕ → ℕ → ℕ → ℕ → ℕ → ℕ → ℕ

@@ -5,20 +5,28 @@ ghost use Prim.Native.Nat.{_<_, _≤_, _^_};
 ghost use lib.ListN.{length};
 ghost use Rattle.scope.specs.Plan.{planOf, messageCount};
 ghost use Rattle.scope.specs.Cycle.{tableOf};
-ghost use Rattle.view.specs.View.{Is};
-ghost use Rattle.table.specs.Table.{Table, Entered, entryAt, marked};
+ghost use Rattle.table.specs.Table.{Table, Entered, indexOf, entryAt, marked};
 
-// The entry of a slot and a link: the message that holds them plus one, or 0.
-pub fn entry(table: &[u8], slot: usize, link: usize) -> usize
-    requires { ⌜ (slot < 65536) × (link < 65536) ⌝ }
-    ensures { λ r. ⌜ Is (entryAt (now (table .entry)) slot link) 255 r ⌝ }
+// Where the table has a slot and a link.
+fn index(slot: usize, link: usize) -> usize
+    requires { ⌜ (slot < 64) × (link < 64) ⌝ }
+    ensures { λ r. ⌜ r ≡ indexOf slot link ⌝ }
 {
-    let at = slot * 64 + link;
-    if at < table.len() {
-        table[at] as usize
-    } else {
-        0
+    slot * 64 + link
+}
+
+// Who has a link in a slot: the message that holds them plus one, or 0 where nobody does or the table has no such slot or link.
+pub fn entry(table: &[u8], slot: usize, link: usize) -> u8
+    ensures { λ r. ⌜ r ≡ entryAt (now (table .entry)) slot link ⌝ }
+{
+    if 64 <= slot {
+        return 0;
     }
+    if 64 <= link {
+        return 0;
+    }
+    let k = index(slot, link);
+    if k < table.len() { table[k] } else { 0 }
 }
 
 // Puts w at a slot and a link, unless they are held already or the table has no such slot or link.
@@ -32,10 +40,10 @@ fn mark(table: &mut [u8], link: usize, slot: usize, w: u8)
     if 64 <= slot {
         return;
     }
-    let k = slot * 64 + link;
-    if table[k] != 0 {
+    if entry(table, slot, link) != 0 {
         return;
     }
+    let k = index(slot, link);
     table[k] = w;
 }
 
