@@ -1,29 +1,25 @@
--- When a link is down, read off one number a link: the first slot in which it is cut.
-use Prim.Native.Nat.{ℕ, _<_}
+-- What is down in a slot, one byte a link: what a slot is lent, and how a cut list becomes it.
+use Prim.Native.Nat.{ℕ}
 use mathlib.Core.Path.{_≡_}
-use mathlib.Core.Bool.{Bool, cond}
+use mathlib.Core.Bool.{Bool, cond, _&&_}
 use mathlib.Core.List.{List}
 use lib.ListN.{length, getD, set}
 use lib.Dec.{ltb, leb}
 use Rattle.scope.specs.Cuts.{isCut}
 
--- a number above every slot: such a link is never cut
-abbrev pub never : ℕ
-never = 65535
+-- link e is down: its byte is not 0, and a link past the list is whole
+abbrev pub isDown : List ℕ → ℕ → Bool
+isDown down e = ltb 0 (getD down e 0)
 
--- the first slot in which link e is cut
-abbrev pub cutFrom : List ℕ → ℕ → ℕ
-cutFrom from e = getD from e 65535
+-- one more pair, of slot `at`: if it is not later than slot i, its link is down
+abbrev pub withPair : List ℕ → ℕ → ℕ → ℕ → List ℕ
+withPair down at link i = cond (leb at i) (set down link 1) down
 
--- link e is down in slot i: "A link is cut in its slot and every later one"
-abbrev pub downOf : List ℕ → ℕ → ℕ → Bool
-downOf from i e = leb (cutFrom from e) i
+-- of the links that a plan can have, those that a list cuts in slot i
+abbrev pub cutBelow : List ℕ → ℕ → ℕ → Bool
+cutBelow cuts i e = ltb e 64 && isCut cuts i e
 
--- `from` after one more pair: the earlier slot stays, and a link for which there is no number is passed over
-abbrev pub earlier : List ℕ → ℕ → ℕ → List ℕ
-earlier from slot link = set from link (cond (ltb slot (cutFrom from link)) slot (cutFrom from link))
-
--- `from` has n numbers, and tells of each link below n when it is cut
-pub record Tells (cuts : List ℕ) (n : ℕ) (from : List ℕ) : Type 0 where
-  pub long : length from ≡ n
-  pub is : (i e : ℕ) → i < never → e < n → downOf from i e ≡ isCut cuts i e
+-- they are what is down
+pub record DownIn (cuts : List ℕ) (i : ℕ) (down : List ℕ) : Type 0 where
+  pub long : length down ≡ 64
+  pub is : (e : ℕ) → isDown down e ≡ cutBelow cuts i e

@@ -49,24 +49,24 @@ module _ (table : List ℕ) (w link slot : ℕ) (long : length table ≡ 4096) w
   pub mark-no-slot : 64 ≤ slot → Table (λ i e. marked w link slot i e (entryAt table i e)) table
   mark-no-slot h = kept (λ i e hi he p q. omega arith)
 
-  pub mark-held : (entryAt table slot link ≡ 0 → ⊥) → Table (λ i e. marked w link slot i e (entryAt table i e)) table
-  mark-held h = kept (λ i e hi he p q. held i e p q)
+  pub mark-held : (x : ℕ) → x ≡ entryAt table slot link → (x ≡ 0 → ⊥) → Table (λ i e. marked w link slot i e (entryAt table i e)) table
+  mark-held x z h = kept (λ i e hi he p q. held i e p q)
     where
       some : (x : ℕ) → (x ≡ 0 → ⊥) → 0 < x
       some zero n = absurd (n refl)
       some (suc x) n = omega arith
 
       held : (i e : ℕ) → link ≡ e → slot ≡ i → 0 < entryAt table i e
-      held i e p q = rw (← p, ← q) (some (entryAt table slot link) h)
+      held i e p q = rw (← p, ← q, ← z) (some x h)
 
   -- they are free
-  pub mark-free : (k : ℕ) → k ≡ indexOf slot link → link < 64 → slot < 64 → entryAt table slot link ≡ 0 →
+  pub mark-free : (k : ℕ) → k ≡ indexOf slot link → link < 64 → slot < 64 → (x : ℕ) → x ≡ entryAt table slot link → x ≡ 0 →
       Table (λ i e. marked w link slot i e (entryAt table i e)) (set table k w)
-  mark-free k z hl hs h =
+  mark-free k z hl hs x y h =
       record { long = length-set table k w ∙ long; is = λ i e hi he. entry-in (set table k w) i e hi he ∙ by i e hi he (eqb link e) (eqb slot i) refl refl }
     where
       free : (i e : ℕ) → link ≡ e → slot ≡ i → entryAt table i e ≡ 0
-      free i e p q = rw (← p, ← q) h
+      free i e p q = rw (← p, ← q, ← y) h
 
       -- another entry stays as it was
       other : (i e : ℕ) → i < 64 → e < 64 → (indexOf i e ≡ k → ⊥) → getD (set table k w) (indexOf i e) 0 ≡ cond (ltb 0 (entryAt table i e)) (entryAt table i e) 0

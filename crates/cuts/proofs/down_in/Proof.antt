@@ -1,22 +1,22 @@
--- `cuts::cut_from` meets its contract. The loop's invariant: `from` tells of the first j pairs. Assumes nothing.
+-- `cuts::down_in` meets its contract. The loop's invariant: `down` tells of the first j pairs. Assumes nothing.
 use Prim.Native.Nat.{_-_, _≤_}
 use native.Mathlib.Omega.{arith}
-use Rattle.cuts.proofs.From.{Told, told-none, told-step, told-all}
+use Rattle.cuts.proofs.Downs.{Told, told-none, told-more, told-all}
 use borrow.Author.Needs.{needs}
-use Rattle.cuts.proofs.cut_from.Statement.{statement}
-use Rattle.cuts.proofs.cut_from.Tie as tie
+use Rattle.cuts.proofs.down_in.Statement.{statement}
+use Rattle.cuts.proofs.down_in.Tie as tie
 
 abbrev Inv-loop : tie.InvT-loop
-Inv-loop cuts from₀ n j₀ from j = (j ≤ n) × Told cuts 64 j from
+Inv-loop cuts slot down₀ n j₀ down j = (j ≤ n) × Told cuts slot j down
 
 abbrev μ-loop : tie.MeasureT-loop
-μ-loop cuts from₀ n j₀ from j = n - j
+μ-loop cuts slot down₀ n j₀ down j = n - j
 
 count-requires : tie.Need-count-requires Inv-loop μ-loop
 count-requires c κs = search needs
 
 loop-holds : tie.Need-loop-holds Inv-loop μ-loop
-loop-holds c = (omega arith, told-none _ 64)
+loop-holds c = (omega arith, told-none _ _)
 
 mul-number : tie.Need-mul-number Inv-loop μ-loop
 mul-number c = search needs
@@ -48,15 +48,15 @@ loop-less c = search needs
 loop-again : tie.Need-loop-again Inv-loop μ-loop
 loop-again c = (
   search needs,
-  told-step _ _ _ _ _ _ _ (c .before .before .before .before .before .before .loop .inv .1) (c .before .before .before .before .number .ensures .is)
+  told-more _ _ _ _ _ _ _ (c .before .before .before .before .before .before .loop .inv .1) (c .before .before .before .before .number .ensures .is)
       (c .before .before .before .number2 .ensures .is) (c .before .put-pair .ensures),
 )
 
 returns : tie.Need-returns Inv-loop μ-loop
 returns c = told-all _ _ _ _ (omega (arith, c .before .before .count .ensures)) (c .before .loop .inv .1)
 
-pub cut-from-spec : {M : Type 1} → statement M
-cut-from-spec =
+pub down-in-spec : {M : Type 1} → statement M
+down-in-spec =
     tie.close
     (tie.spec
     Inv-loop

@@ -1,6 +1,4 @@
 -- `table::mark` meets its contract: one law for each way out. Assumes nothing.
-use mathlib.Core.Path.{sym, _∙_}
-use native.Mathlib.Omega.{arith}
 use borrow.Author.Needs.{needs}
 use Rattle.table.proofs.Laws as law
 use Rattle.table.proofs.mark.Statement.{statement}
@@ -21,7 +19,7 @@ same-length c = search needs
 returns-3 : tie.Need-returns-3
 returns-3 c =
     let a = c .before .before .before .before .before .before .args in
-    law.mark-held (a .table .now) (a .w) (a .link) (a .slot) (c .before .before .before .before .before .before .pre) (λ z. c .if3 .taken (c .before .entry .ensures ∙ z))
+    law.mark-held (a .table .now) (a .w) (a .link) (a .slot) (c .before .before .before .before .before .before .pre) _ (c .before .entry .ensures) (c .if3 .taken)
 
 index-requires : tie.Need-index-requires
 index-requires c κs = search needs
@@ -36,7 +34,7 @@ returns-4 : tie.Need-returns-4
 returns-4 c =
     let a = c .before .before .before .before .before .before .before .args in
     law.mark-free (a .table .now) (a .w) (a .link) (a .slot) (c .before .before .before .before .before .before .before .pre) (c .index .result) (c .index .ensures) (c .before .before .before .before .before .if1 .left) (c .before .before .before .before .if2 .left)
-    (sym (c .before .before .entry .ensures) ∙ c .before .if3 .left)
+    _ (c .before .before .entry .ensures) (c .before .if3 .left)
 
 pub mark-spec : {M : Type 1} → statement M
 mark-spec =
