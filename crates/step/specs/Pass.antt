@@ -10,11 +10,11 @@ use Rattle.scope.specs.Lowest.{lowest}
 use Rattle.scope.specs.Plan.{at, numbersAt}
 use Rattle.scope.specs.Slot as S
 use Rattle.scope.specs.Cycle.{byNumber, slot, nexts}
 use Rattle.step.specs.declared.Position.{Position}
 use Rattle.step.specs.declared.Met.{Met}
 use Rattle.step.specs.declared.Moved.{Moved}
 use Rattle.step.specs.Where.{positionOf, endOf, Leads, Acts}
-use Rattle.cycle.specs.Stand.{positionsOf, Stand, Become}
+use Rattle.step.specs.Stand.{positionsOf, Stand, Become}
 
 -- who has tried which link in this slot: how many have, then a link and a message for each
 abbrev pub triers : List ℕ → ℕ

@@ -13,11 +13,11 @@ use Rattle.scope.specs.Lowest.{seek, lowest}
 use Rattle.scope.proofs.Lowest.{seek-most}
 use Rattle.scope.specs.Slot as S
 use Rattle.scope.specs.Cycle.{byNumber, foremost}
 use Rattle.step.specs.declared.Position.{Position}
 use Rattle.step.specs.Where.{positionOf}
-use Rattle.cycle.specs.Stand.{home, positionsOf}
-use Rattle.cycle.specs.Slot.{ownerOf}
-use Rattle.cycle.specs.Pass.{triers, triedLink, triedBy, foundAt, firstTrier, noted, Noting}
+use Rattle.step.specs.Stand.{home, positionsOf}
+use Rattle.table.specs.Table.{entryAt}
+use Rattle.step.specs.Pass.{triers, triedLink, triedBy, foundAt, firstTrier, noted, Noting}
 
 -- one more element through a function
 pub map-snoc : {A B : Type 0} (f : A → B) (xs : List A) (x : A) → map f (xs ++ (x ∷ [])) ≡ map f xs ++ (f x ∷ [])
@@ -191,11 +191,11 @@ fits-noted tried m n e =
 
 -- the three ways to read the table
 module _ (table : List ℕ) (i e : ℕ) where
-  pub owner-is : e < 64 → getD table (i * 64 + e) 0 ≡ ownerOf table i e
+  pub owner-is : e < 64 → getD table (i * 64 + e) 0 ≡ entryAt table i e
   owner-is h = rw (lt-ltb e 64 h)
 
-  pub owner-end : e < 64 → length table ≤ i * 64 + e → 0 ≡ ownerOf table i e
+  pub owner-end : e < 64 → length table ≤ i * 64 + e → 0 ≡ entryAt table i e
   owner-end h g = sym (List·getD-eq-default table 0 g) ∙ owner-is h
 
-  pub owner-none : 64 ≤ e → 0 ≡ ownerOf table i e
+  pub owner-none : 64 ≤ e → 0 ≡ entryAt table i e
   owner-none h = rw (le-ltb e 64 h)

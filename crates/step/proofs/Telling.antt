@@ -9,15 +9,15 @@ use lib.ListN.{length, getD, take, drop, set, length-append, length-drop}
 use lib.Seq.{length-take-le, take-suc, take-all, drop-cons, append-snoc, set-at}
 use Rattle.scope.specs.Slot as S
 use Rattle.scope.specs.Cycle.{byNumber, slot, numbers}
 use Rattle.step.specs.declared.Position.{Position}
 use Rattle.step.specs.declared.Moved.{Moved}
 use Rattle.step.specs.Events.{eventOf}
 use Rattle.step.specs.Where.{positionOf}
-use Rattle.cycle.specs.Stand.{home, positionsOf}
-use Rattle.cycle.specs.Pass.{triers, pass, ActsIn}
-use Rattle.cycle.proofs.Moves.{numbers-length}
-use Rattle.cycle.proofs.Pass.{pass-slot}
-use Rattle.cycle.proofs.Passing.{Passing, passing-none, passing-at, passing-more, stands-length, all-length}
+use Rattle.step.specs.Stand.{home, positionsOf}
+use Rattle.step.specs.Pass.{triers, pass, ActsIn}
+use Rattle.step.proofs.Moves.{numbers-length}
+use Rattle.step.proofs.Pass.{pass-slot}
+use Rattle.step.proofs.Passing.{Passing, passing-none, passing-at, passing-more, stands-length, all-length}
 
 -- one more number at the front of a buffer
 put-one : (w out : List ℕ) (k v : ℕ) → k < length w → k < length out → v ≡ getD w k 0 → set (take k w ++ drop k out) k v ≡ take (k + 1) w ++ drop (k + 1) out

@@ -1,7 +1,7 @@
--- `cycle::put_event` meets its contract: what `kind` and `number` give is stored. Assumes nothing.
+-- `step::put_event` meets its contract: what `kind` and `number` give is stored. Assumes nothing.
 use borrow.Author.Needs.{needs}
-use Rattle.cycle.proofs.put_event.Statement.{statement}
-use Rattle.cycle.proofs.put_event.Tie as tie
+use Rattle.step.proofs.put_event.Statement.{statement}
+use Rattle.step.proofs.put_event.Tie as tie
 
 kind-requires : tie.Need-kind-requires
 kind-requires c κs = search needs

@@ -9,14 +9,14 @@ use lib.ListN.{length, getD, drop, set, length-drop, drop-of-length-le}
 use lib.Seq.{set-getD, getD-drop, drop-cons, ext-getD}
 use Rattle.scope.specs.Slot as S
 use Rattle.scope.specs.Cycle.{slot, nexts}
 use Rattle.step.specs.declared.Position.{Position}
 use Rattle.step.specs.Where.{positionOf}
-use Rattle.cycle.specs.Stand.{home, positionsOf}
-use Rattle.cycle.specs.Pass.{triers, pass, MayAct, MovesIn, MayMoveAll, MovesAll}
-use Rattle.cycle.proofs.Going.{nextFrom, Going, going-none, going-fits, going-more, going-done}
-use Rattle.cycle.proofs.Acting.{home-does, home-tried}
-use Rattle.cycle.proofs.Pass.{pass-slot}
-use Rattle.cycle.proofs.Passing.{Passing, passing-none, passing-notes, passing-at, passing-more, passing-done, stands-length, all-length}
+use Rattle.step.specs.Stand.{home, positionsOf}
+use Rattle.step.specs.Pass.{triers, pass, MayAct, MovesIn, MayMoveAll, MovesAll}
+use Rattle.step.proofs.Going.{nextFrom, Going, going-none, going-fits, going-more, going-done}
+use Rattle.step.proofs.Acting.{home-does, home-tried}
+use Rattle.step.proofs.Pass.{pass-slot}
+use Rattle.step.proofs.Passing.{Passing, passing-none, passing-notes, passing-at, passing-more, passing-done, stands-length, all-length}
 
 -- the next positions, one by one
 nexts-from : (all : List S.Moved) (d : S.Moved) (m : ℕ) (ps : List S.Position) → m + length ps ≡ length all → nextFrom (λ k p. getD all k d .next) m ps ≡ nexts (drop m all)

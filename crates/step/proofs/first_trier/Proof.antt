@@ -1,4 +1,4 @@
--- `cycle::first_trier` meets its contract: what is still to look at gives what the whole gives. Assumes nothing.
+-- `step::first_trier` meets its contract: what is still to look at gives what the whole gives. Assumes nothing.
 use Prim.Native.Nat.{ℕ, _+_, _-_, _*_, _≤_, _<_}
 use mathlib.Core.List.{List}
 use mathlib.Core.Path.{_≡_, refl, sym, _∙_, ap}
@@ -8,10 +8,10 @@ use borrow.Author.Tests.{eq-eqb, ne-eqb}
 use borrow.Author.Needs.{needs}
 use Rattle.scope.specs.Lowest.{seek}
 use Rattle.scope.proofs.Lowest.{seek-found, seek-next, seek-done}
-use Rattle.cycle.specs.Pass.{triers, triedLink, foundAt, Noting}
-use Rattle.cycle.proofs.Tried.{trier-at, trier-past}
-use Rattle.cycle.proofs.first_trier.Statement.{statement}
-use Rattle.cycle.proofs.first_trier.Tie as tie
+use Rattle.step.specs.Pass.{triers, triedLink, foundAt, Noting}
+use Rattle.step.proofs.Tried.{trier-at, trier-past}
+use Rattle.step.proofs.first_trier.Statement.{statement}
+use Rattle.step.proofs.first_trier.Tie as tie
 
 -- the entries from j on are still to be looked at
 pub record Looking (tried : List ℕ) (link m n j : ℕ) : Type 0 where

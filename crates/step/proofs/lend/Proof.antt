@@ -1,5 +1,5 @@
--- `cycle::lend` meets its contract: a walk of its MIR, by hand. The array is copied to a local, which is lent as a slice to `move_all` for a lifetime of the call, and comes back as the list that `move_all`'s contract says.
--- row, table, from and tried are passed on at their own lifetimes, shares and names: nothing of them is needed after the call, and what `move_all` says of the last list of tried is what `lend` says of it.
+-- `step::lend` meets its contract: a walk of its MIR, by hand. The array is copied to a local, which is lent as a slice to `move_all` for a lifetime of the call, and comes back as the list that `move_all`'s contract says.
+-- row, table, down and tried are passed on at their own lifetimes, shares and names: nothing of them is needed after the call, and what `move_all` says of the last list of tried is what `lend` says of it.
 -- All that the proof knows of `move_all` is that it meets its contract.
 -- Assumes nothing.
 use mathlib.Core.Path.{_≡_, refl, sym, _∙_, ap, subst}
@@ -50,23 +50,23 @@ use denote.Triple.Walked.{says, needs, Stays, stay-dropped, gave-slice, walkOf, 
 use denote.Exit.{yes}
 use denote.Signature.{Slot as Param, AllWithin, plain, shrSliceOf}
 use denote.Signature.Array.{arrayOf}
-use Rattle.cuts.specs.From.{downOf}
+use Rattle.step.specs.Slot.{downNow}
 use Rattle.step.specs.declared.Position.{Position}
 use Rattle.step.specs.declared.Slot.{Slot}
 use Rattle.step.proofs.Position as P
 use Rattle.step.proofs.Position.Laws as P′
 use Rattle.step.proofs.Slot as S
 use Rattle.step.proofs.Slot.Laws as S′
-use Rattle.cycle.specs.Slot.{ownerOf}
-use Rattle.cycle.specs.Pass.{MayMoveAll, MovesAll}
-use Rattle.cycle.proofs.move_all as move-all
-use Rattle.cycle.proofs.move_all.Symbol as move-all-def
-use Rattle.cycle.proofs.move_all.Symbol.{name as #cycle·move-all}
-use Rattle.cycle.proofs.move_all.Met as move-all-thm
-use Rattle.cycle.proofs.lend as lend
-use Rattle.cycle.proofs.lend.Key.{name as #cycle·lend}
-use Rattle.cycle.proofs.lend.Statement as stated
-use Rattle.cycle.proofs.lend.Code as code
+use Rattle.table.specs.Table.{entryAt}
+use Rattle.step.specs.Pass.{MayMoveAll, MovesAll}
+use Rattle.step.proofs.move_all as move-all
+use Rattle.step.proofs.move_all.Symbol as move-all-def
+use Rattle.step.proofs.move_all.Symbol.{name as #step·move-all}
+use Rattle.step.proofs.move_all.Met as move-all-thm
+use Rattle.step.proofs.lend as lend
+use Rattle.step.proofs.lend.Key.{name as #step·lend}
+use Rattle.step.proofs.lend.Statement as stated
+use Rattle.step.proofs.lend.Code as code
 
 -- the array's slot, and those of the slices that are only read. Of all but tried nothing is had at exit
 abbrev ArrayP : Param 4
@@ -84,7 +84,7 @@ stayed = (
       stay-dropped (Shr 0 tt u16) yes,
       (
         stay-dropped (Shr 1 tt u8) yes,
-        (stay-dropped (Shr 2 tt u16) yes, (stay-dropped (plain (λ _. S.the-row)) yes, (gave-slice (3 ∷ []) tt (plain (λ _. u16)), tt))),
+        (stay-dropped (Shr 2 tt u8) yes, (stay-dropped (plain (λ _. S.the-row)) yes, (gave-slice (3 ∷ []) tt (plain (λ _. u16)), tt))),
       ),
     ),
   ),
@@ -146,7 +146,7 @@ module _ {M : Type 1} (𝓤 : URA M) (H : Heap 𝓤) (A : Atoms 𝓤) (W : Given
 
   -- what n and the parameters after it own
   abbrev Rest : Fml
-  Rest = owns (usize ∷ ShrSlice (named 0) κ₁ u16 ∷ ShrSlice (named 1) κ₂ u8 ∷ ShrSlice (named 2) κ₃ u16 ∷ S.the-row ∷ MutSlice (named 3) κ₄ u16 ∷ []) (n, (x₁, (x₂, (x₃, (i, (x₄, tt)))))) vals
+  Rest = owns (usize ∷ ShrSlice (named 0) κ₁ u16 ∷ ShrSlice (named 1) κ₂ u8 ∷ ShrSlice (named 2) κ₃ u8 ∷ S.the-row ∷ MutSlice (named 3) κ₄ u16 ∷ []) (n, (x₁, (x₂, (x₃, (i, (x₄, tt)))))) vals
 
   -- the local array at b, lent under the name γ; and what `move_all`'s triple binds outside, where it is lent for the lifetime ν
   abbrev lent : ℕ → GName → RefT (List Position)
@@ -157,7 +157,7 @@ module _ {M : Type 1} (𝓤 : URA M) (H : Heap 𝓤) (A : Atoms 𝓤) (W : Given
 
   -- what `move_all` says, at its last lists
   abbrev Moved : Ends → Type 0
-  Moved zs = MovesAll (x₁ .now) n (downOf (x₃ .now)) (ownerOf (x₂ .now)) (i .0) ps (zs .0) (x₄ .now) (zs .1 .1 .1 .1 .1 .1 .0)
+  Moved zs = MovesAll (x₁ .now) n (downNow (x₃ .now)) (entryAt (x₂ .now)) (i .0) ps (zs .0) (x₄ .now) (zs .1 .1 .1 .1 .1 .1 .0)
 
   goes : (ν b : ℕ) (γ : GName) → MayMoveAll (x₁ .now) ps n (i .0) (x₄ .now)
       → ent 𝓤 (⋆ 𝓤 H A ((‵ (flft (ν ∷ []) fullShare) ⊛ ‵ (flft κ₁ q₁) ⊛ ‵ (flft κ₂ q₂) ⊛ ‵ (flft κ₃ q₃) ⊛ ‵ (flft κ₄ q₄) ⊛ ‵ ftrue) ∷ ‵ (fsep (MutSlice (named 0) (ν ∷ []) P.the-row .own (lent b γ) (slice-vals (lent b γ))) Rest) ∷ []))
@@ -174,8 +174,8 @@ module _ {M : Type 1} (𝓤 : URA M) (H : Heap 𝓤) (A : Atoms 𝓤) (W : Given
       (tt, (tt, (tt, (tt, (tt, (tt, (zs .1 .1 .1 .1 .1 .1 .0, tt))))))) (tt, (tt, (tt, (tt, (tt, (tt, (long, tt)))))))) $ says ! e $
       move ! (1 ∷ []) $ frame ! $ move ! (1 ∷ 2 ∷ []) $ fjoin ! $ nothing ! $ fjoin ! $ nothing ! $ fjoin ! $ nothing ! $ fjoin ! $ nothing ! $ fjoin ! $ nothing ! $ fjoin ! $ nothing ! $ fjoin ! $ frame ! $ done !
 
-  module _ (C : Calls 𝓤 H) (Λ : Loops 𝓤 H) (fm : FmC 𝓤 H (W .laws) C) (known : Triple 𝓤 (C #cycle·move-all) (MoveAll 𝓤 H A at-mem run)) where
-    walk : Is R ps (mach ps ∷ []) → n < 2 ^ 64 → Room u16 (length (x₁ .now)) → Room u8 (length (x₂ .now)) → Room u16 (length (x₃ .now)) → Is S.the-row i (S′.lowered i ∷ []) → Room u16 (length (x₄ .now)) → MayMoveAll (x₁ .now) ps n (i .0) (x₄ .now)
+  module _ (C : Calls 𝓤 H) (Λ : Loops 𝓤 H) (fm : FmC 𝓤 H (W .laws) C) (known : Triple 𝓤 (C #step·move-all) (MoveAll 𝓤 H A at-mem run)) where
+    walk : Is R ps (mach ps ∷ []) → n < 2 ^ 64 → Room u16 (length (x₁ .now)) → Room u8 (length (x₂ .now)) → Room u8 (length (x₃ .now)) → Is S.the-row i (S′.lowered i ∷ []) → Room u16 (length (x₄ .now)) → MayMoveAll (x₁ .now) ps n (i .0) (x₄ .now)
         → ent 𝓤 (onEntry 𝓤 H A lend.signature (κ₁, (κ₂, (κ₃, (κ₄, tt)))) (q₁, (q₂, (q₃, (q₄, tt)))) a (mach ps ∷ [], vals))
         (WpFn 𝓤 H C Λ code.function (mach ps ∷ vint w64 n ∷ sliceVal (x₁ .ptr) (length (x₁ .now)) ∷ sliceVal (x₂ .ptr) (length (x₂ .now)) ∷ sliceVal (x₃ .ptr) (length (x₃ .now)) ∷ S′.lowered i ∷ sliceVal (x₄ .ptr) (length (x₄ .now)) ∷ []) Post)
     walk is-ps n-fits room₁ room₂ room₃ is-i room₄ may =
@@ -228,15 +228,15 @@ module _ {M : Type 1} (𝓤 : URA M) (H : Heap 𝓤) (A : Atoms 𝓤) (W : Given
         typed xs is = array-lawful 𝓤 H A W P.the-row (LL.lawful P.the-type P′.the-laws 𝓤 H A W) 32 .typed xs (mach xs ∷ []) is .0
 
 module _ {M : Type 1} (𝓤 : URA M) (H : Heap 𝓤) (A : Atoms 𝓤) (W : Given 𝓤 H A) (mem : Memory → SProp 𝓤) (run : Routine → Fun 𝓤) where
-  lend-walks : (C : Calls 𝓤 H) (Λ : Loops 𝓤 H) → FmC 𝓤 H (W .laws) C → Triple 𝓤 (C #cycle·move-all) (MoveAll 𝓤 H A mem run) → Walks 𝓤 H A lend.ended stayed (WpFn 𝓤 H C Λ code.function) (lend.clauses 𝓤 H A mem run)
+  lend-walks : (C : Calls 𝓤 H) (Λ : Loops 𝓤 H) → FmC 𝓤 H (W .laws) C → Triple 𝓤 (C #step·move-all) (MoveAll 𝓤 H A mem run) → Walks 𝓤 H A lend.ended stayed (WpFn 𝓤 H C Λ code.function) (lend.clauses 𝓤 H A mem run)
   lend-walks C Λ fm known = walked 𝓤 H A lend.ended stayed (lend.clauses 𝓤 H A mem run) (WpFn 𝓤 H C Λ code.function)
       (λ κs. (array-vals (LL.vals P.the-type P′.the-laws), (uint-vals w64, (slice-vals, (slice-vals, (slice-vals, (LL.vals S.the-type S′.the-laws, (slice-vals, tt))))))))
-      (λ κs. (array-tells P.the-row (LL.vals P.the-type P′.the-laws) (LL.tells P.the-type P′.the-laws) 32, (uint-tells w64, (shr-slice-tells (named 0) (κs .0) u16, (shr-slice-tells (named 1) (κs .1 .0) u8, (shr-slice-tells (named 2) (κs .1 .1 .0) u16, (LL.tells S.the-type S′.the-laws, (mut-slice-tells (named 3) (κs .1 .1 .1 .0) u16, tt))))))))
+      (λ κs. (array-tells P.the-row (LL.vals P.the-type P′.the-laws) (LL.tells P.the-type P′.the-laws) 32, (uint-tells w64, (shr-slice-tells (named 0) (κs .0) u16, (shr-slice-tells (named 1) (κs .1 .0) u8, (shr-slice-tells (named 2) (κs .1 .1 .0) u8, (LL.tells S.the-type S′.the-laws, (mut-slice-tells (named 3) (κs .1 .1 .1 .0) u16, tt))))))))
       (λ κs qs bounds a g are. needs 𝓤 (MayMoveAll (a .1 .1 .0 .now) (a .0) (a .1 .0) (a .1 .1 .1 .1 .1 .0 .0) (a .1 .1 .1 .1 .1 .1 .0 .now)) _
       (walk 𝓤 H A W mem run (κs .0) (κs .1 .0) (κs .1 .1 .0) (κs .1 .1 .1 .0) (qs .0) (qs .1 .0) (qs .1 .1 .0) (qs .1 .1 .1 .0) (a .0) (a .1 .0) (a .1 .1 .0) (a .1 .1 .1 .0) (a .1 .1 .1 .1 .0) (a .1 .1 .1 .1 .1 .0) (a .1 .1 .1 .1 .1 .1 .0) C Λ fm known
       (are .0) (are .1 .0 .1) (are .1 .1 .0 .0 .1) (are .1 .1 .1 .0 .0 .1) (are .1 .1 .1 .1 .0 .0 .1) (are .1 .1 .1 .1 .1 .0) (are .1 .1 .1 .1 .1 .1 .0 .0 .1)))
 
-  lend-meets : (𝓣 : Tables 𝓤 H) → Triple 𝓤 (𝓣 .C #cycle·move-all) (MoveAll 𝓤 H A mem run) → Meets 𝓤 H A lend.signature (WpFn 𝓤 H (𝓣 .C) (𝓣 .Λ) code.function) (lend.spec 𝓤 H A mem run)
+  lend-meets : (𝓣 : Tables 𝓤 H) → Triple 𝓤 (𝓣 .C #step·move-all) (MoveAll 𝓤 H A mem run) → Meets 𝓤 H A lend.signature (WpFn 𝓤 H (𝓣 .C) (𝓣 .Λ) code.function) (lend.spec 𝓤 H A mem run)
   lend-meets 𝓣 known = walk-meets 𝓤 H A lend.ended stayed W (
     goes-dropped 𝓤 H A W 4 ArrayP yes (λ κs x f. refl),
     (
@@ -245,7 +245,7 @@ module _ {M : Type 1} (𝓤 : URA M) (H : Heap 𝓤) (A : Atoms 𝓤) (W : Given
         goes-dropped 𝓤 H A W 4 (Shr 0 tt u16) yes (λ κs x f. refl),
         (
           goes-dropped 𝓤 H A W 4 (Shr 1 tt u8) yes (λ κs x f. refl),
-          (goes-dropped 𝓤 H A W 4 (Shr 2 tt u16) yes (λ κs x f. refl), (goes-dropped 𝓤 H A W 4 (plain (λ _. S.the-row)) yes (λ κs x f. refl), (goes-gave-slice 𝓤 H A W 4 3 tt (plain (λ _. u16)), tt))),
+          (goes-dropped 𝓤 H A W 4 (Shr 2 tt u8) yes (λ κs x f. refl), (goes-dropped 𝓤 H A W 4 (plain (λ _. S.the-row)) yes (λ κs x f. refl), (goes-gave-slice 𝓤 H A W 4 3 tt (plain (λ _. u16)), tt))),
         ),
       ),
     ),
@@ -256,6 +256,6 @@ pub lend-spec : {M : Type 1} → stated.statement M
 unfolding code.routine tablesOf
 lend-spec 𝓤 H 𝓜 𝓖 𝓡 =
     entered 𝓤 H (tripleOf 𝓤 H (𝓖 .A) lend.signature (lend.spec 𝓤 H (𝓖 .A) (𝓜 .mem) (𝓡 .run)))
-    (tables 𝓤 H 𝓜 𝓡 code.env .C) (tables 𝓤 H 𝓜 𝓡 code.env .Λ) #cycle·lend code.function (code.unfolded 𝓤 H 𝓜 𝓡)
+    (tables 𝓤 H 𝓜 𝓡 code.env .C) (tables 𝓤 H 𝓜 𝓡 code.env .Λ) #step·lend code.function (code.unfolded 𝓤 H 𝓜 𝓡)
     (lend-meets 𝓤 H (𝓖 .A) (givenOf 𝓤 H 𝓜 𝓖) (𝓜 .mem) (𝓡 .run) (tablesOf 𝓤 H 𝓜 (tables 𝓤 H 𝓜 𝓡 code.env))
-    (cited 𝓤 H (MoveAll 𝓤 H (𝓖 .A) (𝓜 .mem) (𝓡 .run)) 𝓜 𝓡 code.env #cycle·move-all move-all-def.routine code.calls-cycle·move-all (move-all-thm.met 𝓤 H 𝓜 𝓖 𝓡)))
+    (cited 𝓤 H (MoveAll 𝓤 H (𝓖 .A) (𝓜 .mem) (𝓡 .run)) 𝓜 𝓡 code.env #step·move-all move-all-def.routine code.calls-step·move-all (move-all-thm.met 𝓤 H 𝓜 𝓖 𝓡)))

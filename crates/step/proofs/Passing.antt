@@ -9,11 +9,11 @@ use lib.ListN.{length, getD, take, drop, length-map, List·getD-map, drop-of-len
 use lib.Seq.{length-take-le, getD-take, getD-drop, drop-drop, drop-cons}
 use lib.Dec.{eqb}
 use Rattle.scope.specs.Slot as S
 use Rattle.step.specs.declared.Position.{Position}
 use Rattle.step.specs.Where.{positionOf}
-use Rattle.cycle.specs.Stand.{home, positionsOf}
-use Rattle.cycle.specs.Pass.{triers, triedBy, noted, Noting, triedAfter, allTried, does, pass}
-use Rattle.cycle.proofs.Tried.{Fits, fits-noted}
+use Rattle.step.specs.Stand.{home, positionsOf}
+use Rattle.step.specs.Pass.{triers, triedBy, noted, Noting, triedAfter, allTried, does, pass}
+use Rattle.step.proofs.Tried.{Fits, fits-noted}
 
 -- message m has been noted, or has tried nothing: the list has room for the next
 module _ (down : ℕ → Bool) (tried : List ℕ) (m : ℕ) (n : Noting tried m) (p : S.Position) where

@@ -1,19 +1,19 @@
--- `cycle::tell_all` meets its contract. The loop's invariant: the events of the first m messages are told. Assumes nothing.
+-- `step::tell_all` meets its contract. The loop's invariant: the events of the first m messages are told. Assumes nothing.
 use Prim.Native.Nat.{_-_, _<_}
 use mathlib.Core.Path.{_≡_, refl}
 use native.Mathlib.Omega.{arith}
 use lib.ListN.{length}
-use Rattle.cuts.specs.From.{downOf}
-use Rattle.cycle.specs.Stand.{Stand}
-use Rattle.cycle.specs.Slot.{ownerOf}
-use Rattle.cycle.proofs.Passing.{passing-notes}
-use Rattle.cycle.proofs.Telling.{Telling, telling-none, telling-length, telling-room, telling-more, telling-done}
+use Rattle.step.specs.Slot.{downNow}
+use Rattle.step.specs.Stand.{Stand}
+use Rattle.table.specs.Table.{entryAt}
+use Rattle.step.proofs.Passing.{passing-notes}
+use Rattle.step.proofs.Telling.{Telling, telling-none, telling-length, telling-room, telling-more, telling-done}
 use borrow.Author.Needs.{needs}
-use Rattle.cycle.proofs.tell_all.Statement.{statement}
-use Rattle.cycle.proofs.tell_all.Tie as tie
+use Rattle.step.proofs.tell_all.Statement.{statement}
+use Rattle.step.proofs.tell_all.Tie as tie
 
 abbrev Inv-loop : tie.InvT-loop
-Inv-loop n row table from i out₀ ps tried₀ m₀ out tried m = (i .0 < 65536) × Stand row n ps × Telling row (downOf from) (ownerOf table) (i .0) n ps tried₀ out₀ m tried out
+Inv-loop n row table from i out₀ ps tried₀ m₀ out tried m = (i .0 < 65536) × Stand row n ps × Telling row (downNow from) (entryAt table) (i .0) n ps tried₀ out₀ m tried out
 
 abbrev μ-loop : tie.MeasureT-loop
 μ-loop n row table from i out₀ ps tried₀ m₀ out tried m = n - m

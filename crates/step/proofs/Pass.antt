@@ -12,8 +12,8 @@ use Rattle.scope.specs.Lowest.{seek, lowest}
 use Rattle.scope.proofs.Lowest.{seek-most, seek-same}
 use Rattle.scope.specs.Slot as S
 use Rattle.scope.specs.Cycle.{byNumber, foremost, moves, slot}
-use Rattle.cycle.specs.Pass.{triers, triedLink, triedBy, foundAt, firstTrier, noted, Noting, triedAfter, does, pass}
-use Rattle.cycle.proofs.Tried.{fore-lowest, lowest-keep, lowest-here, lowest-next, trier-found, trier-none, noted-count, link-old, by-old, link-new, by-new, fits-noted}
+use Rattle.step.specs.Pass.{triers, triedLink, triedBy, foundAt, firstTrier, noted, Noting, triedAfter, does, pass}
+use Rattle.step.proofs.Tried.{fore-lowest, lowest-keep, lowest-here, lowest-next, trier-found, trier-none, noted-count, link-old, by-old, link-new, by-new, fits-noted}
 
 -- `ts` has the links that all messages try, plus one
 module _ (ts : List ℕ) where

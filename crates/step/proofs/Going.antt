@@ -5,10 +5,10 @@ use mathlib.Core.List.{List, [], _∷_}
 use native.Mathlib.Omega.{arith}
 use lib.ListN.{length, getD, set}
 use Rattle.scope.specs.Slot as S
 use Rattle.step.specs.declared.Position.{Position}
 use Rattle.step.specs.Where.{positionOf, endOf, Leads}
-use Rattle.cycle.specs.Stand.{home, positionsOf, Stand, Become}
-use Rattle.cycle.proofs.Walk.{Walk, walk-none, walk-more}
+use Rattle.step.specs.Stand.{home, positionsOf, Stand, Become}
+use Rattle.step.proofs.Walk.{Walk, walk-none, walk-more}
 
 -- the next positions of message m and those after it
 unfoldable pub nextFrom : (ℕ → S.Position → S.Position) → ℕ → List S.Position → List S.Position

@@ -1,12 +1,12 @@
--- `cycle::note` meets its contract. Assumes nothing.
+-- `step::note` meets its contract. Assumes nothing.
 use Prim.Native.Nat.{_+_, _*_}
 use native.Mathlib.Omega.{arith}
 use lib.ListN.{set, length-set}
 use borrow.Author.Needs.{needs}
-use Rattle.cycle.specs.Pass.{triers}
-use Rattle.cycle.proofs.Tried.{noted-is}
-use Rattle.cycle.proofs.note.Statement.{statement}
-use Rattle.cycle.proofs.note.Tie as tie
+use Rattle.step.specs.Pass.{triers}
+use Rattle.step.proofs.Tried.{noted-is}
+use Rattle.step.proofs.note.Statement.{statement}
+use Rattle.step.proofs.note.Tie as tie
 
 slice-read-n : tie.Need-slice-read-n
 slice-read-n c = search needs

@@ -7,12 +7,12 @@ use lib.ListN.{getD, drop}
 use lib.Dec.{ltb}
 use Rattle.scope.specs.Slot as S
 use Rattle.scope.specs.Cycle.{nexts, numbers}
 use Rattle.step.specs.declared.Position.{Position}
-use Rattle.cycle.specs.Stand.{Stand, Become}
+use Rattle.step.specs.Stand.{Stand, Become}
 
 -- the table that is lent: a byte for each slot and link below 64, the message that holds them plus one
-abbrev pub ownerOf : List ℕ → ℕ → ℕ → ℕ
-ownerOf table i e = cond (ltb e 64) (getD table (i * 64 + e) 0) 0
+abbrev pub entryAt : List ℕ → ℕ → ℕ → ℕ
+entryAt table i e = cond (ltb e 64) (getD table (i * 64 + e) 0) 0
 
 -- n messages may go through slot i
 pub record MayGo (row : List ℕ) (n : ℕ) (ps : List Position) (i : ℕ) : Type 0 where

@@ -8,13 +8,13 @@ use lib.Dec.{ltb, eqb}
 use borrow.Author.Tests.{ne-eqb}
 use Rattle.scope.specs.Plan.{at, placeAt, placesAt, placeSize}
 use Rattle.scope.specs.Slot as S
 use Rattle.step.specs.declared.Position.{Position}
 use Rattle.step.specs.declared.Met.{Met}
 use Rattle.step.specs.declared.Moved.{Moved}
 use Rattle.step.specs.Where.{leftAt, positionOf, endOf, Acts, Meets}
 use Rattle.step.proofs.Left.{numbers-none, places-none}
 use Rattle.step.proofs.Steps.{tries-first, tries-cut, tries-whole, second-next, act-first, act-second}
-use Rattle.cycle.specs.Pass.{firstTrier, noted, triedAfter, does, ActsTurned, ActsIn, MovesIn}
+use Rattle.step.specs.Pass.{firstTrier, noted, triedAfter, does, ActsTurned, ActsIn, MovesIn}
 
 -- on the second path, the tests before kind 7 and after it do not matter to each other
 pub cut-second : (d held held′ : Bool) (entry first entry′ first′ e : ℕ) (es : List ℕ) → d ≡ true →
