@@ -8,6 +8,7 @@ use lib.ListN.{length, getD, set, replicate, getD-replicate, length-replicate, l
 use lib.Seq.{getD-set-same, getD-set-other, set-out}
 use lib.Dec.{ltb, leb, eqb}
 use borrow.Author.Tests.{le-ltb, le-leb, lt-leb, ltb-true, ltb-false, eqb-true, eqb-false}
+use Rattle.scope.specs.Limits.{mostLinks}
 use Rattle.scope.specs.Lowest.{seek, some}
 use Rattle.scope.specs.Cuts.{cutSlot, cutLink, pairs, isCut}
 use Rattle.cuts.specs.Down.{isDown, withPair, cutBelow, DownIn}
@@ -34,21 +35,21 @@ cutBy cuts i e j = eqb (cutLink cuts j) e && leb (cutSlot cuts j) i
 module _ (cuts : List ℕ) (i : ℕ) where
   -- a loop over the pairs has passed the first j of them
   pub record Told (j : ℕ) (down : List ℕ) : Type 0 where
-    pub long : length down ≡ 64
-    pub is : (e : ℕ) → e < 64 → isDown down e ≡ some (λ k. eqb (cutLink cuts k) e && leb (cutSlot cuts k) i) j
+    pub long : length down ≡ mostLinks
+    pub is : (e : ℕ) → e < mostLinks → isDown down e ≡ some (λ k. eqb (cutLink cuts k) e && leb (cutSlot cuts k) i) j
 
-  pub told-none : Told 0 (replicate {A = ℕ} 64 0)
+  pub told-none : Told 0 (replicate {A = ℕ} mostLinks 0)
   unfolding seek
-  told-none = record { long = length-replicate {A = ℕ} 64 0; is = λ e g. ap (ltb 0) (getD-replicate {A = ℕ} 64 e 0 0 g) ∙ sym (le-ltb 0 0 (omega arith)) }
+  told-none = record { long = length-replicate {A = ℕ} mostLinks 0; is = λ e g. ap (ltb 0) (getD-replicate {A = ℕ} mostLinks e 0 0 g) ∙ sym (le-ltb 0 0 (omega arith)) }
 
   more : (j : ℕ) (down : List ℕ) → Told j down → Told (j + 1) (withPair down (cutSlot cuts j) (cutLink cuts j) i)
   more j down t = by (leb (cutSlot cuts j) i) refl
     where
-      other : (e : ℕ) → e < 64 → cutBy cuts i e j ≡ false → isDown down e ≡ some (cutBy cuts i e) (j + 1)
+      other : (e : ℕ) → e < mostLinks → cutBy cuts i e j ≡ false → isDown down e ≡ some (cutBy cuts i e) (j + 1)
       other e g s = rw (some-more (cutBy cuts i e) j, s, or-false) (t .is e g)
 
       -- the pair is not later than the slot
-      on : leb (cutSlot cuts j) i ≡ true → (e : ℕ) → e < 64 → (b : Bool) → eqb (cutLink cuts j) e ≡ b → isDown (set down (cutLink cuts j) 1) e ≡ some (cutBy cuts i e) (j + 1)
+      on : leb (cutSlot cuts j) i ≡ true → (e : ℕ) → e < mostLinks → (b : Bool) → eqb (cutLink cuts j) e ≡ b → isDown (set down (cutLink cuts j) 1) e ≡ some (cutBy cuts i e) (j + 1)
       on h e g true b =
           let q : cutLink cuts j ≡ e = eqb-true (cutLink cuts j) e b in
           let s : cutBy cuts i e j ≡ true = rw (b, h) in
@@ -70,8 +71,8 @@ module _ (cuts : List ℕ) (i : ℕ) where
 
   pub told-all : (j : ℕ) (down : List ℕ) → j ≡ pairs cuts → Told j down → DownIn cuts i down
   unfolding isCut
-  told-all j down e t = record { long = t .long; is = λ k. by k (ltb k 64) refl }
+  told-all j down e t = record { long = t .long; is = λ plan k. by k (ltb k mostLinks) refl }
     where
-      by : (k : ℕ) (b : Bool) → ltb k 64 ≡ b → isDown down k ≡ (b && some (cutBy cuts i k) (pairs cuts))
-      by k true b = t .is k (ltb-true k 64 b) ∙ ap (some (cutBy cuts i k)) e
-      by k false b = let l : 64 ≤ k = ltb-false k 64 b in down-past down k (omega (arith, t .long))
+      by : (k : ℕ) (b : Bool) → ltb k mostLinks ≡ b → isDown down k ≡ (b && some (cutBy cuts i k) (pairs cuts))
+      by k true b = t .is k (ltb-true k mostLinks b) ∙ ap (some (cutBy cuts i k)) e
+      by k false b = let l : mostLinks ≤ k = ltb-false k mostLinks b in down-past down k (omega (arith, t .long))

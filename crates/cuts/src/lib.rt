@@ -1,6 +1,7 @@
 // Cut lists: refusal 12, and what is down in a slot, so that "is this link down" is one read.
 // It leans on specs/ of `scope` (Cuts, Outcome) and on the total read of `view`. No function but `bad_pair` and its parts asks
 // anything of the list, and no list is passed over further than its first bad pair.
+use scope::limits::LINKS;
 use scope::Answer;
 use scope::Refusal;
 use view::number;
@@ -43,10 +44,10 @@ fn put_pair(down: &mut [u8], at: usize, link: usize, slot: usize)
 }
 
 // The links that a list takes down in a slot, one byte a link.
-pub fn down_in(cuts: &[u16], slot: usize) -> [u8; 64]
+pub fn down_in(cuts: &[u16], slot: usize) -> [u8; LINKS]
     ensures { λ r. ⌜ DownIn (now (cuts .entry)) slot r ⌝ }
 {
-    let mut down = [0u8; 64];
+    let mut down = [0u8; LINKS];
     let n = count(cuts);
     let mut j = 0;
     while j < n {

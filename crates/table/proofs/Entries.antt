@@ -6,20 +6,21 @@ use mathlib.Core.List.{List}
 use lib.ListN.{length, getD, List·getD-eq-default}
 use lib.Dec.{ltb}
 use borrow.Author.Tests.{lt-ltb, le-ltb}
+use Rattle.scope.specs.Limits.{mostSlots, mostLinks}
 use Rattle.table.specs.Table.{indexOf, entryAt}
 
 module _ (table : List ℕ) (i e : ℕ) where
-  pub entry-in : i < 64 → e < 64 → entryAt table i e ≡ getD table (indexOf i e) 0
-  entry-in h g = rw (lt-ltb i 64 h, lt-ltb e 64 g)
+  pub entry-in : i < mostSlots → e < mostLinks → entryAt table i e ≡ getD table (indexOf i e) 0
+  entry-in h g = rw (lt-ltb i mostSlots h, lt-ltb e mostLinks g)
 
-  pub no-slot : 64 ≤ i → entryAt table i e ≡ 0
-  no-slot h = rw (le-ltb i 64 h)
+  pub no-slot : mostSlots ≤ i → entryAt table i e ≡ 0
+  no-slot h = rw (le-ltb i mostSlots h)
 
-  pub no-link : 64 ≤ e → entryAt table i e ≡ 0
-  no-link h = rw (le-ltb e 64 h, and-false (ltb i 64))
+  pub no-link : mostLinks ≤ e → entryAt table i e ≡ 0
+  no-link h = rw (le-ltb e mostLinks h, and-false (ltb i mostSlots))
 
   -- the code's ways out: a byte of the table, or its end
-  module _ (h : i < 64) (g : e < 64) (k : ℕ) (p : k ≡ indexOf i e) where
+  module _ (h : i < mostSlots) (g : e < mostLinks) (k : ℕ) (p : k ≡ indexOf i e) where
     pub entry-is : getD table k 0 ≡ entryAt table i e
     entry-is = rw p (sym (entry-in h g))
 
