@@ -7,6 +7,7 @@ use native.Mathlib.Numerals.{add-one}
 use native.Mathlib.Omega.{arith}
 use lib.ListN.{length, getD, drop, set, length-drop, drop-of-length-le}
 use lib.Seq.{set-getD, getD-drop, drop-cons, ext-getD}
+use Rattle.scope.specs.Plan.{planOf}
 use Rattle.scope.specs.Slot as S
 use Rattle.scope.specs.Cycle.{slot, nexts}
 use Rattle.step.specs.declared.Position.{Position}
@@ -94,7 +95,7 @@ module _ (row : List ℕ) (down : ℕ → ℕ → Bool) (owner : ℕ → ℕ →
         let b = going-done row _ n m old new (g .going) h in
         let l : length (positionsOf row n old) ≡ n = stands-length row (down i) (owner i) i n old tried₀ (g .passing .long) in
         let k : length all ≡ n = all-length row (down i) (owner i) i n old tried₀ (g .passing .long) in
-        let s = pass-slot down owner i tried₀ (positionsOf row n old) (g .none) (g .passing .room) (omega (arith, g .passing .most)) in
+        let s = pass-slot (planOf row) down owner i tried₀ (positionsOf row n old) (g .none) (g .passing .room) (omega (arith, g .passing .most)) in
         record {
           next = record { is = b .is ∙ nexts-from all nobody 0 (positionsOf row n old) (omega arith) ∙ ap nexts s; stand = b .stand };
           rest =

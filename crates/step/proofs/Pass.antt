@@ -1,17 +1,19 @@
 -- The pass is the slot: who is noted as the first to try a link is the lowest message that tries it.
 use Prim.Native.Nat.{ℕ, _+_, _≤_, _<_}
-use mathlib.Core.Path.{_≡_, refl, sym, _∙_, ap}
-use mathlib.Core.Bool.{Bool, true, false, cond}
+use mathlib.Core.Path.{_≡_, refl, sym, _∙_, ap, fun-ext}
+use mathlib.Core.Bool.{Bool, true, false, not, cond}
 use mathlib.Core.List.{List, [], _∷_, map}
 use native.Mathlib.Omega.{arith}
 use lib.ListN.{length, getD, drop, length-map}
 use lib.Seq.{getD-drop, drop-drop}
 use lib.Dec.{ltb, eqb}
-use borrow.Author.Tests.{ltb-true, ltb-false, eq-eqb, ne-eqb, eqb-true, eqb-false}
+use borrow.Author.Tests.{lt-ltb, le-ltb, ltb-true, ltb-false, eq-eqb, ne-eqb, eqb-true, eqb-false}
 use Rattle.scope.specs.Lowest.{seek, lowest}
 use Rattle.scope.proofs.Lowest.{seek-most, seek-same}
 use Rattle.scope.specs.Slot as S
-use Rattle.scope.specs.Cycle.{byNumber, foremost, moves, slot}
+use Rattle.scope.specs.Limits.{mostMessages}
+use Rattle.scope.specs.Plan.{Plan}
+use Rattle.scope.specs.Cycle.{byNumber, orderOf, foremost, moves, slot}
 use Rattle.step.specs.Pass.{triers, triedLink, triedBy, foundAt, firstTrier, noted, Noting, triedAfter, does, pass}
 use Rattle.step.proofs.Tried.{fore-lowest, lowest-keep, lowest-here, lowest-next, trier-found, trier-none, noted-count, link-old, by-old, link-new, by-new, fits-noted}
 
@@ -32,7 +34,7 @@ module _ (ts : List ℕ) where
   knows-none tried z r =
       record { room = r; few = omega arith; below = λ j h. absurd (omega arith); is = λ e. trier-none tried e 0 (omega arith) }
 
-  pub noting : (tried : List ℕ) (m : ℕ) → m < 32 → Knows tried m → Noting tried m
+  pub noting : (tried : List ℕ) (m : ℕ) → m < mostMessages → Knows tried m → Noting tried m
   noting tried m h k = record { low = h; room = k .room; few = k .few; below = k .below }
 
   module _ (tried : List ℕ) (m : ℕ) (k : Knows tried m) where
@@ -63,7 +65,7 @@ module _ (ts : List ℕ) where
             trier-none tried e (m + 1) (ltb-false _ _ b) ∙ sym (lowest-next (trying e) m (nobody e (ltb-false _ _ b)) t)
 
     -- message m tries link e₀
-    pub knows-try : (e₀ : ℕ) → m < 32 → getD ts m 0 ≡ e₀ + 1 → Knows (noted tried e₀ m) (m + 1)
+    pub knows-try : (e₀ : ℕ) → m < mostMessages → getD ts m 0 ≡ e₀ + 1 → Knows (noted tried e₀ m) (m + 1)
     knows-try e₀ l z =
         let f = fits-noted tried m n e₀ in
         record {
@@ -120,8 +122,16 @@ module _ (ts : List ℕ) where
             ∙ ap (triedBy (noted tried e₀ m)) (found e h) ∙ by-old tried m n e₀ (foundAt tried e) h ∙ kept e h
         by e false b = other e (ltb-false _ _ b) (eqb e₀ e) refl
 
+-- whoever goes first is not m itself, or is before it
+before : (first m : ℕ) → first ≤ m → not (eqb first m) ≡ ltb first m
+before first m h = by (eqb first m) refl
+  where
+    by : (b : Bool) → eqb first m ≡ b → not b ≡ ltb first m
+    by true e = let z : first ≡ m = eqb-true first m e in sym (le-ltb first m (omega arith))
+    by false e = let n : first ≡ m → ⊥ = eqb-false first m e in sym (lt-ltb first m (omega (arith, n)))
+
 -- whoever tries a link tries the next one of its second path
-tries-next : (down : ℕ → Bool) (q : S.Position) → (S.tries down q ≡ 0 → ⊥) → S.tries down q ≡ S.nextSecond q + 1
+pub tries-next : (down : ℕ → Bool) (q : S.Position) → (S.tries down q ≡ 0 → ⊥) → S.tries down q ≡ S.nextSecond q + 1
 tries-next down (S.onFirst ps) h = absurd (h refl)
 tries-next down (S.onSecond []) h = absurd (h refl)
 tries-next down (S.onSecond (e ∷ es)) h = by (down e) h
@@ -131,7 +141,7 @@ tries-next down (S.onSecond (e ∷ es)) h = by (down e) h
     by false h = refl
 
 module _ (down : ℕ → Bool) (owner : ℕ → ℕ) (i : ℕ) (ts : List ℕ) where
-  knows-after : (tried : List ℕ) (m : ℕ) (p : S.Position) → Knows ts tried m → m < 32 → getD ts m 0 ≡ S.tries down (S.turn down p) → Knows ts (triedAfter down tried m p) (m + 1)
+  knows-after : (tried : List ℕ) (m : ℕ) (p : S.Position) → Knows ts tried m → m < mostMessages → getD ts m 0 ≡ S.tries down (S.turn down p) → Knows ts (triedAfter down tried m p) (m + 1)
   unfolding triedAfter
   knows-after tried m p k l t = by (eqb (S.tries down (S.turn down p)) 0) refl
     where
@@ -139,7 +149,7 @@ module _ (down : ℕ → Bool) (owner : ℕ → ℕ) (i : ℕ) (ts : List ℕ) w
       by true b = knows-not ts tried m k (t ∙ eqb-true _ _ b)
       by false b = knows-try ts tried m k (S.nextSecond (S.turn down p)) l (t ∙ tries-next down (S.turn down p) (eqb-false _ _ b))
 
-  pass-moves : (tried : List ℕ) (m : ℕ) (ps : List S.Position) → Knows ts tried m → m + length ps ≡ length ts → length ts ≤ 32 →
+  pass-moves : (tried : List ℕ) (m : ℕ) (ps : List S.Position) → Knows ts tried m → m + length ps ≡ length ts → length ts ≤ mostMessages →
       drop m ts ≡ map (S.tries down) (map (S.turn down) ps) → pass down owner i tried m ps ≡ moves byNumber down owner i ts m (map (S.turn down) ps)
   unfolding pass moves does
   pass-moves tried m [] k l s d = refl
@@ -151,12 +161,20 @@ module _ (down : ℕ → Bool) (owner : ℕ → ℕ) (i : ℕ) (ts : List ℕ) w
       k .is (S.nextSecond q) ∙ sym (fore-lowest (S.nextSecond q) m ts (omega arith)) in
       let rest : drop (m + 1) ts ≡ map (S.tries down) (map (S.turn down) ps) = sym (drop-drop 1 m ts) ∙ ap (drop 1) d in
       let more = pass-moves (triedAfter down tried m p) (m + 1) ps (knows-after tried m p k (omega arith) t) (omega arith) s rest in
-      rw (f, more)
+      let held : not (eqb (foremost byNumber (S.nextSecond q) m 0 ts) m) ≡ ltb (foremost byNumber (S.nextSecond q) m 0 ts) m =
+      before _ m (omega (arith, fore-lowest (S.nextSecond q) m ts (omega arith), seek-most (λ k. eqb (getD ts k 0) (S.nextSecond q + 1)) m 0)) in
+      rw (f, held, more)
 
-pub pass-slot : (down : ℕ → ℕ → Bool) (owner : ℕ → ℕ → ℕ) (i : ℕ) (tried : List ℕ) (ps : List S.Position) → triers tried ≡ 0 → 65 ≤ length tried → length ps ≤ 32 →
-    pass (down i) (owner i) i tried 0 ps ≡ slot byNumber down owner i ps
+-- all that the pass knows of a plan's order: messages go by their numbers
+order-is : (plan : Plan) (m : ℕ) → orderOf plan m ≡ m
+order-is plan m = refl
+
+pub pass-slot : (plan : Plan) (down : ℕ → ℕ → Bool) (owner : ℕ → ℕ → ℕ) (i : ℕ) (tried : List ℕ) (ps : List S.Position) → triers tried ≡ 0 → 65 ≤ length tried → length ps ≤ mostMessages →
+    pass (down i) (owner i) i tried 0 ps ≡ slot (orderOf plan) down owner i ps
 unfolding slot
-pass-slot down owner i tried ps z r l =
+pass-slot plan down owner i tried ps z r l =
     let ts = map (S.tries (down i)) (map (S.turn (down i)) ps) in
     let n : length ts ≡ length ps = length-map (map (S.turn (down i)) ps) (S.tries (down i)) ∙ length-map ps (S.turn (down i)) in
+    let order : byNumber ≡ orderOf plan = fun-ext (λ m. sym (order-is plan m)) in
     pass-moves (down i) (owner i) i ts tried 0 ps (knows-none ts tried z r) (omega arith) (omega arith) refl
+    ∙ ap (λ rank. moves rank (down i) (owner i) i ts 0 (map (S.turn (down i)) ps)) order

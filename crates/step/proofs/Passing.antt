@@ -8,6 +8,7 @@ use native.Mathlib.Numerals.{add-one}
 use lib.ListN.{length, getD, take, drop, length-map, List·getD-map, drop-of-length-le}
 use lib.Seq.{length-take-le, getD-take, getD-drop, drop-drop, drop-cons}
 use lib.Dec.{eqb}
+use Rattle.scope.specs.Limits.{mostMessages}
 use Rattle.scope.specs.Slot as S
 use Rattle.step.specs.declared.Position.{Position}
 use Rattle.step.specs.Where.{positionOf}
@@ -35,7 +36,7 @@ module _ (row : List ℕ) (down : ℕ → Bool) (owner : ℕ → ℕ) (i n : ℕ
 
   pub record Passing (m : ℕ) (tried : List ℕ) : Type 0 where
     pub few : m ≤ n
-    pub most : n ≤ 32
+    pub most : n ≤ mostMessages
     pub long : n ≤ length old
     pub same : length tried ≡ length tried₀
     pub room : 65 ≤ length tried₀
@@ -44,7 +45,7 @@ module _ (row : List ℕ) (down : ℕ → Bool) (owner : ℕ → ℕ) (i n : ℕ
     pub left : drop m (pass down owner i tried₀ 0 (positionsOf row n old)) ≡ pass down owner i tried m (drop m (positionsOf row n old))
     pub noted : allTried down tried₀ 0 (positionsOf row n old) ≡ allTried down tried m (drop m (positionsOf row n old))
 
-  pub passing-none : n ≤ 32 → n ≤ length old → 65 ≤ length tried₀ → triers tried₀ ≡ 0 → Passing 0 tried₀
+  pub passing-none : n ≤ mostMessages → n ≤ length old → 65 ≤ length tried₀ → triers tried₀ ≡ 0 → Passing 0 tried₀
   passing-none a b c d =
       record { few = omega arith; most = a; long = b; same = refl; room = c; counted = omega arith; below = λ j h. absurd (omega arith); left = refl; noted = refl }
 

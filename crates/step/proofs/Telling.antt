@@ -7,8 +7,10 @@ use native.Mathlib.Numerals.{add-one}
 use native.Mathlib.Omega.{arith}
 use lib.ListN.{length, getD, take, drop, set, length-append, length-drop}
 use lib.Seq.{length-take-le, take-suc, take-all, drop-cons, append-snoc, set-at}
+use Rattle.scope.specs.Limits.{mostMessages}
+use Rattle.scope.specs.Plan.{planOf}
 use Rattle.scope.specs.Slot as S
-use Rattle.scope.specs.Cycle.{byNumber, slot, numbers}
+use Rattle.scope.specs.Cycle.{orderOf, slot, numbers}
 use Rattle.step.specs.declared.Position.{Position}
 use Rattle.step.specs.declared.Moved.{Moved}
 use Rattle.step.specs.Events.{eventOf}
@@ -63,7 +65,7 @@ module _ (row : List ℕ) (down : ℕ → ℕ → Bool) (owner : ℕ → ℕ →
     pub none : triers tried₀ ≡ 0
     pub written : out ≡ take (2 * m) (numbers (pass (down i) (owner i) i tried₀ 0 (positionsOf row n ps))) ++ drop (2 * m) buffer
 
-  pub telling-none : n ≤ 32 → n ≤ length ps → 65 ≤ length tried₀ → triers tried₀ ≡ 0 → 2 * n ≤ length buffer → Telling 0 tried₀ buffer
+  pub telling-none : n ≤ mostMessages → n ≤ length ps → 65 ≤ length tried₀ → triers tried₀ ≡ 0 → 2 * n ≤ length buffer → Telling 0 tried₀ buffer
   telling-none a b c d e = record { passing = passing-none row (down i) (owner i) i n ps tried₀ a b c d; room = e; none = d; written = refl }
 
   module _ (m : ℕ) (tried out : List ℕ) (g : Telling m tried out) where
@@ -101,10 +103,10 @@ module _ (row : List ℕ) (down : ℕ → ℕ → Bool) (owner : ℕ → ℕ →
               ∙ put-two (numbers all) buffer m _ _ (omega (arith, told-length)) (omega (arith, g .room)) k x;
         }
 
-    pub telling-done : n ≤ m → out ≡ numbers (slot byNumber down owner i (positionsOf row n ps)) ++ drop (2 * n) buffer
+    pub telling-done : n ≤ m → out ≡ numbers (slot (orderOf (planOf row)) down owner i (positionsOf row n ps)) ++ drop (2 * n) buffer
     telling-done h =
         let e : m ≡ n = omega (arith, g .passing .few) in
         g .written ∙ ap (λ k. take (2 * k) (numbers all) ++ drop (2 * k) buffer) e
         ∙ ap (λ l. l ++ drop (2 * n) buffer) (take-all (2 * n) (numbers all) (omega (arith, told-length)))
         ∙ ap (λ ms. numbers ms ++ drop (2 * n) buffer)
-        (pass-slot down owner i tried₀ (positionsOf row n ps) (g .none) (g .passing .room) (omega (arith, g .passing .most, stands-length row (down i) (owner i) i n ps tried₀ (g .passing .long))))
+        (pass-slot (planOf row) down owner i tried₀ (positionsOf row n ps) (g .none) (g .passing .room) (omega (arith, g .passing .most, stands-length row (down i) (owner i) i n ps tried₀ (g .passing .long))))

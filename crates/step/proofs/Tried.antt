@@ -188,14 +188,3 @@ fits-noted tried m n e =
         let g : triers tried ≤ j = ltb-false j (triers tried) b in
         let z : j ≡ triers tried = omega (arith, noted-count tried m n e) in
         rw (z, by-new tried m n e) (omega arith)
-
--- the three ways to read the table
-module _ (table : List ℕ) (i e : ℕ) where
-  pub owner-is : e < 64 → getD table (i * 64 + e) 0 ≡ entryAt table i e
-  owner-is h = rw (lt-ltb e 64 h)
-
-  pub owner-end : e < 64 → length table ≤ i * 64 + e → 0 ≡ entryAt table i e
-  owner-end h g = sym (List·getD-eq-default table 0 g) ∙ owner-is h
-
-  pub owner-none : 64 ≤ e → 0 ≡ entryAt table i e
-  owner-none h = rw (le-ltb e 64 h)

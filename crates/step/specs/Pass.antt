@@ -1,17 +1,17 @@
--- One slot in one pass: the messages go through it from the lowest on, and a list that is lent has who has tried which link so far.
+-- One slot in one pass: the messages go through it in their order, and a list that is lent has who has tried which link so far.
 -- proofs/Pass has that the pass is the slot of document 01, in which all try before anyone acts.
-use Prim.Native.Nat.{ℕ, _+_, _-_, _*_, _≤_, _<_}
+use Prim.Native.Nat.{ℕ, _+_, _*_, _≤_, _<_}
 use mathlib.Core.Path.{_≡_}
-use mathlib.Core.Bool.{Bool, true, cond}
+use mathlib.Core.Bool.{Bool, not, cond}
 use mathlib.Core.List.{List, [], _∷_}
 use lib.ListN.{length, getD, drop, set}
 use lib.Dec.{ltb, eqb}
 use Rattle.scope.specs.Lowest.{lowest}
-use Rattle.scope.specs.Plan.{at, numbersAt}
+use Rattle.scope.specs.Limits.{mostMessages}
+use Rattle.scope.specs.Plan.{planOf}
 use Rattle.scope.specs.Slot as S
-use Rattle.scope.specs.Cycle.{byNumber, slot, nexts}
+use Rattle.scope.specs.Cycle.{orderOf, slot, nexts}
 use Rattle.step.specs.declared.Position.{Position}
-use Rattle.step.specs.declared.Met.{Met}
 use Rattle.step.specs.declared.Moved.{Moved}
 use Rattle.step.specs.Where.{positionOf, endOf, Leads, Acts}
 use Rattle.step.specs.Stand.{positionsOf, Stand, Become}
@@ -39,7 +39,7 @@ noted tried e m = set (set (set tried (2 * triers tried + 1) e) (2 * triers trie
 
 -- there is room to note message m and those after it, and whoever has been noted is lower
 pub record Noting (tried : List ℕ) (m : ℕ) : Type 0 where
-  pub low : m < 32
+  pub low : m < mostMessages
   pub room : 65 ≤ length tried
   pub few : triers tried ≤ m
   pub below : (j : ℕ) → j < triers tried → triedBy tried j < m
@@ -60,27 +60,11 @@ module _ (down : ℕ → Bool) (owner : ℕ → ℕ) (i : ℕ) where
   does tried m p =
       let q = S.turn down p in
       let first = firstTrier tried (S.nextSecond q) m in
-      S.act down i (owner (S.nextSecond q)) (ltb first m) first q
+      S.act down i (owner (S.nextSecond q)) (not (eqb first m)) first q
 
   unfoldable pub pass : List ℕ → ℕ → List S.Position → List S.Moved
   pass tried m [] = []
   pass tried m (p ∷ ps) = does tried m p ∷ pass (triedAfter down tried m p) (m + 1) ps
-
--- a message that has turned may act
-pub record MayActTurned (row : List ℕ) (t : Met) (m i : ℕ) (tried : List ℕ) : Type 0 where
-  pub turned : t .position .turned ≡ true
-  pub left : 0 < t .position .left
-  pub fit : endOf row (t .position) < 65536
-  pub link : t .link ≡ at row (t .position .at)
-  pub early : i < 65536
-  pub noting : Noting tried m
-
--- it has acted: the tests of document 01, and its try
-pub record ActsTurned (row : List ℕ) (owner : ℕ → ℕ) (t : Met) (m : ℕ) (tried tried′ : List ℕ) (r : Moved) : Type 0 where
-  pub acts : Acts row (t .position)
-      (S.onSecondPath (t .down) (owner (t .link)) (ltb (firstTrier tried (t .link) m) m) (firstTrier tried (t .link) m) (at row (t .position .at))
-      (numbersAt row (t .position .at + 1) (t .position .left - 1))) r
-  pub noted : tried′ ≡ cond (t .down) tried (noted tried (t .link) m)
 
 -- message m may act: its position, the slot and the list are in their bounds
 pub record MayAct (row : List ℕ) (p : Position) (m i : ℕ) (tried : List ℕ) : Type 0 where
@@ -108,6 +92,6 @@ pub record MayMoveAll (row : List ℕ) (ps : List Position) (n i : ℕ) (tried :
 -- they have moved: the first n records are the next positions of the slot, the records past them are as they were, and the list has who
 -- tried what
 pub record MovesAll (row : List ℕ) (n : ℕ) (down : ℕ → ℕ → Bool) (owner : ℕ → ℕ → ℕ) (i : ℕ) (ps ps′ : List Position) (tried tried′ : List ℕ) : Type 0 where
-  pub next : Become row n (nexts (slot byNumber down owner i (positionsOf row n ps))) ps′
+  pub next : Become row n (nexts (slot (orderOf (planOf row)) down owner i (positionsOf row n ps))) ps′
   pub rest : drop n ps′ ≡ drop n ps
   pub noted : tried′ ≡ allTried (down i) tried 0 (positionsOf row n ps)

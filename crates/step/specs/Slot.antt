@@ -1,31 +1,38 @@
--- One slot of all messages, with what it writes.
+-- One slot of all messages: from where they stand at a time to where they stand at the next, with what it tells.
 use Prim.Native.Nat.{ℕ, _+_, _*_, _≤_, _<_}
 use mathlib.Core.Path.{_≡_}
-use mathlib.Core.Bool.{cond}
-use mathlib.Core.List.{List, _++_}
-use lib.ListN.{getD, drop}
-use lib.Dec.{ltb}
+use mathlib.Core.Bool.{Bool}
+use mathlib.Core.List.{List}
+use lib.ListN.{drop}
+use Rattle.scope.specs.Plan.{planOf}
 use Rattle.scope.specs.Slot as S
-use Rattle.scope.specs.Cycle.{nexts, numbers}
-use Rattle.step.specs.declared.Position.{Position}
-use Rattle.step.specs.Stand.{Stand, Become}
+use Rattle.scope.specs.Cycle.{orderOf, slot, nexts}
+use Rattle.table.specs.Table.{entryAt}
+use Rattle.cuts.specs.Down.{isDown}
+use Rattle.step.specs.declared.Standing.{Standing}
+use Rattle.step.specs.Stand.{positionsOf, Stand, Become}
 
--- the table that is lent: a byte for each slot and link below 64, the message that holds them plus one
-abbrev pub entryAt : List ℕ → ℕ → ℕ → ℕ
-entryAt table i e = cond (ltb e 64) (getD table (i * 64 + e) 0) 0
+-- what is lent is down in the slot for which it is lent
+abbrev pub downNow : List ℕ → ℕ → ℕ → Bool
+downNow down i = isDown down
 
--- n messages may go through slot i
-pub record MayGo (row : List ℕ) (n : ℕ) (ps : List Position) (i : ℕ) : Type 0 where
-  pub stand : Stand row n ps
+-- what all messages of the plan of a row do in slot i, where what is down and the table are lent
+abbrev pub inSlot : List ℕ → List ℕ → List ℕ → ℕ → List S.Position → List S.Moved
+inSlot row table down i ps = slot (orderOf (planOf row)) (downNow down) (entryAt table) i ps
+
+-- n messages that stand at a time may go through slot i, which begins at that time
+pub record MayGo (row : List ℕ) (n : ℕ) (s : Standing) (i : ℕ) : Type 0 where
+  pub stand : Stand row n (s .positions)
+  pub at : s .time .0 ≡ i
   pub early : i < 65536
 
--- so many messages may act in slot i, with room for two numbers each
-pub record MayMove (row : List ℕ) (ps : List Position) (n i room : ℕ) : Type 0 where
-  pub stand : Stand row n ps
-  pub early : i < 65536
+-- they have gone through it: "What happens in slot i leads from time i to time i + 1", and "a slot changes only those records"
+pub record GoesOn (row table down : List ℕ) (n i : ℕ) (s r : Standing) : Type 0 where
+  pub time : r .time .0 ≡ i + 1
+  pub next : Become row n (nexts (inSlot row table down i (positionsOf row n (s .positions)))) (r .positions)
+  pub rest : drop n (r .positions) ≡ drop n (s .positions)
+
+-- their events may be told, with room for two numbers each
+pub record MayTell (row : List ℕ) (n : ℕ) (s : Standing) (i room : ℕ) : Type 0 where
+  pub go : MayGo row n s i
   pub enough : 2 * n ≤ room
-
--- n messages have moved: their next positions, and their events at the front of a buffer
-pub record Done (row : List ℕ) (n : ℕ) (ms : List S.Moved) (buffer r : List ℕ) (ps : List Position) : Type 0 where
-  pub next : Become row n (nexts ms) ps
-  pub events : r ≡ numbers ms ++ drop (2 * n) buffer

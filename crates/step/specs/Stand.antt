@@ -1,10 +1,10 @@
--- All messages at once: the positions of an array.
-use Prim.Native.Nat.{ℕ, _≤_, _<_}
+-- All messages at once: their records in an array.
+use Prim.Native.Nat.{ℕ, _*_, _≤_, _<_}
 use mathlib.Core.Path.{_≡_}
 use mathlib.Core.Bool.{false}
 use mathlib.Core.List.{List, map}
 use lib.ListN.{getD, take}
-use Rattle.scope.specs.Plan.{firstMessage, afterMessages}
+use Rattle.scope.specs.Limits.{mostMessages}
 use Rattle.scope.specs.Slot as S
 use Rattle.step.specs.declared.Position.{Position}
 use Rattle.step.specs.Where.{positionOf, endOf}
@@ -19,7 +19,7 @@ positionsOf row n ps = map (positionOf row) (take n ps)
 
 -- n messages at positions that end below index 65536
 pub record Stand (row : List ℕ) (n : ℕ) (ps : List Position) : Type 0 where
-  pub few : n ≤ 32
+  pub few : n ≤ mostMessages
   pub fit : (k : ℕ) → k < n → endOf row (getD ps k home) < 65536
 
 -- n messages at the positions `next`
@@ -27,7 +27,8 @@ pub record Become (row : List ℕ) (n : ℕ) (next : List S.Position) (ps : List
   pub is : positionsOf row n ps ≡ next
   pub stand : Stand row n ps
 
--- n messages of a row may start: what they take of the row ends below index 65536
-pub record MayStart (row : List ℕ) (n : ℕ) : Type 0 where
-  pub few : n ≤ 32
-  pub fit : afterMessages row (firstMessage row) n < 65536
+-- so many messages may be told of in slot i, with room for two numbers each
+pub record MayTellAll (row : List ℕ) (ps : List Position) (n i room : ℕ) : Type 0 where
+  pub stand : Stand row n ps
+  pub early : i < 65536
+  pub enough : 2 * n ≤ room

@@ -1,54 +1,84 @@
--- `step::act_one` meets its contract: it is at its target, on its first path, or on its second. Assumes nothing.
-use mathlib.Core.Path.{_≡_, sym, _∙_}
+-- `step::act_one` meets its contract: it tries nothing, or it tries a link. Assumes nothing.
 use native.Mathlib.Omega.{arith}
-use borrow.Author.Tests.{eqb-true, eqb-false}
-use Rattle.step.specs.Slot.{downNow}
-use Rattle.table.specs.Table.{entryAt}
-use Rattle.step.proofs.Acting.{home-does, home-tried, acts-first, acts-second}
+use mathlib.Core.Path.{refl}
 use borrow.Author.Needs.{needs}
+use Rattle.cuts.specs.Down.{isDown}
+use Rattle.table.specs.Table.{entryAt}
+use Rattle.step.proofs.Acting.{acts-idle, acts-tries}
 use Rattle.step.proofs.act_one.Statement.{statement}
 use Rattle.step.proofs.act_one.Tie as tie
 
-is-home-requires : tie.Need-is-home-requires
-is-home-requires c κs = search needs
+tries-requires : tie.Need-tries-requires
+tries-requires c κs = search needs
+
+cast-acts : tie.Need-cast-acts
+cast-acts c = omega (arith, c .before .before .before .before .before .before .pre .noting .low)
+
+cast-acts-2 : tie.Need-cast-acts-2
+cast-acts-2 c = omega (arith, c .before .before .before .before .before .before .pre .noting .low)
+
+acts-requires : tie.Need-acts-requires
+acts-requires c κs = search needs
 
 returns : tie.Need-returns
 returns c =
-    let h : c .before .before .before .before .before .before .args .p .left ≡ 0 = eqb-true _ _ (sym (c .before .is-home .ensures) ∙ c .if1 .taken) in
-    record {
-      acts = record { is = home-does (downNow (c .before .before .before .before .before .before .args .from .now) (c .before .before .before .before .before .before .args .slot .0)) (entryAt (c .before .before .before .before .before .before .args .table .now) (c .before .before .before .before .before .before .args .slot .0)) (c .before .before .before .before .before .before .args .slot .0) (c .before .before .before .before .before .before .args .tried .now) (c .before .before .before .before .before .before .args .m) (c .before .before .before .before .before .before .args .row .now) (c .before .before .before .before .before .before .args .p .turned) (c .before .before .before .before .before .before .args .p .at) (c .before .before .before .before .before .before .args .p .left) h; within = omega arith };
-      noted = home-tried (downNow (c .before .before .before .before .before .before .args .from .now) (c .before .before .before .before .before .before .args .slot .0)) (entryAt (c .before .before .before .before .before .before .args .table .now) (c .before .before .before .before .before .before .args .slot .0)) (c .before .before .before .before .before .before .args .slot .0) (c .before .before .before .before .before .before .args .tried .now) (c .before .before .before .before .before .before .args .m) (c .before .before .before .before .before .before .args .row .now) (c .before .before .before .before .before .before .args .p .turned) (c .before .before .before .before .before .before .args .p .at) (c .before .before .before .before .before .before .args .p .left) h;
-    }
+    let a = c .before .before .before .before .before .before .before .args in
+    acts-idle (isDown (a .down .now)) (entryAt (a .table .now) (a .slot .0)) (a .slot .0) (a .tried .now) (a .m) (a .row .now) (a .p) _ (c .before .before .tries .ensures .0) 0 (a .m) _
+    (c .before .if1 .taken) (c .acts .ensures)
 
-meets-requires : tie.Need-meets-requires
-meets-requires c κs =
-    let h : c .before .before .before .before .before .before .args .p .left ≡ 0 → ⊥ = eqb-false _ _ (sym (c .before .is-home .ensures) ∙ c .if1 .left) in
-    (omega (arith, h), c .before .before .before .before .before .before .pre .fit)
+sub-e : tie.Need-sub-e
+sub-e c = search needs
 
-act-turned-requires : tie.Need-act-turned-requires
-act-turned-requires c κs = search needs
+cast-e : tie.Need-cast-e
+cast-e c = search needs
 
-act-first-requires : tie.Need-act-first-requires
-act-first-requires c κs = search needs
+sub-entry : tie.Need-sub-entry
+sub-entry c = search needs
+
+entry-requires : tie.Need-entry-requires
+entry-requires c κs = search needs
+
+first-trier-requires : tie.Need-first-trier-requires
+first-trier-requires c κs = search needs
+
+note-requires : tie.Need-note-requires
+note-requires c κs = search needs
+
+cast-acts-3 : tie.Need-cast-acts-3
+cast-acts-3 c = omega (arith, c .before .before .before .before .before .before .before .before .before .before .before .before .before .pre .noting .low, c .before .before .before .before .first-trier .ensures .1)
+
+cast-acts-4 : tie.Need-cast-acts-4
+cast-acts-4 c = omega (arith, c .before .before .before .before .before .before .before .before .before .before .before .before .before .pre .noting .low)
+
+acts-requires-2 : tie.Need-acts-requires-2
+acts-requires-2 c κs = search needs
 
 same-length : tie.Need-same-length
 same-length c = search needs
 
 returns-2 : tie.Need-returns-2
-returns-2 c = acts-second (downNow (c .before .before .before .before .before .before .before .before .before .before .before .before .before .args .from .now) (c .before .before .before .before .before .before .before .before .before .before .before .before .before .args .slot .0)) (entryAt (c .before .before .before .before .before .before .before .before .before .before .before .before .before .args .table .now) (c .before .before .before .before .before .before .before .before .before .before .before .before .before .args .slot .0)) (c .before .before .before .before .before .before .before .before .before .before .before .before .before .args .slot .0) (c .before .before .before .before .before .before .before .before .before .before .before .before .before .args .tried .now) (c .before .before .before .before .before .before .before .before .before .before .before .before .before .args .m) (c .before .before .before .before .before .before .before .before .before .before .before .before .before .args .row .now) (c .before .before .before .before .before .before .before .before .before .before .before .before .before .args .p) _ (c .before .before .before .before .before .before .meets .ensures) _ _ (c .before .before .before .before .if2 .taken) (c .before .before .act-turned .ensures)
-
-returns-3 : tie.Need-returns-3
-returns-3 c = acts-first (downNow (c .before .before .before .before .before .before .before .before .before .before .args .from .now) (c .before .before .before .before .before .before .before .before .before .before .args .slot .0)) (entryAt (c .before .before .before .before .before .before .before .before .before .before .args .table .now) (c .before .before .before .before .before .before .before .before .before .before .args .slot .0)) (c .before .before .before .before .before .before .before .before .before .before .args .slot .0) (c .before .before .before .before .before .before .before .before .before .before .args .tried .now) (c .before .before .before .before .before .before .before .before .before .before .args .m) (c .before .before .before .before .before .before .before .before .before .before .args .row .now) (c .before .before .before .before .before .before .before .before .before .before .args .p) _ (c .before .before .before .meets .ensures) _ (c .before .if2 .left) (c .act-first .ensures)
+returns-2 c =
+    let a = c .before .before .before .before .before .before .before .before .before .before .before .before .before .before .args in
+    acts-tries (isDown (a .down .now)) (entryAt (a .table .now) (a .slot .0)) (a .slot .0) (a .tried .now) (a .m) (a .row .now) (a .p) _ (c .before .before .before .before .before .before .before .before .before .tries .ensures .0) _ _ _ _ _
+    (c .before .before .before .before .before .before .before .before .if1 .left) refl (c .before .before .before .before .before .before .before .entry .ensures) (c .before .before .before .before .before .first-trier .ensures .0) (c .before .before .before .note .ensures) (c .acts2 .ensures)
 
 pub act-one-spec : {M : Type 1} → statement M
 act-one-spec =
     tie.close
     (tie.spec
-    is-home-requires
+    tries-requires
+    cast-acts
+    cast-acts-2
+    acts-requires
     returns
-    meets-requires
-    act-turned-requires
-    act-first-requires
+    sub-e
+    cast-e
+    sub-entry
+    entry-requires
+    first-trier-requires
+    note-requires
+    cast-acts-3
+    cast-acts-4
+    acts-requires-2
     same-length
-    returns-2
-    returns-3)
+    returns-2)

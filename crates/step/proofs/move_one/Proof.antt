@@ -1,5 +1,5 @@
 -- `step::move_one` meets its contract: the next position of what it does. Assumes nothing.
-use Rattle.step.specs.Slot.{downNow}
+use Rattle.cuts.specs.Down.{isDown}
 use Rattle.table.specs.Table.{entryAt}
 use Rattle.step.proofs.Acting.{moves-by}
 use borrow.Author.Needs.{needs}
@@ -13,7 +13,9 @@ same-length : tie.Need-same-length
 same-length c = search needs
 
 returns : tie.Need-returns
-returns c = moves-by (downNow (c .before .before .before .before .before .before .before .before .before .args .from .now) (c .before .before .before .before .before .before .before .before .before .args .slot .0)) (entryAt (c .before .before .before .before .before .before .before .before .before .args .table .now) (c .before .before .before .before .before .before .before .before .before .args .slot .0)) (c .before .before .before .before .before .before .before .before .before .args .slot .0) (c .before .before .before .before .before .before .before .before .before .args .tried .now) (c .before .before .before .before .before .before .before .before .before .args .m) (c .before .before .before .before .before .before .before .before .before .args .row .now) (c .before .before .before .before .before .before .before .before .before .args .p) _ (c .before .before .before .act-one .result) (c .before .before .before .act-one .ensures)
+returns c =
+    let a = c .before .before .before .before .before .before .before .before .before .args in
+    moves-by (isDown (a .down .now)) (entryAt (a .table .now) (a .slot .0)) (a .slot .0) (a .tried .now) (a .m) (a .row .now) (a .p) _ (c .before .before .before .act-one .result) (c .before .before .before .act-one .ensures)
 
 pub move-one-spec : {M : Type 1} → statement M
 move-one-spec = tie.close (tie.spec act-one-requires same-length returns)

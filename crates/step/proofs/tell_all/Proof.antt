@@ -13,10 +13,10 @@ use Rattle.step.proofs.tell_all.Statement.{statement}
 use Rattle.step.proofs.tell_all.Tie as tie
 
 abbrev Inv-loop : tie.InvT-loop
-Inv-loop n row table from i out₀ ps tried₀ m₀ out tried m = (i .0 < 65536) × Stand row n ps × Telling row (downNow from) (entryAt table) (i .0) n ps tried₀ out₀ m tried out
+Inv-loop n row table down i out₀ ps tried₀ m₀ out tried m = (i .0 < 65536) × Stand row n ps × Telling row (downNow down) (entryAt table) (i .0) n ps tried₀ out₀ m tried out
 
 abbrev μ-loop : tie.MeasureT-loop
-μ-loop n row table from i out₀ ps tried₀ m₀ out tried m = n - m
+μ-loop n row table down i out₀ ps tried₀ m₀ out tried m = n - m
 
 loop-holds : tie.Need-loop-holds Inv-loop μ-loop
 loop-holds c =
