@@ -1,9 +1,9 @@
 // Cut lists: refusal 12, and what is down in a slot, so that "is this link down" is one read.
 // It leans on specs/ of `scope` (Cuts, Outcome) and on the total read of `view`. No function but `bad_pair` and its parts asks
 // anything of the list, and no list is passed over further than its first bad pair.
-use scope::limits::LINKS;
 use scope::Answer;
 use scope::Refusal;
+use scope::limits::LINKS;
 use view::number;
 ghost use Prim.Native.Nat.{_+_, _*_, _<_, _^_};
 ghost use mathlib.Core.Path.{_≡_};

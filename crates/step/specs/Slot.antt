@@ -3,14 +3,13 @@ use Prim.Native.Nat.{ℕ, _+_, _*_, _≤_, _<_}
 use mathlib.Core.Path.{_≡_}
 use mathlib.Core.Bool.{Bool}
 use mathlib.Core.List.{List}
-use lib.ListN.{drop}
 use Rattle.scope.specs.Plan.{planOf}
 use Rattle.scope.specs.Slot as S
-use Rattle.scope.specs.Cycle.{orderOf, slot, nexts}
+use Rattle.scope.specs.Cycle.{orderOf, slot}
 use Rattle.table.specs.Table.{entryAt}
 use Rattle.cuts.specs.Down.{isDown}
 use Rattle.step.specs.declared.Standing.{Standing}
-use Rattle.step.specs.Stand.{positionsOf, Stand, Become}
+use Rattle.step.specs.Stand.{positionsOf, Stand, Moves}
 
 -- what is lent is down in the slot for which it is lent
 abbrev pub downNow : List ℕ → ℕ → ℕ → Bool
@@ -29,8 +28,7 @@ pub record MayGo (row : List ℕ) (n : ℕ) (s : Standing) (i : ℕ) : Type 0 wh
 -- they have gone through it: "What happens in slot i leads from time i to time i + 1", and "a slot changes only those records"
 pub record GoesOn (row table down : List ℕ) (n i : ℕ) (s r : Standing) : Type 0 where
   pub time : r .time .0 ≡ i + 1
-  pub next : Become row n (nexts (inSlot row table down i (positionsOf row n (s .positions)))) (r .positions)
-  pub rest : drop n (r .positions) ≡ drop n (s .positions)
+  pub moves : Moves row n (inSlot row table down i (positionsOf row n (s .positions))) (s .positions) (r .positions)
 
 -- their events may be told, with room for two numbers each
 pub record MayTell (row : List ℕ) (n : ℕ) (s : Standing) (i room : ℕ) : Type 0 where

@@ -20,7 +20,7 @@ ghost use Rattle.cuts.specs.Down.{isDown};
 ghost use Rattle.table.specs.Table.{entryAt};
 ghost use Rattle.step.specs.Events.{eventOf};
 ghost use Rattle.step.specs.Where.{positionOf, endOf, Leads, Acts, Faces, Meets};
-ghost use Rattle.step.specs.Stand.{positionsOf, MayTellAll};
+ghost use Rattle.step.specs.Stand.{positionsOf, Stand, Moves, MayTellAll};
 ghost use Rattle.step.specs.Slot.{downNow, inSlot, MayGo, GoesOn, MayTell};
 ghost use Rattle.step.specs.Pass.{firstTrier, noted, Noting, MayAct, ActsIn, MovesIn, MayMoveAll, MovesAll};
 
@@ -225,15 +225,7 @@ impl Position {
 
     // What it does on its second path, with its next link cut or whole: the tests "go in the order 7, 4, 5, 3". `entry` is what the
     // table has for that link and slot, `first` who goes first of those that try the link, and `m` this message.
-    fn act_second(
-        self,
-        row: &[u16],
-        link: u16,
-        down: bool,
-        entry: u8,
-        first: u16,
-        m: u16,
-    ) -> Moved
+    fn act_second(self, row: &[u16], link: u16, down: bool, entry: u8, first: u16, m: u16) -> Moved
         requires { ⌜ (self .turned ≡ true) × (0 < self .left) × (endOf (now row) self < 65536) × (link ≡ at (now row) (self .at)) ⌝ }
         ensures { λ r. ⌜ Acts (now (row .entry)) self (onSecondPath down entry (not (eqb first m)) first (at (now (row .entry)) (self .at)) (numbersAt (now (row .entry)) (self .at + 1) (self .left - 1))) r ⌝ }
     {
@@ -259,15 +251,7 @@ impl Position {
 
     // What message m does in a slot: it turns if it must, and acts. `entry` is what the table has for the link that it meets, and `first`
     // who goes first of those that try that link, m itself where nobody is before it.
-    pub fn acts(
-        self,
-        row: &[u16],
-        down: &[u8],
-        slot: Slot,
-        entry: u8,
-        first: u16,
-        m: u16,
-    ) -> Moved
+    pub fn acts(self, row: &[u16], down: &[u8], slot: Slot, entry: u8, first: u16, m: u16) -> Moved
         requires { ⌜ endOf (now row) self < 65536 ⌝ }
         ensures { λ r. ⌜ Acts (now (row .entry)) self (act (isDown (now (down .entry))) (slot .0) entry (not (eqb first m)) first (turn (isDown (now (down .entry))) (positionOf (now (row .entry)) self))) r ⌝ }
     {
@@ -395,6 +379,22 @@ fn lend(
     qs
 }
 
+// The same, from the beginning of the slot on: nobody has tried anything.
+fn after_slot(
+    ps: [Position; MESSAGES],
+    n: usize,
+    row: &[u16],
+    table: &[u8],
+    down: &[u8],
+    i: Slot,
+) -> [Position; MESSAGES]
+    requires { ⌜ Stand (now row) n ps × (i .0 < 65536) ⌝ }
+    ensures { λ r. ⌜ Moves (now (row .entry)) n (inSlot (now (row .entry)) (now (table .entry)) (now (down .entry)) (i .0) (positionsOf (now (row .entry)) n ps)) ps r ⌝ }
+{
+    let mut tried = [0u16; 65];
+    lend(ps, n, row, table, down, i, &mut tried)
+}
+
 // An event in the row of events: "kind then number".
 fn put_event(out: &mut [u16], k: usize, event: Event)
     requires { ⌜ k + 1 < length (now out) ⌝ }
@@ -463,8 +463,7 @@ impl Standing {
         ensures { λ r. ⌜ GoesOn (now (row .entry)) (now (table .entry)) (now (down .entry)) n (i .0) self r ⌝ }
     {
         let ps = self.positions;
-        let mut tried = [0u16; 65];
-        let qs = lend(ps, n, row, table, down, i, &mut tried);
+        let qs = after_slot(ps, n, row, table, down, i);
         Standing {
             time: Time(i.0 + 1),
             positions: qs,
@@ -472,15 +471,7 @@ impl Standing {
     }
 
     // The events of the slot that begins at this time, at the front of `out`.
-    pub fn tell(
-        self,
-        i: Slot,
-        n: usize,
-        row: &[u16],
-        table: &[u8],
-        down: &[u8],
-        out: &mut [u16],
-    )
+    pub fn tell(self, i: Slot, n: usize, row: &[u16], table: &[u8], down: &[u8], out: &mut [u16])
         requires { ⌜ MayTell (now row) n self (i .0) (length (now out)) ⌝ }
         ensures { λ _. ⌜ now (out .exit) ≡ numbers (inSlot (now (row .entry)) (now (table .entry)) (now (down .entry)) (i .0) (positionsOf (now (row .entry)) n (self .positions))) ++ drop (2 * n) (now (out .entry)) ⌝ }
     {
