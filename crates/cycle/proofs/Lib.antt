@@ -1,4 +1,4 @@
+pub mod Agree
 pub mod Start
 pub mod Slots
 pub mod Whole
-pub mod Agree

@@ -3,6 +3,8 @@ use Prim.Native.Nat.{ℕ, _+_, _*_, _≤_, _<_}
 use mathlib.Core.Path.{_≡_}
 use mathlib.Core.Bool.{Bool}
 use mathlib.Core.List.{List}
+use lib.ListN.{length}
+use Rattle.scope.specs.Limits.{mostMessages}
 use Rattle.scope.specs.Plan.{planOf}
 use Rattle.scope.specs.Slot as S
 use Rattle.scope.specs.Cycle.{orderOf, slot}
@@ -28,6 +30,7 @@ pub record MayGo (row : List ℕ) (n : ℕ) (s : Standing) (i : ℕ) : Type 0 wh
 -- they have gone through it: "What happens in slot i leads from time i to time i + 1", and "a slot changes only those records"
 pub record GoesOn (row table down : List ℕ) (n i : ℕ) (s r : Standing) : Type 0 where
   pub time : r .time .0 ≡ i + 1
+  pub long : length (r .positions) ≡ mostMessages
   pub moves : Moves row n (inSlot row table down i (positionsOf row n (s .positions))) (s .positions) (r .positions)
 
 -- their events may be told, with room for two numbers each

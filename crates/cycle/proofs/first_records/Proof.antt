@@ -1,10 +1,10 @@
--- `cycle::start_all` meets its contract. The loop's invariant: the first m messages stand at their first places. Assumes nothing.
+-- `cycle::first_records` meets its contract. The loop's invariant: the first m messages stand at their first places. Assumes nothing.
 use Prim.Native.Nat.{_-_}
 use native.Mathlib.Omega.{arith}
 use Rattle.cycle.proofs.Start.{Starting, starting-none, starting-fits, starting-more, starting-done}
 use borrow.Author.Needs.{needs}
-use Rattle.cycle.proofs.start_all.Statement.{statement}
-use Rattle.cycle.proofs.start_all.Tie as tie
+use Rattle.cycle.proofs.first_records.Statement.{statement}
+use Rattle.cycle.proofs.first_records.Tie as tie
 
 abbrev Inv-loop : tie.InvT-loop
 Inv-loop row n ps₀ at₀ m₀ ps at m = Starting row n m at ps
@@ -57,8 +57,8 @@ loop-again c = starting-more _ _ _ _ _ (c .before .before .before .loop .inv) (c
 returns : tie.Need-returns Inv-loop μ-loop
 returns c = starting-done _ _ _ _ _ (c .before .loop .inv) (c .loop-test .left)
 
-pub start-all-spec : {M : Type 1} → statement M
-start-all-spec =
+pub first-records-spec : {M : Type 1} → statement M
+first-records-spec =
     tie.close
     (tie.spec
     Inv-loop

@@ -1,15 +1,15 @@
--- `cycle::count_home` meets its contract. The loop's invariant: the count is that of the first j messages. Assumes nothing.
+-- `cycle::count_records` meets its contract. The loop's invariant: the count is that of the first j messages. Assumes nothing.
 use Prim.Native.Nat.{ℕ, _-_, _≤_}
 use mathlib.Core.Path.{_≡_}
 use mathlib.Core.List.{List}
 use lib.ListN.{length}
 use native.Mathlib.Omega.{arith}
 use Rattle.scope.specs.Cycle.{arrived}
-use Rattle.cycle.specs.Stand.{positionsOf}
+use Rattle.step.specs.Stand.{positionsOf}
 use Rattle.cycle.proofs.Start.{arrived-none, arrived-more}
 use borrow.Author.Needs.{needs}
-use Rattle.cycle.proofs.count_home.Statement.{statement}
-use Rattle.cycle.proofs.count_home.Tie as tie
+use Rattle.cycle.proofs.count_records.Statement.{statement}
+use Rattle.cycle.proofs.count_records.Tie as tie
 
 abbrev Inv-loop : tie.InvT-loop
 Inv-loop n ps count₀ j₀ count j = (j ≤ n) × (count ≤ j) × (length ps ≡ 32) × ((row : List ℕ) → count ≡ arrived (positionsOf row j ps))
@@ -52,8 +52,8 @@ returns c =
     let e : c .before .loop .j ≡ c .before .before .args .n = omega (arith, c .before .loop .inv .0, c .loop-test .left) in
     λ row. rw e at (c .before .loop .inv .3 row)
 
-pub count-home-spec : {M : Type 1} → statement M
-count-home-spec =
+pub count-records-spec : {M : Type 1} → statement M
+count-records-spec =
     tie.close
     (tie.spec
     Inv-loop
