@@ -1,0 +1,25 @@
+-- `cycle::start_all` meets its contract: the first records, at the first time. Assumes nothing.
+use mathlib.Core.Path.{_≡_, sym, _∙_, ap}
+use lib.ListN.{length}
+use borrow.Author.Needs.{needs}
+use Rattle.scope.specs.Limits.{mostMessages}
+use Rattle.cycle.proofs.start_all.Statement.{statement}
+use Rattle.cycle.proofs.start_all.Tie as tie
+
+first-records-requires : tie.Need-first-records-requires
+first-records-requires c κs = search needs
+
+first-requires : tie.Need-first-requires
+first-requires c κs = search needs
+
+returns : tie.Need-returns
+returns c =
+    let z : length (c .before .first-records .result) ≡ mostMessages = search needs in
+    record {
+      time = c .first .ensures .0;
+      long = ap length (c .first .ensures .1) ∙ z;
+      next = rw (c .first .ensures .1) (c .before .first-records .ensures);
+    }
+
+pub start-all-spec : {M : Type 1} → statement M
+start-all-spec = tie.close (tie.spec first-records-requires first-requires returns)
