@@ -260,11 +260,11 @@ impl Position {
             return Moved { next: self, event };
         }
         let met = self.meets(row, down);
-        let q = met.position;
-        if q.turned {
-            q.act_second(row, met.link, met.down, entry, first, m)
+        let p = met.position;
+        if p.turned {
+            p.act_second(row, met.link, met.down, entry, first, m)
         } else {
-            q.act_first(row, slot, met.link, met.down)
+            p.act_first(row, slot, met.link, met.down)
         }
     }
 }
