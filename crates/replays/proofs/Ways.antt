@@ -86,7 +86,7 @@ module _ (row cuts entry : List ℕ) (good : Checked row cuts) (needed : ℕ) (n
   unfolding replay
   replay-short h =
       let l : length (eventRow (planOf row) cuts) ≡ needed = row-length row cuts ∙ sym n in
-      let o : replay row cuts (length entry) ≡ refused 13 needed = rw (judged row (good .row), good .good, l, lt-leb needed (length entry) h) in
+      let o : replay row cuts (length entry) ≡ refused 13 needed = rw (judged row (good .judged), good .good, l, lt-leb needed (length entry) h) in
       record { answer = sym o; buffer = after-refused _ _ _ _ entry o }
 
   -- the arrivals, with the row of events
@@ -94,7 +94,7 @@ module _ (row cuts entry : List ℕ) (good : Checked row cuts) (needed : ℕ) (n
       (p : Played row table cuts entry exit count) where
     same : (j : ℕ) → j < 0 + timeoutOf row → (cutBelow (planOf row) cuts j ≡ isCut (planOf row) cuts j) × (entryAt table j ≡ tableOf (planOf row) j)
     same j g =
-        let l = good-lies row (good .row) in
+        let l = good-lies row (good .judged) in
         let k : j < mostSlots = omega (arith, l .timeout) in (
           down-same (planOf row) cuts (good .count) (good .good) (omega (arith, link-count row, l .links)) j,
           owner-same row l table t j k,
@@ -118,7 +118,7 @@ module _ (row cuts entry : List ℕ) (good : Checked row cuts) (needed : ℕ) (n
     replay-gives =
         let l : length (eventRow (planOf row) cuts) ≡ needed = row-length row cuts ∙ sym n in
         let o : replay row cuts (length entry) ≡ gives (arrivals (planOf row) cuts) =
-        rw (judged row (good .row), good .good, l, le-leb needed (length entry) h) in
+        rw (judged row (good .judged), good .good, l, le-leb needed (length entry) h) in
         record {
           answer = ap gives ends ∙ sym o;
           buffer = p .events ∙ ap (λ u. u ++ drop (length u) entry) tells-row ∙ after-gives _ _ (eventRow (planOf row) cuts) entry o;
