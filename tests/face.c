@@ -1,11 +1,15 @@
 /* The probe of docs/TESTING.md once more, through include/nuthatchet.h: a question a line, an answer a line. `judge` and `all_answers`, which the
    probe does not ask, are asked beside `write` and `verdict`, and an answer that does not fit says so. With words it lays out a text: `face replay PLAN`
-   and `face pack` take standard input, `face row PLAN` does not. */
+   and `face pack` take standard input, `face row PLAN` does not. Compiled with -DFAULT=n, it asks a library with a fault (tests/face_faults.h). */
 #include "../include/nuthatchet.h"
 
 #include <stdio.h>
 #include <stdlib.h>
 #include <string.h>
+
+#ifdef FAULT
+#include "face_faults.h"
+#endif
 
 enum { MOST = 70000 };
 static char line[8 * MOST];
@@ -13,14 +17,14 @@ static uint16_t numbers[MOST], row16[MOST];
 static uint8_t bytes[MOST], row8[MOST];
 static size_t count, place, result;
 
-/* the decimals of a line, each 16 bits: how many, or -1 */
+/* the decimals of a line, each 16 bits and without needless zeros: how many, or -1 */
 static int read_numbers(char *at) {
     count = 0;
     while (*at == ' ') {
         char *end = at + 1;
         unsigned long n = 0;
         while (*end >= '0' && *end <= '9' && n < 65536) n = 10 * n + (unsigned long)(*end++ - '0');
-        if (end == at + 1 || n > 65535) return -1;
+        if (end == at + 1 || n > 65535 || (at[1] == '0' && end > at + 2)) return -1;
         numbers[count++] = (uint16_t)n;
         at = end;
     }
@@ -59,15 +63,31 @@ static int refused(size_t number) {
     return number != 0;
 }
 
-/* the seven numbers for l, or the refusal, of all answers */
+/* all answers for k, in a room of so many numbers: the refusal fits the verdict's for l or is 13; else the count is right, the seven numbers for l
+   say that verdict, those for each l are of the form that the header says, and nothing stands behind them */
+static int fits_in(size_t lent, const uint16_t *row, size_t many, size_t k, size_t l, size_t number, size_t pairs) {
+    uint16_t out[NUTHATCHET_ANSWERS + 8];
+    for (size_t i = 0; i < NUTHATCHET_ANSWERS + 8; i++) out[i] = 0xA5A5;
+    size_t p = 1, n = 1, written = 0, said = nuthatchet_all_answers(row, many, k, out, lent, &p, &n);
+    int asks_l = number != 13 && !(number == 11 && k <= 3), fit;
+    if (asks_l && number != 0) fit = said == number && p == place && n == 0;
+    else if (lent < (written = 7 * ((size_t)row[3] + 2))) fit = said == 13 && p == written && n == 0, written = 0;
+    else fit = said == 0 && p == 0 && n == written;
+    for (size_t i = written; i < NUTHATCHET_ANSWERS + 8; i++) fit &= out[i] == 0xA5A5;
+    for (size_t i = 0; fit && i < written; i += 7) {
+        fit &= out[i] == 0 || (out[i] > 1 && out[i] <= k + 1);
+        for (size_t j = 1; j < 7; j++) fit &= out[i] > 0 && j <= 2 * ((size_t)out[i] - 1) ? out[i + j] < 64 : out[i + j] == 0;
+    }
+    if (!fit || !asks_l || written == 0) return fit;
+    if (out[7 * l] != (pairs == 0 ? 0 : pairs + 1)) return 0;
+    for (size_t i = 0; i < 2 * pairs; i++) fit &= out[7 * l + 1 + i] == row16[i];
+    return fit;
+}
+
+/* with room for the most, and with one number too few for this plan */
 static int fits(const uint16_t *row, size_t many, size_t k, size_t l, size_t number, size_t pairs) {
-    uint16_t out[NUTHATCHET_ANSWERS];
-    size_t p, n, said = nuthatchet_all_answers(row, many, k, out, NUTHATCHET_ANSWERS, &p, &n);
-    if (number == 13 || (number == 11 && k <= 3)) return 1;
-    if (said != number || number != 0) return said == number && p == place && n == 0;
-    if (n < 7 * (l + 1) || out[7 * l] != (pairs == 0 ? 0 : pairs + 1)) return 0;
-    for (size_t i = 0; i < 6; i++) if (out[7 * l + 1 + i] != (i < 2 * pairs ? row16[i] : 0)) return 0;
-    return 1;
+    size_t few = many > 3 && row[3] < 32 ? 7 * ((size_t)row[3] + 2) - 1 : 0;
+    return fits_in(NUTHATCHET_ANSWERS, row, many, k, l, number, pairs) && fits_in(few, row, many, k, l, number, pairs);
 }
 
 static void answer(void) {
@@ -100,7 +120,7 @@ static void answer(void) {
     } else if (strncmp(line, "verdict ", 8) == 0 && read_numbers(line + 7) >= 3) {
         lend(room = numbers[2]);
         number = nuthatchet_verdict(numbers + 3, count - 3, numbers[0], numbers[1], row16, room, &place, &result);
-        if ((numbers[0] < 2 || numbers[0] > 3) && !fits(numbers + 3, count - 3, numbers[0], numbers[1], number, result)) printf("all answers differ ");
+        if (!fits(numbers + 3, count - 3, numbers[0], numbers[1], number, result)) printf("all answers differ ");
         if (refused(number)) { put_end(0, room, 1); return; }
         if (result == 0) printf("ok resistant");
         else printf("ok failing %zu", result), put_numbers(row16, 2 * result);
@@ -112,24 +132,43 @@ static void answer(void) {
         if (!refused(number)) printf("ok %d", (int)slots);
         puts("");
     } else if (strncmp(line, "second ", 7) == 0 && read_numbers(line + 6) >= 2) {
-        size_t index, links = nuthatchet_second_path(numbers + 2, count - 2, numbers[0], numbers[1], &index);
+        size_t index = 1, links = nuthatchet_second_path(numbers + 2, count - 2, numbers[0], numbers[1], &index);
+        if (links == 0 ? index != 0 : index + links > count - 2) printf("index %zu beside ", index), links = 0;
         printf("part %zu", links);
         put_numbers(numbers + 2 + index, links);
         puts("");
+    } else if (strncmp(line, "where ", 6) == 0 && read_numbers(line + 5) >= 2) {
+        size_t index = 1, links = nuthatchet_second_path(numbers + 2, count - 2, numbers[0], numbers[1], &index);
+        printf("at %zu %zu\n", index, links);
     } else puts("?");
 }
 
-static uint8_t plan[MOST], input[MOST], text[MOST];
+static uint8_t plan[MOST], input[MOST], text[MOST + 8];
+static size_t long_plan, long_input;
 
+/* the text in a room of so many bytes; complains if anything outside the written part has changed */
+static size_t lay(const char *which, size_t room) {
+    size_t number;
+    memset(text, 0xA5, sizeof text);
+    place = result = 1;
+    if (strcmp(which, "replay") == 0) number = nuthatchet_replay_text(plan, long_plan, input, long_input, text, room, &place, &result);
+    else if (strcmp(which, "row") == 0) number = nuthatchet_row_text(plan, long_plan, text, room, &place, &result);
+    else number = nuthatchet_pack_text(input, long_input, text, room, &place, &result);
+    for (size_t i = number == 0 ? result : 0; i < sizeof text; i++)
+        if (text[i] != 0xA5) { printf("spoilt at %zu ", i); break; }
+    return number;
+}
+
+/* The text, with room for more than it, with exactly its room, and with one byte too few; or its refusal. */
 static int lay_text(const char *which, const char *path) {
     FILE *file = path ? fopen(path, "rb") : NULL;
-    size_t long_plan = file ? fread(plan, 1, MOST, file) : 0, long_input = 0, number = 0;
+    long_plan = file ? fread(plan, 1, MOST, file) : 0;
     if (strcmp(which, "row") != 0) long_input = fread(input, 1, MOST, stdin);
-    if (strcmp(which, "replay") == 0) number = nuthatchet_replay_text(plan, long_plan, input, long_input, text, MOST, &place, &result);
-    else if (strcmp(which, "row") == 0) number = nuthatchet_row_text(plan, long_plan, text, MOST, &place, &result);
-    else number = nuthatchet_pack_text(input, long_input, text, MOST, &place, &result);
-    if (!refused(number)) fwrite(text, 1, result, stdout);
-    else puts("");
+    if (refused(lay(which, MOST))) { puts(""); return 0; }
+    size_t needed = result;
+    if (lay(which, needed - 1) != 13 || place != needed || result != 0) printf("one byte too few is enough ");
+    if (lay(which, needed) != 0 || place != 0 || result != needed) printf("its own room is not enough ");
+    fwrite(text, 1, needed, stdout);
     return 0;
 }
 

@@ -1,6 +1,6 @@
 #!/usr/bin/env python3
 """Writes the questions of this folder, NAME.questions, from plans built by hand here. The answers, NAME.answers, come from the
-independent second program: oracle probe < NAME.questions > NAME.answers. `longest` is not made here: its plan, a good one of 10,405 numbers and
+independent second program (tests/make-expected): oracle probe < NAME.questions > NAME.answers. `longest` is not made here: its plan, a good one of 10,405 numbers and
 7,348 bytes, is from the second program's generator (seed 1)."""
 B = [1, 2, 2, 1, 3, 0, 1, 0, 2, 2, 1, 0, 0, 0, 1, 1, 1, 2, 0, 0, 1, 1, 1, 1, 2]
 A = [1, 3, 3, 1, 3, 0, 1, 1, 3, 0, 2, 2, 3, 1, 0, 0, 1, 1, 2, 3, 1, 1, 0, 1, 2, 0, 1, 1, 0, 1, 3, 1, 0]

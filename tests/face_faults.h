@@ -1,0 +1,62 @@
+/* Faults of a library, for tests/face to find: with -DFAULT=n the n-th stands between tests/face.c and the library. */
+
+static size_t faulty_all_answers(const uint16_t *row, size_t row_len, size_t k, uint16_t *out, size_t out_len, size_t *place, size_t *result) {
+    size_t number = nuthatchet_all_answers(row, row_len, k, out, out_len, place, result);
+    if (FAULT == 1 && number == 0 && k == 2) for (size_t i = 0; i < *result; i += 7) if (out[i] > 2) out[i + 4] ^= 1; /* another link, for k 2 */
+    if (FAULT == 2 && number == 0 && k == 3) for (size_t i = 0; i < *result; i += 7) if (out[i] > 0) out[i] = 0; /* always resistant, for k 3 */
+    if (FAULT == 3 && number == 0) ++*result; /* a count one too high */
+    if (FAULT == 4 && number == 0 && *result < out_len) out[*result] = 0; /* a number behind the last */
+    if (FAULT == 5 && number != 0 && out_len > 0) out[0] = 0; /* a buffer changed on a refusal */
+    if (FAULT == 6 && number == 13) --*place; /* a room that is one too small is told */
+    if (FAULT == 7 && number == 0) out[*result - 7] = 1; /* a form of answer that there is not */
+    return number;
+}
+
+static size_t faulty_second_path(const uint16_t *row, size_t row_len, size_t m, size_t p, size_t *index) {
+    size_t links = nuthatchet_second_path(row, row_len, m, p, index);
+    if (FAULT == 8 && links == 0) *index = 5; /* an index beside 0 links */
+    if (FAULT == 9 && links > 0) --*index; /* the index of the count */
+    return links;
+}
+
+/* what a text entry leaves */
+static size_t faulty_text(int which, size_t number, uint8_t *out, size_t out_len, size_t *place, size_t *result) {
+    if (FAULT == which && number == 0 && *result < out_len) out[*result] = 0; /* a byte behind the text */
+    if (FAULT == which + 1 && number != 0 && out_len > 0) out[out_len - 1] = 0; /* the buffer changed on a refusal */
+    if (FAULT == which + 2 && number == 0) ++*result; /* a count one too high */
+    if (FAULT == which + 3 && number == 13) --*place; /* a room that is one too small is told */
+    return number;
+}
+
+static size_t faulty_replay_text(const uint8_t *file, size_t file_len, const uint8_t *input, size_t input_len, uint8_t *out, size_t out_len, size_t *place, size_t *result) {
+    return faulty_text(10, nuthatchet_replay_text(file, file_len, input, input_len, out, out_len, place, result), out, out_len, place, result);
+}
+
+static size_t faulty_row_text(const uint8_t *file, size_t file_len, uint8_t *out, size_t out_len, size_t *place, size_t *result) {
+    return faulty_text(14, nuthatchet_row_text(file, file_len, out, out_len, place, result), out, out_len, place, result);
+}
+
+static size_t faulty_pack_text(const uint8_t *text, size_t text_len, uint8_t *file, size_t file_len, size_t *place, size_t *result) {
+    return faulty_text(18, nuthatchet_pack_text(text, text_len, file, file_len, place, result), file, file_len, place, result);
+}
+
+static size_t faulty_judge(const uint16_t *row, size_t row_len, size_t *place, size_t *result) {
+    size_t number = nuthatchet_judge(row, row_len, place, result);
+    if (FAULT == 22 && number == 0) ++*result; /* a count one too high */
+    return number;
+}
+
+static size_t faulty_slack(const uint16_t *row, size_t row_len, size_t m, size_t p, size_t *place, int32_t *slots) {
+    size_t number = nuthatchet_slack(row, row_len, m, p, place, slots);
+    if (FAULT == 23 && number != 0) *slots = -1; /* a result beside a refusal */
+    return number;
+}
+
+#define nuthatchet_all_answers faulty_all_answers
+#define nuthatchet_second_path faulty_second_path
+#define nuthatchet_replay_text faulty_replay_text
+#define nuthatchet_row_text faulty_row_text
+#define nuthatchet_pack_text faulty_pack_text
+#define nuthatchet_judge faulty_judge
+#define nuthatchet_slack faulty_slack
+enum { FAULTS = 23 };
