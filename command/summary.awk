@@ -139,7 +139,7 @@ function spare(    i, words, text) {
     if (!second_paths) { tell("", "There is no second path."); return }
     if (!shorts) text = "Slack: every second path arrives in time if it stays whole"
     else {
-        text = "Slack: " shorts " of " counted(second_paths, "second path") " " (shorts == 1 ? "has" : "have") " none, which promises nothing: "
+        text = "Slack: " shorts " of " counted(second_paths, "second path") " " (shorts == 1 ? "has" : "have") " less than 0, which is no promise and no verdict: "
         for (i = 0; i < shorts && i < MOST_SLACKS; i++) {
             split(short[i], words, " ")
             text = text (i ? ", " : "") "message " words[1] " from place " words[2] " (" slack[words[1], words[2]] ")"
