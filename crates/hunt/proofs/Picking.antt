@@ -18,11 +18,11 @@ use Rattle.cuts.proofs.From.{getD-any}
 use Rattle.step.specs.declared.Position as P
 use Rattle.hunt.specs.declared.Asked.{Asked}
 use Rattle.hunt.specs.declared.Picked.{Picked}
-use Rattle.hunt.specs.Search.{code}
+use Rattle.order.specs.Search.{code}
 use Rattle.hunt.specs.Hunt.{cutsOf, withPair, Playable, Holding, StandAt}
-use Rattle.touch.proofs.Some.{some-one}
-use Rattle.hunt.proofs.Prefix.{cut-more, same-before}
-use Rattle.hunt.proofs.Steps.{picked}
+use Rattle.order.proofs.Some.{some-one}
+use Rattle.order.proofs.Prefix.{cut-more, same-before}
+use Rattle.order.proofs.Steps.{picked}
 
 -- two numbers more at the front of a list
 take-two : (l : List ℕ) (d s e : ℕ) → 2 * d + 1 < length l → take (2 * (d + 1)) (set (set l (2 * d) s) (2 * d + 1) e) ≡ take (2 * d) l ++ s ∷ e ∷ []
@@ -96,6 +96,9 @@ module _ (row table : List ℕ) (a : Asked) (p : Picked) (y : Playable row table
         tells =
             rw cuts-more (tells-more (cutsOf p) (p .from) (p .count) s e (h .chosen .long) (h .tells) (omega (arith, y .few)) whole);
         first = λ x l. first x l (eqb x e) refl;
+        past = λ i l.
+            getD-set-other (set (p .numbers) (2 * p .count) s) (2 * p .count + 1) i e 0 (λ z. omega arith) ∙
+            getD-set-other (p .numbers) (2 * p .count) i s 0 (λ z. omega arith) ∙ h .past i (omega arith);
       }
     where
       first : (x : ℕ) → x < 64 → (b : Bool) → eqb x e ≡ b → getD (set (p .from) e s) x 0 ≤ 65535

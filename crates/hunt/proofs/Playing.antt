@@ -2,14 +2,14 @@
 use Prim.Native.Nat.{ℕ, _+_, _*_, _≤_, _<_}
 use native.Mathlib.Omega.{arith}
 use mathlib.Core.Path.{_≡_, refl, sym, _∙_, ap, ap₂, fun-ext}
-use mathlib.Core.Bool.{Bool, true, false, true≢false}
+use mathlib.Core.Bool.{Bool, true, false}
 use mathlib.Core.List.{List, _++_}
 use lib.ListN.{length, take, List·getD-eq-default}
 use lib.Dec.{ltb, leb}
 use borrow.Author.Tests.{ltb-true, ltb-false, lt-leb}
 use Rattle.scope.specs.Plan.{planOf}
 use Rattle.scope.specs.Slot.{Position}
-use Rattle.scope.specs.Cuts.{isCut, isCutList}
+use Rattle.scope.specs.Cuts.{isCut}
 use Rattle.scope.specs.Cycle.{byNumber, tableOf, start, slot, nexts, positions, arrived, arrivals}
 use Rattle.scope.proofs.Cuts.{link-below}
 use Rattle.laws.proofs.Cuts.{not-cut}
@@ -23,11 +23,12 @@ use Rattle.cycle.proofs.Agree.{positions-same}
 use Rattle.hunt.specs.declared.Asked.{Asked}
 use Rattle.hunt.specs.declared.Picked.{Picked}
 use Rattle.hunt.specs.declared.Found.{Found}
-use Rattle.hunt.specs.Hunt.{cutsOf, Playable, Holding, StandAt, MayPlayOut, MayAdvance, Sought}
+use Rattle.hunt.specs.Hunt.{cutsOf, Seeks, noFound, Playable, Holding, StandAt, MayPlayOut, MayAdvance, Sought}
 use Rattle.hunt.specs.Risk.{atRisk}
-use Rattle.hunt.proofs.Prefix.{one-slot}
+use Rattle.order.proofs.Prefix.{one-slot}
+use Rattle.order.proofs.Steps.{nothing-more, itself}
 use Rattle.hunt.proofs.Risk.{risk-is}
-use Rattle.hunt.proofs.Steps.{nothing-more, itself}
+use Rattle.hunt.proofs.Telling.{tells-none, tells-some}
 
 module _ (row table : List ℕ) (a : Asked) (p : Picked) (y : Playable row table a) (h : Holding row a p) where
   -- links from 64 on are never down
@@ -61,27 +62,19 @@ module _ (row table : List ℕ) (a : Asked) (p : Picked) (y : Playable row table
         stand = b .stand;
       }
 
-  pub settled-none : (r : Found) (n : ℕ) → r .found ≡ false → length (r .numbers) ≡ 6 → n ≡ arrivals (planOf row) (cutsOf p) → a .least ≤ n →
-      Sought row (a .least) p 0 r
-  settled-none r n f l e enough =
-      record {
-        long = l;
-        none = λ g. nothing-more (planOf row) (a .least) (cutsOf p) (omega arith);
-        some = λ g. absurd (true≢false (sym g ∙ f));
-        left = λ g. absurd (true≢false (sym g ∙ f));
-      }
+  pub settled-none : (r : Found) (n : ℕ) (b : Bool) → r ≡ noFound → n ≡ arrivals (planOf row) (cutsOf p) → b ≡ ltb n (a .least) → b ≡ false → Sought row a p 0 r
+  settled-none r n b is e t so =
+      tells-none row _ _ (p .count + 0) r is
+      (nothing-more (planOf row) (Seeks row a) (cutsOf p) (λ it. omega (arith, it, ltb-false n (a .least) (sym t ∙ so))))
 
-  pub settled-some : (r : Found) (n : ℕ) → r .arrivals ≡ n → r .numbers ≡ p .numbers → r .found ≡ true → n ≡ arrivals (planOf row) (cutsOf p) →
-      n < a .least → Sought row (a .least) p 0 r
-  settled-some r n i m f e few =
+  pub settled-some : (r : Found) (n : ℕ) (b : Bool) → r .arrivals ≡ n → r .numbers ≡ p .numbers → r .found ≡ true → n ≡ arrivals (planOf row) (cutsOf p) →
+      b ≡ ltb n (a .least) → b ≡ true → Sought row a p 0 r
+  settled-some r n b i m f e t so =
       let z : p .count + 0 ≡ p .count = omega arith in
       let same : take (2 * (p .count + 0)) (r .numbers) ≡ cutsOf p = ap₂ (λ (k : ℕ) (l : List ℕ). take (2 * k) l) z m in
-      record {
-        long = ap length m ∙ h .long;
-        none = λ g. absurd (true≢false (sym f ∙ g));
-        some = λ g. rw same (itself (planOf row) (a .least) (cutsOf p) (h .chosen .good) (omega arith));
-        left = λ g. i ∙ e ∙ ap (arrivals (planOf row)) (sym same);
-      }
+      tells-some row _ _ (p .count + 0) r f (ap length m ∙ h .long)
+      (rw same (itself (planOf row) (Seeks row a) (cutsOf p) (h .chosen .good) (omega (arith, ltb-true n (a .least) (sym t ∙ so)))))
+      (i ∙ e ∙ ap (arrivals (planOf row)) (sym same)) (λ j l. rw m (h .past j (omega arith)))
 
 -- the list picked stands at time i
 pub record Ending (row : List ℕ) (a : Asked) (p : Picked) (i : ℕ) (qs : List P.Position) : Type 0 where
@@ -100,25 +93,17 @@ module _ (row table marks : List ℕ) (a : Asked) (ps : List P.Position) (p : Pi
     ends-more rs l s = record { stand = s; early = omega arith }
 
     -- too few can be lost
-    pub ends-light : (r : Found) (risk : ℕ) → r .found ≡ false → length (r .numbers) ≡ 6 → risk ≡ atRisk marks qs (a .messages) → risk < a .need →
-        Sought row (a .least) p 0 r
+    pub ends-light : (r : Found) (risk : ℕ) (b : Bool) → r ≡ noFound → risk ≡ atRisk marks qs (a .messages) → b ≡ ltb risk (a .need) → b ≡ true →
+        Sought row a p 0 r
     unfolding sumOf
-    ends-light r risk t long is light =
-        record {
-          long = long;
-          none = λ u x rest good. by x rest good (ltb (arrivals (planOf row) (cutsOf p ++ x)) (a .least)) refl;
-          some = λ u. absurd (true≢false (sym u ∙ t));
-          left = λ u. absurd (true≢false (sym u ∙ t));
-        }
-      where
-        by : (x : List ℕ) → length x ≡ 2 * 0 → isCutList (planOf row) (cutsOf p ++ x) ≡ true → (b : Bool) → ltb (arrivals (planOf row) (cutsOf p ++ x)) (a .least) ≡ b →
-            a .least ≤ arrivals (planOf row) (cutsOf p ++ x)
-        by x rest good true e =
-            let count = is ∙ risk-is row table marks a p (m .play) (m .holding) (m .marked) i qs (g .stand) in
-            let enough = m .bound .enough (cutsOf p) x (p .count) 0 i (omega (arith, g .early, m .play .timeout)) (m .holding .chosen .long) rest
-            (λ j l. absurd (omega arith)) good (ltb-true (arrivals (planOf row) (cutsOf p ++ x)) (a .least) e) in
-            absurd (omega (arith, enough, count, light))
-        by x rest good false e = ltb-false (arrivals (planOf row) (cutsOf p ++ x)) (a .least) e
+    ends-light r risk b is count t so =
+        let counted = risk-is row table marks a p (m .play) (m .holding) (m .marked) i qs (g .stand) in
+        let light = ltb-true risk (a .need) (sym t ∙ so) in
+        tells-none row _ _ (p .count + 0) r is
+        (λ x rest good it.
+        let enough = m .bound .enough (cutsOf p) x (p .count) 0 i (omega (arith, g .early, m .play .timeout)) (m .holding .chosen .long) rest
+        (λ j l. absurd (omega arith)) good it in
+        omega (arith, enough, counted, count, light))
 
     -- the end
     pub ends-over : (n : ℕ) → a .timeout ≤ i → n ≡ arrived (positionsOf row (a .messages) qs) → n ≡ arrivals (planOf row) (cutsOf p)

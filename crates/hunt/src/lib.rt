@@ -1,14 +1,16 @@
 // The search over cut lists: lists are tried in the order of document 01's verdict, fewest pairs first; a list is played from its last
-// pair on, and lists that a bound shows to leave enough are passed over. Of the bound it knows only specs/Bound of `touch`. It leans on
-// `cycle` for a slot and on the theorems of `laws`.
+// pair on, and lists that a bound shows not to answer are passed over. What is asked of a list only `answers` knows, and `hopeless` that
+// no list from here can answer. Of the bound it knows only specs/Bound of `touch`. It leans on `cycle` for a slot, on `order` for the
+// steps from pair to pair and on the theorems of `laws`.
 use step::Position;
 use step::Slot;
 ghost use Prim.Native.Nat.{ℕ, _+_, _-_, _*_, _<_, _≤_};
 ghost use mathlib.Core.Path.{_≡_};
-ghost use mathlib.Core.Bool.{false};
 ghost use lib.ListN.{length};
+ghost use lib.Dec.{ltb};
 ghost use Rattle.scope.specs.Lowest.{seek};
-ghost use Rattle.hunt.specs.Hunt.{cutsOf, withPair, noPair, passes, StandAt, MayPlayOut, MayAdvance, MaySeek, MaySeekIn, Sought, SoughtIn, MayHunt, Hunts};
+ghost use Rattle.hunt.specs.Hunt.{cutsOf, withPair, noPair, passes, noFound, noHunted, StandAt};
+ghost use Rattle.hunt.specs.Hunt.{MayPlayOut, MayAdvance, MaySeek, MaySeekIn, Sought, SoughtIn, MayHunt, Hunts};
 ghost use Rattle.touch.specs.Marks.{Marks};
 ghost use Rattle.hunt.specs.Risk.{riskIf, atRisk, MayMarkPicked};
 
@@ -31,14 +33,14 @@ pub struct Picked {
     pub from: [u16; 64],
 }
 
-// A list that fails, with its arrivals; or none.
+// A list that answers, with its arrivals; or none.
 pub struct Found {
     pub found: bool,
     pub arrivals: usize,
     pub numbers: [u16; 6],
 }
 
-// The first list that fails, with its pairs and arrivals; or none.
+// The first list that answers, with its pairs and arrivals; or none.
 pub struct Hunted {
     pub found: bool,
     pub pairs: usize,
@@ -47,10 +49,21 @@ pub struct Hunted {
 }
 
 fn nothing() -> Found
-    ensures { λ r. ⌜ (r .found ≡ false) × (length (r .numbers) ≡ 6) ⌝ }
+    ensures { λ r. ⌜ r ≡ noFound ⌝ }
 {
     Found {
         found: false,
+        arrivals: 0,
+        numbers: [0u16; 6],
+    }
+}
+
+pub fn no_list() -> Hunted
+    ensures { λ r. ⌜ r ≡ noHunted ⌝ }
+{
+    Hunted {
+        found: false,
+        pairs: 0,
         arrivals: 0,
         numbers: [0u16; 6],
     }
@@ -84,52 +97,61 @@ fn pick(p: Picked, s: usize, e: usize) -> Picked
     q
 }
 
-// A link is not cut already, and heavy enough.
-fn may(from: &[u16], weights: &[u8], base: usize, floor: usize, e: usize) -> bool
-    requires { ⌜ (e < length (now from)) × (base + e < length (now weights)) ⌝ }
-    ensures { λ r. ⌜ r ≡ passes (now (from .entry)) (now (weights .entry)) base floor e ⌝ }
+// This list answers: it leaves too few arrivals.
+fn answers(least: usize, arrivals: usize) -> bool
+    ensures { λ r. ⌜ r ≡ ltb arrivals least ⌝ }
+{
+    arrivals < least
+}
+
+// No list from here can answer, if it loses no more messages than so many.
+fn hopeless(need: usize, loss: usize) -> bool
+    ensures { λ r. ⌜ r ≡ ltb loss need ⌝ }
+{
+    loss < need
+}
+
+// How many messages can be lost where so many are at risk and n pairs more are to come.
+fn heaviest(risk: usize, n: usize, top: usize) -> usize
+    requires { ⌜ (risk ≤ 65536) × (n ≤ 3) × (top < 65536) ⌝ }
+    ensures { λ r. ⌜ (r ≡ risk + n * top) × (r ≤ 262144) ⌝ }
+{
+    risk + n * top
+}
+
+// A link is not cut already, and a list that goes on with it can answer.
+fn may(from: &[u16], weights: &[u16], base: usize, need: usize, rest: usize, e: usize) -> bool
+    requires { ⌜ (e < length (now from)) × (base + e < length (now weights)) × (rest ≤ 262144) ⌝ }
+    ensures { λ r. ⌜ r ≡ passes (now (from .entry)) (now (weights .entry)) base need rest e ⌝ }
 {
     if from[e] != 65535 {
         return false;
     }
-    floor <= weights[base + e] as usize
+    let loss = rest + weights[base + e] as usize;
+    !hopeless(need, loss)
 }
 
 // The first link from e on that may be tried, or how many links there are.
 fn next_link(
     from: &[u16],
-    weights: &[u8],
+    weights: &[u16],
     base: usize,
-    floor: usize,
+    need: usize,
+    rest: usize,
     e: usize,
     links: usize,
 ) -> usize
-    requires { ⌜ (e ≤ links) × (links ≤ length (now from)) × (base + links ≤ length (now weights)) ⌝ }
-    ensures { λ r. ⌜ r ≡ seek (passes (now (from .entry)) (now (weights .entry)) base floor) (links - e) e ⌝ }
+    requires { ⌜ (e ≤ links) × (links ≤ length (now from)) × (base + links ≤ length (now weights)) × (rest ≤ 262144) ⌝ }
+    ensures { λ r. ⌜ r ≡ seek (passes (now (from .entry)) (now (weights .entry)) base need rest) (links - e) e ⌝ }
 {
     let mut i = e;
     while i < links {
-        if may(from, weights, base, floor, i) {
+        if may(from, weights, base, need, rest, i) {
             return i;
         }
         i += 1;
     }
     i
-}
-
-// What a pair must weigh at least if others weigh `rest`.
-fn lacking(need: usize, rest: usize) -> usize
-    ensures { λ r. ⌜ r ≡ need - rest ⌝ }
-{
-    if rest < need { need - rest } else { 0 }
-}
-
-// How many messages can be lost where so many are at risk and n pairs more are to come.
-fn heaviest(risk: usize, n: usize, top: usize) -> usize
-    requires { ⌜ (risk ≤ 65536) × (n ≤ 3) × (top < 256) ⌝ }
-    ensures { λ r. ⌜ r ≡ risk + n * top ⌝ }
-{
-    risk + n * top
 }
 
 // One where a message is marked and not at its target, else 0.
@@ -194,12 +216,13 @@ fn play_out(
     p: Picked,
 ) -> Found
     requires { ⌜ MayPlayOut (now row) (now table) (now marks) a ps p ⌝ }
-    ensures { λ r. ⌜ Sought (now (row .entry)) (a .least) p 0 r ⌝ }
+    ensures { λ r. ⌜ Sought (now (row .entry)) a p 0 r ⌝ }
 {
     let mut qs = ps;
     let mut i = p.slot;
     while i < a.timeout {
-        if at_risk(qs, a.messages, marks) < a.need {
+        let risk = at_risk(qs, a.messages, marks);
+        if hopeless(a.need, risk) {
             return nothing();
         }
         let rs = advance(row, table, a, qs, p, i);
@@ -207,7 +230,7 @@ fn play_out(
         i += 1;
     }
     let arrivals = cycle::count_home(qs, a.messages);
-    if arrivals < a.least {
+    if answers(a.least, arrivals) {
         let numbers = p.numbers;
         Found {
             found: true,
@@ -223,8 +246,8 @@ fn play_out(
 fn in_slot(
     row: &[u16],
     table: &[u8],
-    weights: &[u8],
-    most: &[u8],
+    weights: &[u16],
+    most: &[u16],
     a: Asked,
     ps: [Position; 32],
     p: Picked,
@@ -234,14 +257,14 @@ fn in_slot(
     risk: usize,
 ) -> Found
     requires { ⌜ MaySeekIn (now row) (now table) (now weights) (now most) a ps p n s e risk ⌝ }
-    ensures { λ r. ⌜ SoughtIn (now (row .entry)) (a .least) p n s e r ⌝ }
+    ensures { λ r. ⌜ SoughtIn (now (row .entry)) a p n s e r ⌝ }
 {
     let from = p.from;
     let links = a.links;
     let base = s * 64;
     let top = most[s] as usize;
-    let floor = lacking(a.need, heaviest(risk, n - 1, top));
-    let mut i = next_link(&from, weights, base, floor, e, links);
+    let rest = heaviest(risk, n - 1, top);
+    let mut i = next_link(&from, weights, base, a.need, rest, e, links);
     while i < links {
         let q = pick(p, s, i);
         let marks = marks_of(table, q);
@@ -249,7 +272,7 @@ fn in_slot(
         if r.found {
             return r;
         }
-        i = next_link(&from, weights, base, floor, i + 1, links);
+        i = next_link(&from, weights, base, a.need, rest, i + 1, links);
     }
     nothing()
 }
@@ -258,8 +281,8 @@ fn in_slot(
 fn level(
     row: &[u16],
     table: &[u8],
-    weights: &[u8],
-    most: &[u8],
+    weights: &[u16],
+    most: &[u16],
     marks: &[u8],
     a: Asked,
     ps: [Position; 32],
@@ -267,7 +290,7 @@ fn level(
     n: usize,
 ) -> Found
     requires { ⌜ MaySeek (now row) (now table) (now weights) (now most) (now marks) a ps p n ⌝ }
-    ensures { λ r. ⌜ Sought (now (row .entry)) (a .least) p n r ⌝ }
+    ensures { λ r. ⌜ Sought (now (row .entry)) a p n r ⌝ }
 {
     if n == 0 {
         return play_out(row, table, marks, a, ps, p);
@@ -278,7 +301,7 @@ fn level(
     while s < a.timeout {
         let top = most[s] as usize;
         let risk = at_risk(qs, a.messages, marks);
-        if heaviest(risk, n, top) < a.need {
+        if hopeless(a.need, heaviest(risk, n, top)) {
             return nothing();
         }
         let r = in_slot(row, table, weights, most, a, qs, p, n, s, e, risk);
@@ -293,12 +316,12 @@ fn level(
     nothing()
 }
 
-// The first list of at most k pairs that fails, where those of fewer than `low` pairs are known not to.
+// The first list of at most k pairs that answers, where those of fewer than `low` pairs are known not to.
 pub fn first_list(
     row: &[u16],
     table: &[u8],
-    weights: &[u8],
-    most: &[u8],
+    weights: &[u16],
+    most: &[u16],
     a: Asked,
     ps: [Position; 32],
     low: usize,
@@ -307,14 +330,6 @@ pub fn first_list(
     requires { ⌜ MayHunt (now row) (now table) (now weights) (now most) a ps low k ⌝ }
     ensures { λ r. ⌜ Hunts (now (row .entry)) (a .least) k r ⌝ }
 {
-    if a.least == 0 {
-        return Hunted {
-            found: false,
-            pairs: 0,
-            arrivals: 0,
-            numbers: [0u16; 6],
-        };
-    }
     let p = no_pair();
     let marks = marks_of(table, p);
     let mut n = low;
@@ -331,10 +346,5 @@ pub fn first_list(
         }
         n += 1;
     }
-    Hunted {
-        found: false,
-        pairs: 0,
-        arrivals: 0,
-        numbers: [0u16; 6],
-    }
+    no_list()
 }

@@ -8,14 +8,14 @@ ghost use Rattle.touch.specs.Weights.{Weighs, Tops};
 ghost use Rattle.touch.specs.Marks.{MayMark, Marked, MayMarkAll, Marks};
 
 // The number at an index, 0 past the end.
-fn at(weights: &[u8], k: usize) -> u8
+fn at(weights: &[u16], k: usize) -> u16
     ensures { λ r. ⌜ r ≡ getD (now (weights .entry)) k 0 ⌝ }
 {
     if k < weights.len() { weights[k] } else { 0 }
 }
 
 // The weight of each slot and link: the entries of the table on that link from that slot on.
-pub fn weigh(table: &[u8], weights: &mut [u8])
+pub fn weigh(table: &[u8], weights: &mut [u16])
     requires { ⌜ (length (now table) ≡ 4096) × (length (now weights) ≡ 4096) ⌝ }
     ensures { λ _. ⌜ Weighs (now (table .entry)) (now (weights .exit)) ⌝ }
 {
@@ -32,11 +32,11 @@ pub fn weigh(table: &[u8], weights: &mut [u8])
 }
 
 // For each slot the most that a pair from there on weighs.
-pub fn tops(weights: &[u8], most: &mut [u8])
+pub fn tops(weights: &[u16], most: &mut [u16])
     requires { ⌜ (length (now weights) ≡ 4096) × (length (now most) ≡ 64) ⌝ }
     ensures { λ _. ⌜ Tops (now (weights .entry)) (now (most .exit)) ⌝ }
 {
-    let mut top = 0u8;
+    let mut top = 0u16;
     let mut k = 4096;
     while 0 < k {
         k -= 1;

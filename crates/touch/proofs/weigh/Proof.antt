@@ -30,6 +30,9 @@ at-requires c κs = search needs
 shared-slice-read-if1 : tie.Need-shared-slice-read-if1 Inv-loop μ-loop
 shared-slice-read-if1 c = search needs
 
+mul-weights : tie.Need-mul-weights Inv-loop μ-loop
+mul-weights c = search needs
+
 slice-write-weights : tie.Need-slice-write-weights Inv-loop μ-loop
 slice-write-weights c = search needs
 
@@ -41,6 +44,9 @@ loop-again c = weighing-zero _ _ _ (c .before .before .before .before .before .l
 
 add-weights : tie.Need-add-weights Inv-loop μ-loop
 add-weights c = omega (arith, weighing-small _ _ _ (c .before .before .before .before .before .loop .inv) (c .before .before .before .before .before .loop .k - 1 + 64) (omega arith), c .before .before .at .ensures)
+
+mul-weights-2 : tie.Need-mul-weights-2 Inv-loop μ-loop
+mul-weights-2 c = search needs
 
 slice-write-weights-2 : tie.Need-slice-write-weights-2 Inv-loop μ-loop
 slice-write-weights-2 c = search needs
@@ -68,10 +74,12 @@ weigh-spec =
     add-at
     at-requires
     shared-slice-read-if1
+    mul-weights
     slice-write-weights
     loop-less
     loop-again
     add-weights
+    mul-weights-2
     slice-write-weights-2
     loop-less-2
     loop-again-2

@@ -10,9 +10,9 @@ use borrow.Author.Tests.{ltb-true, ltb-false, lt-ltb, eq-eqb, ne-eqb, eqb-true, 
 use Rattle.scope.specs.Plan.{Plan}
 use Rattle.scope.specs.Cuts.{pairs, cutSlot, cutLink, pairBefore, falls, badPair, isCutList}
 use Rattle.scope.proofs.Cuts.{slot-below, link-below, rising, once, even}
-use Rattle.hunt.specs.Search.{code, codeAt}
-use Rattle.touch.proofs.Some.{none, none-below}
-use Rattle.touch.proofs.Parts.{slot-left, link-left, slot-right, link-right}
+use Rattle.order.specs.Search.{code, codeAt}
+use Rattle.order.proofs.Some.{none, none-below}
+use Rattle.order.proofs.Parts.{slot-left, link-left, slot-right, link-right}
 
 -- pairs rise as their codes do
 pub code-before : (a b c d : ℕ) → b < 64 → d < 64 → pairBefore a b c d ≡ true → code a b < code c d

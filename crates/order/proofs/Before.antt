@@ -7,7 +7,7 @@ use mathlib.Core.List.{List, [], _∷_, _++_}
 use lib.Dec.{ltb, eqb}
 use borrow.Author.Tests.{le-ltb, eq-eqb, ne-eqb, eqb-true}
 use Rattle.scope.specs.Verdict.{earlier}
-use Rattle.hunt.specs.Search.{code}
+use Rattle.order.specs.Search.{code}
 
 pub earlier-under : (pre x y : List ℕ) → earlier (pre ++ x) (pre ++ y) ≡ earlier x y
 unfolding earlier
