@@ -11,7 +11,7 @@ use borrow.Author.Tests.{ltb-true, lt-ltb, eq-eqb, ne-eqb}
 use Rattle.scope.specs.Plan.{planOf, placesAt}
 use Rattle.scope.specs.Slot as S
 use Rattle.scope.specs.Cuts.{pairs, cutSlot, cutLink, isCut}
-use Rattle.scope.specs.Cycle.{byNumber, tableOf, start, positions}
+use Rattle.scope.specs.Cycle.{orderOf, tableOf, start, positions}
 use Rattle.scope.proofs.Cuts.{slot-below, link-below}
 use Rattle.laws.specs.Message as L
 use Rattle.step.specs.declared.Position.{Position}
@@ -78,7 +78,7 @@ module _ (row table : List ℕ) (a : Asked) (p : Picked) (y : Playable row table
       ))
 
   stands-at : (m : ℕ) → m < a .messages →
-      L.positionOf m (positions byNumber (isCut (cutsOf p)) (tableOf (planOf row)) 0 s (start (planOf row))) ≡ positionOf row (getD ps m home)
+      L.positionOf m (positions (orderOf (planOf row)) (isCut (planOf row) (cutsOf p)) (tableOf (planOf row)) 0 s (start (planOf row))) ≡ positionOf row (getD ps m home)
   unfolding placesAt
   stands-at m l =
       ap (λ (qs : List S.Position). L.positionOf m qs) (sym (stand .is)) ∙ List·getD-map (positionOf row) (take (a .messages) ps) m home ∙

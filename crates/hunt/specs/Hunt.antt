@@ -85,7 +85,7 @@ pub record Holding (row : List ℕ) (a : Asked) (p : Picked) : Type 0 where
 
 -- the messages stand where they do at time s under a cut list
 abbrev pub StandAt : List ℕ → ℕ → List ℕ → ℕ → List Position → Type 0
-StandAt row n cuts s ps = Become row n (positions byNumber (isCut cuts) (tableOf (planOf row)) 0 s (start (planOf row))) ps
+StandAt row n cuts s ps = Become row n (positions (orderOf (planOf row)) (isCut (planOf row) cuts) (tableOf (planOf row)) 0 s (start (planOf row))) ps
 
 -- a list may be played to the end, and one slot on
 pub record MayPlayOut (row table marks : List ℕ) (a : Asked) (ps : List Position) (p : Picked) : Type 0 where
