@@ -56,7 +56,7 @@ module _ (plan : Plan) (pre x : List ℕ) (d n s : ℕ) (g : rules plan ≡ give
       omega (arith, a, b, ap (harm weight pre) k) in
       untouched-arrives (orderOf plan) (isCut plan (pre ++ x)) (tableOf plan) (plan .timeout) m (pathOf plan m) (start plan)
       (List·getD-map onFirst (plan .messages) m []) (good-rises plan g m)
-      (unharmed (tableOf plan) (plan .timeout) m 0 (pre ++ x) (pathOf plan m) (good-rises plan g m) (table-gives plan g m) none)
+      (unharmed plan m 0 (pre ++ x) (pathOf plan m) (good-rises plan g m) (table-gives plan g m) none)
 
   pub each-counts : 1 ≤ oneIf (atTarget (stands plan (pre ++ x) (plan .timeout) m)) +
       (oneIf (isTouched plan pre m && not (atTarget (stands plan pre s m))) + harm (hers plan m) x n)
@@ -82,7 +82,7 @@ loses-no-more-from plan pre x d n s g early long rest later =
     let risk : ℕ → ℕ = λ m. oneIf (isTouched plan pre m && not (atTarget (stands plan pre s m))) in
     let more : ℕ → ℕ = λ m. harm (hers plan m) x n in
     let size : length qs ≡ length (plan .messages) =
-    lengths-kept .ofPositions byNumber (isCut (pre ++ x)) owner 0 (plan .timeout) (start plan) ∙ length-map (plan .messages) onFirst in
+    lengths-kept .ofPositions (orderOf plan) (isCut plan (pre ++ x)) owner 0 (plan .timeout) (start plan) ∙ length-map (plan .messages) onFirst in
     let each = sum-le (λ m. 1) (λ m. there m + (risk m + more m)) (length qs) (λ m l. each-counts plan pre x d n s g early long rest later m) in
     omega (
       arith,
