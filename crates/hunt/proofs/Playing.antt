@@ -9,8 +9,8 @@ use lib.Dec.{ltb, leb}
 use borrow.Author.Tests.{ltb-true, ltb-false, lt-leb, eqb-true}
 use Rattle.scope.specs.Plan.{planOf}
 use Rattle.scope.specs.Slot.{Position}
-use Rattle.scope.specs.Cuts.{isCut}
-use Rattle.scope.specs.Cycle.{byNumber, tableOf, start, slot, nexts, positions, arrived, arrivals}
+use Rattle.scope.specs.Cuts.{cutLink, isCut}
+use Rattle.scope.specs.Cycle.{orderOf, tableOf, start, slot, nexts, positions, arrived, arrivals}
 use Rattle.scope.proofs.Cuts.{link-below}
 use Rattle.laws.proofs.Cuts.{not-cut}
 use Rattle.cuts.specs.From.{never, downOf}
@@ -51,7 +51,7 @@ module _ (row table : List ℕ) (a : Asked) (p : Picked) (y : Playable row table
 
   -- one slot on
   pub advanced : (s : ℕ) (ps qs : List P.Position) → s < a .timeout → StandAt row (a .messages) (cutsOf p) s ps →
-      Become row (a .messages) (nexts (slot byNumber (downOf (p .from)) (ownerOf table) s (positionsOf row (a .messages) ps))) qs →
+      Become row (a .messages) (nexts (slot (orderOf (planOf row)) (downOf (p .from)) (ownerOf table) s (positionsOf row (a .messages) ps))) qs →
       StandAt row (a .messages) (cutsOf p) (s + 1) qs
   unfolding positions
   advanced s ps qs l stand b =

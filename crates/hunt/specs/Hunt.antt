@@ -8,7 +8,7 @@ use lib.Dec.{ltb, eqb}
 use Rattle.scope.specs.Plan.{planOf}
 use Rattle.scope.specs.Cuts.{isCut}
 use Rattle.scope.specs.Verdict.{FirstFailing}
-use Rattle.scope.specs.Cycle.{byNumber, tableOf, start, positions, arrivals}
+use Rattle.scope.specs.Cycle.{orderOf, tableOf, start, positions, arrivals}
 use Rattle.cuts.specs.From as From
 use Rattle.step.specs.declared.Position.{Position}
 use Rattle.cycle.specs.Stand.{Become}
