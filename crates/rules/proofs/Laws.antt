@@ -17,7 +17,8 @@ use Rattle.view.specs.View.{Is}
 use Rattle.view.specs.Lies.{MessageLies, PlanLies}
 use Rattle.view.proofs.Index.{messages-suc}
 use Rattle.view.proofs.Parts.{path-at, places-length, places-at}
-use Rattle.table.specs.Table.{Table, entryAt, ownerBelow}
+use Rattle.table.specs.Table.{Table, indexOf, entryAt, ownerBelow}
+use Rattle.table.proofs.Entries.{entry-in}
 use Rattle.broken.specs.Broken.{inTable}
 use Rattle.broken.proofs.Seek.{Seeking, seeking-first, seeking-next}
 
@@ -51,7 +52,7 @@ pub no-entries : (n : ℕ) → n ≡ 4096 → Table (λ i e. 0) (replicate n 0)
 no-entries n h =
     record {
       long = length-replicate n 0 ∙ h;
-      is = λ i e hi he. getD-replicate n (i * 64 + e) 0 0 (omega arith);
+      is = λ i e hi he. entry-in (replicate n 0) i e hi he ∙ getD-replicate n (indexOf i e) 0 0 (omega arith);
     }
 
 -- the table of the lower messages has an entry for a place exactly if a lower message holds its link and slot
