@@ -8,6 +8,7 @@ use mathlib.Core.List.{List, [], _∷_, _++_, append-assoc, append-nil}
 use lib.ListN.{length, length-append}
 use lib.Dec.{ltb}
 use borrow.Author.Tests.{ltb-true, ltb-false}
+use Rattle.scope.specs.Limits.{mostLinks}
 use Rattle.scope.specs.Plan.{Plan}
 use Rattle.scope.specs.Cuts.{cutSlot, cutLink, isCutList}
 use Rattle.scope.specs.Verdict.{earlier}
@@ -18,7 +19,7 @@ use Rattle.order.proofs.Pairs.{Next, next-pair, one-more}
 use Rattle.order.proofs.Before.{earlier-under, not-earlier}
 
 -- pairs of the same code are the same
-pub same-pair : (a b c d : ℕ) → b < 64 → d < 64 → code a b ≡ code c d → (a ≡ c) × (b ≡ d)
+pub same-pair : (a b c d : ℕ) → b < mostLinks → d < mostLinks → code a b ≡ code c d → (a ≡ c) × (b ≡ d)
 same-pair a b c d hb hd h = (omega arith, omega arith)
 
 -- what holds if one number is below another, and if it is not
@@ -30,7 +31,7 @@ split {P} a b lower other = by (ltb a b) refl
     by false e = other (ltb-false a b e)
 
 -- a list with one pair more, at the place where the next one is to be chosen
-pub picked : (plan : Plan) → length (plan .links) ≤ 64 → (pre : List ℕ) (d lo s e : ℕ) → Chosen plan pre d lo → lo ≤ code s e → s < plan .timeout →
+pub picked : (plan : Plan) → length (plan .links) ≤ mostLinks → (pre : List ℕ) (d lo s e : ℕ) → Chosen plan pre d lo → lo ≤ code s e → s < plan .timeout →
     e < length (plan .links) → ((j : ℕ) → j < d → cutLink pre j ≡ e → ⊥) → Chosen plan (pre ++ s ∷ e ∷ []) (d + 1) (code s (e + 1))
 picked plan small pre d lo s e c h hs he new =
     let y : List ℕ = s ∷ e ∷ [] in
@@ -59,7 +60,7 @@ module _ (plan : Plan) (Answers : List ℕ → Type 0) (pre : List ℕ) where
       first [] long e g it = absurd (true≢false (sym (rw (append-nil pre) at e) ∙ earlier-self pre))
       first (a ∷ x) long e g it = absurd (omega arith)
 
-module _ (plan : Plan) (Answers : List ℕ → Type 0) (small : length (plan .links) ≤ 64) (pre : List ℕ) (d start : ℕ) (chosen : Chosen plan pre d start)
+module _ (plan : Plan) (Answers : List ℕ → Type 0) (small : length (plan .links) ≤ mostLinks) (pre : List ℕ) (d start : ℕ) (chosen : Chosen plan pre d start)
     (k : ℕ) where
   pub after : (a b : ℕ) (x : List ℕ) → isCutList plan (pre ++ a ∷ b ∷ x) ≡ true → Next plan pre d a b
   after = next-pair plan small pre d (chosen .long)
@@ -73,7 +74,7 @@ module _ (plan : Plan) (Answers : List ℕ → Type 0) (small : length (plan .li
       by (suc j) e = omega (arith, chosen .next j (omega arith), after a b x good .rises j (omega arith))
 
   -- links passed over in a slot, none of which leads to a list that answers
-  pub passed : (lo s e f : ℕ) → f ≤ 64 → NoneIn plan Answers pre k lo (code s e) →
+  pub passed : (lo s e f : ℕ) → f ≤ mostLinks → NoneIn plan Answers pre k lo (code s e) →
       ((b : ℕ) → e ≤ b → b < f → (x : List ℕ) → length x ≡ 2 * k → Not plan Answers (pre ++ s ∷ b ∷ x)) → NoneIn plan Answers pre k lo (code s f)
   passed lo s e f h before here a b x long low high good =
       let n = after a b x good in
@@ -92,7 +93,7 @@ module _ (plan : Plan) (Answers : List ℕ → Type 0) (small : length (plan .li
       let same : (pre ++ s ∷ e ∷ []) ++ x ≡ pre ++ s ∷ e ∷ x = append-assoc pre (s ∷ e ∷ []) x in
       subst (Not plan Answers) same (all x long)
 
-  pub first-here : (lo s e : ℕ) (r : List ℕ) → e < 64 → lo ≤ code s e → NoneIn plan Answers pre k lo (code s e) →
+  pub first-here : (lo s e : ℕ) (r : List ℕ) → e < mostLinks → lo ≤ code s e → NoneIn plan Answers pre k lo (code s e) →
       FirstOf plan Answers (pre ++ s ∷ e ∷ []) k r → FirstFrom plan Answers pre k lo r
   first-here lo s e r he h before f =
       let same : (x : List ℕ) → (pre ++ s ∷ e ∷ []) ++ x ≡ pre ++ s ∷ e ∷ x = λ x. append-assoc pre (s ∷ e ∷ []) x in

@@ -5,12 +5,13 @@ use mathlib.Core.Path.{_≡_}
 use mathlib.Core.Bool.{true}
 use mathlib.Core.List.{List, _∷_, _++_}
 use lib.ListN.{length}
+use Rattle.scope.specs.Limits.{mostLinks}
 use Rattle.scope.specs.Plan.{Plan}
 use Rattle.scope.specs.Cuts.{cutSlot, cutLink, isCutList}
 use Rattle.scope.specs.Verdict.{earlier}
 
 abbrev pub code : ℕ → ℕ → ℕ
-code s e = s * 64 + e
+code s e = s * mostLinks + e
 
 abbrev pub codeAt : List ℕ → ℕ → ℕ
 codeAt cuts j = code (cutSlot cuts j) (cutLink cuts j)

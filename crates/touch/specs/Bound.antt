@@ -6,14 +6,15 @@ use mathlib.Core.Bool.{true}
 use mathlib.Core.List.{List, _++_}
 use lib.ListN.{length, getD}
 use Rattle.scope.specs.Plan.{Plan}
+use Rattle.table.specs.Table.{indexOf}
 use Rattle.scope.specs.Cuts.{isCutList}
 use Rattle.scope.specs.Cycle.{arrivals}
 use Rattle.touch.specs.Touch.{harm}
 use Rattle.touch.specs.Harmed.{harmed, NotBefore}
 
--- the weight of a pair, from a table of 64 slots and 64 links
+-- the weight of a pair, from a list of all slots and links
 abbrev pub weightIn : List ℕ → ℕ → ℕ → ℕ
-weightIn weights s e = getD weights (s * 64 + e) 0
+weightIn weights s e = getD weights (indexOf s e) 0
 
 -- a list that answers: what its first part harms at time s and its later pairs weigh is at least `need`
 pub record Bound (plan : Plan) (Answers : List ℕ → Type 0) (need : ℕ) (weights most : List ℕ) : Type 0 where
