@@ -7,12 +7,12 @@ use mathlib.Core.List.{List, []}
 use lib.ListN.{length, take, getD-replicate}
 use lib.Dec.{ltb}
 use borrow.Author.Tests.{ltb-true, ltb-false, lt-leb}
+use Rattle.scope.specs.Limits.{mostLinks, mostCuts}
 use Rattle.scope.specs.Plan.{Plan, planOf}
 use Rattle.scope.specs.Cuts.{pairs, isCut}
 use Rattle.scope.specs.Cycle.{arrivals}
 use Rattle.laws.proofs.Cuts.{no-cuts}
-use Rattle.cuts.specs.From.{never, downOf}
-use Rattle.step.specs.declared.Position as P
+use Rattle.step.specs.declared.Standing.{Standing}
 use Rattle.touch.specs.Marks.{Marks}
 use Rattle.hunt.specs.declared.Asked.{Asked}
 use Rattle.hunt.specs.declared.Picked.{Picked}
@@ -26,8 +26,8 @@ use Rattle.order.proofs.Pairs.{is-cut-list}
 use Rattle.hunt.proofs.Answer.{first-failing}
 use Rattle.hunt.proofs.Risk.{noughts, may-mark-picked}
 
-holding-none : (row table weights most : List ℕ) (a : Asked) → Holding row a noPair
-holding-none row table weights most a =
+holding-none : (row : List ℕ) (a : Asked) → Holding row a noPair
+holding-none row a =
     record {
       long = refl;
       slot = omega arith;
@@ -39,13 +39,10 @@ holding-none row table weights most a =
             none = λ e. refl;
             next = λ j e. absurd (omega arith);
           };
-      tells = record { long = refl; is = by };
-      first = λ e h. rw (getD-replicate {A = ℕ} 64 e 65535 0 h) (omega arith);
-      past = λ i h. noughts 6 i;
+      size = refl;
+      down = λ i e h. ap (ltb 0) (noughts mostLinks e) ∙ sym (ap (λ (f : ℕ → ℕ → Bool). f i e) (no-cuts (planOf row)));
+      past = λ i h. noughts (2 * mostCuts) i;
     }
-  where
-    by : (plan : Plan) (i e : ℕ) → i < never → e < 64 → downOf (noPair .from) i e ≡ isCut plan [] i e
-    by plan i e h g = rw (getD-replicate {A = ℕ} 64 e 65535 65535 g, lt-leb 65535 i h, no-cuts plan)
 
 -- nothing is found
 pub hunts-none : (row : List ℕ) (l k : ℕ) (h : Hunted) → h ≡ noHunted → ((i : ℕ) → i < k + 1 → NoneOf (planOf row) (Fails (planOf row) l) [] i) →
@@ -68,19 +65,19 @@ pub record Hunting (row : List ℕ) (a : Asked) (low k n : ℕ) : Type 0 where
   pub within : n ≤ k + 1
   pub leave : (i : ℕ) → i < n → NoneOf (planOf row) (Seeks row a) [] i
 
-module _ (row table weights most : List ℕ) (a : Asked) (ps : List P.Position) (low k : ℕ) (m : MayHunt row table weights most a ps low k) where
+module _ (row table weights most : List ℕ) (a : Asked) (ps : Standing) (low k : ℕ) (m : MayHunt row table weights most a ps low k) where
   pub hunt-first : Hunting row a low k low
   hunt-first = record { within = m .within; leave = m .before }
 
-  pub may-mark-none : (p : Picked) → p ≡ noPair → MayMarkPicked table p
+  pub may-mark-none : (p : Picked) → p ≡ noPair → MayMarkPicked p
   may-mark-none p is =
-      rw is (may-mark-picked row table a noPair (m .ready .play) (holding-none row table weights most a) (omega arith))
+      rw is (may-mark-picked row table a noPair (m .ready .play) (holding-none row a) (omega arith))
 
   pub may-seek : (n : ℕ) (p : Picked) (marks : List ℕ) → n ≤ k → p ≡ noPair → Marks table (cutsOf p) marks → MaySeek row table weights most marks a ps p n
   may-seek n p marks h is marked =
       record {
         ready = m .ready;
-        holding = rw is (holding-none row table weights most a);
+        holding = rw is (holding-none row a);
         marked = marked;
         stand = rw is (m .stand);
         few = rw is (omega (arith, m .few));

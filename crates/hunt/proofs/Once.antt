@@ -6,6 +6,7 @@ use mathlib.Core.Bool.{Bool, true, false}
 use mathlib.Core.List.{List}
 use lib.ListN.{length, getD, take}
 use lib.Seq.{length-take-le, getD-take, ext-getD}
+use Rattle.scope.specs.Limits.{mostCuts}
 use Rattle.scope.specs.Plan.{planOf}
 use Rattle.scope.specs.Cycle.{arrivals}
 use Rattle.scope.proofs.Order.{first-once, resistant-or-failing}
@@ -17,7 +18,7 @@ use Rattle.hunt.proofs.Answer.{all-leave}
 abbrev list : Hunted → List ℕ
 list r = take (2 * r .pairs) (r .numbers)
 
-module _ (row : List ℕ) (l k : ℕ) (few : k ≤ 3) where
+module _ (row : List ℕ) (l k : ℕ) (few : k ≤ mostCuts) where
   list-long : (r : Hunted) → Hunts row l k r → length (list r) ≡ 2 * r .pairs
   list-long r h = length-take-le (2 * r .pairs) (r .numbers) (omega (arith, h .long, h .few))
 

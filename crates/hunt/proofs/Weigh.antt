@@ -6,6 +6,7 @@ use mathlib.Core.Path.{_≡_}
 use mathlib.Core.Bool.{true}
 use mathlib.Core.List.{List, _∷_, _++_}
 use lib.ListN.{length, getD}
+use Rattle.scope.specs.Limits.{mostLinks}
 use Rattle.scope.specs.Plan.{Plan}
 use Rattle.scope.specs.Cuts.{pairs, cutSlot, cutLink, isCutList}
 use Rattle.scope.proofs.Cuts.{slot-below, link-below}
@@ -19,7 +20,7 @@ use Rattle.order.proofs.Pairs.{slots-from}
 use Rattle.order.proofs.Steps.{after, no-more}
 
 module _ (plan : Plan) (Answers : List ℕ → Type 0) (need : ℕ) (weights most : List ℕ) (bound : Bound plan Answers need weights most)
-    (links : length (plan .links) ≤ 64) where
+    (links : length (plan .links) ≤ mostLinks) where
   -- pairs that are not in a slot before s
   module _ (pre x : List ℕ) (d n s : ℕ) (long : length pre ≡ 2 * d) (rest : length x ≡ 2 * n) (good : isCutList plan (pre ++ x) ≡ true) where
     not-before : s ≤ cutSlot x 0 → NotBefore s x n
@@ -80,7 +81,7 @@ module _ (plan : Plan) (Answers : List ℕ → Type 0) (need : ℕ) (weights mos
     too-light s b light x long good it = omega (arith, light, then-later pre d k s b x (chosen .long) long good it)
 
     -- all pairs from a slot on are
-    pub too-light-now : (s e : ℕ) → e ≤ 64 → harmed plan pre s + (1 + k) * getD most s 0 < need → NoneIn plan Answers pre k 0 (code s e) →
+    pub too-light-now : (s e : ℕ) → e ≤ mostLinks → harmed plan pre s + (1 + k) * getD most s 0 < need → NoneIn plan Answers pre k 0 (code s e) →
         NoneOf plan Answers pre (1 + k)
     too-light-now s e h light before =
         no-more plan Answers links pre d start chosen k s e before

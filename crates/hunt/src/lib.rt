@@ -2,16 +2,20 @@
 // pair on, and lists that a bound shows not to answer are passed over. What is asked of a list only `answers` knows, and `hopeless` that
 // no list from here can answer. Of the bound it knows only specs/Bound of `touch`. It leans on `cycle` for a slot, on `order` for the
 // steps from pair to pair and on the theorems of `laws`.
+use scope::limits::CUT_NUMBERS;
+use scope::limits::LINKS;
+use scope::limits::MESSAGES;
 use step::Position;
-use step::Slot;
+use step::Standing;
 ghost use Prim.Native.Nat.{ℕ, _+_, _-_, _*_, _<_, _≤_};
 ghost use mathlib.Core.Path.{_≡_};
 ghost use lib.ListN.{length};
 ghost use lib.Dec.{ltb};
+ghost use Rattle.scope.specs.Limits.{mostCuts, mostSlots, mostLinks, mostMessages};
 ghost use Rattle.scope.specs.Lowest.{seek};
 ghost use Rattle.hunt.specs.Hunt.{cutsOf, withPair, noPair, passes, noFound, noHunted, StandAt};
 ghost use Rattle.hunt.specs.Hunt.{MayPlayOut, MayAdvance, MaySeek, MaySeekIn, Sought, SoughtIn, MayHunt, Hunts};
-ghost use Rattle.touch.specs.Marks.{Marks};
+ghost use Rattle.touch.specs.Marks.{mostEntries, Marks};
 ghost use Rattle.hunt.specs.Risk.{riskIf, atRisk, MayMarkPicked};
 
 // What is asked of a plan: its timeout, links and messages, the least number of arrivals, and what a list must weigh to leave fewer.
@@ -23,21 +27,21 @@ pub struct Asked {
     pub need: usize,
 }
 
-// The pairs picked so far: how many, the place from which the next one is to be picked, their numbers, and the first slot in which
-// each link is cut.
+// The pairs picked so far: how many, the place from which the next one is to be picked, their numbers, and what is down from the last
+// one's slot on.
 pub struct Picked {
     pub count: usize,
     pub slot: usize,
     pub link: usize,
-    pub numbers: [u16; 6],
-    pub from: [u16; 64],
+    pub numbers: [u16; CUT_NUMBERS],
+    pub down: [u8; LINKS],
 }
 
 // A list that answers, with its arrivals; or none.
 pub struct Found {
     pub found: bool,
     pub arrivals: usize,
-    pub numbers: [u16; 6],
+    pub numbers: [u16; CUT_NUMBERS],
 }
 
 // The first list that answers, with its pairs and arrivals; or none.
@@ -45,7 +49,7 @@ pub struct Hunted {
     pub found: bool,
     pub pairs: usize,
     pub arrivals: usize,
-    pub numbers: [u16; 6],
+    pub numbers: [u16; CUT_NUMBERS],
 }
 
 fn nothing() -> Found
@@ -54,7 +58,7 @@ fn nothing() -> Found
     Found {
         found: false,
         arrivals: 0,
-        numbers: [0u16; 6],
+        numbers: [0u16; CUT_NUMBERS],
     }
 }
 
@@ -65,7 +69,7 @@ pub fn no_list() -> Hunted
         found: false,
         pairs: 0,
         arrivals: 0,
-        numbers: [0u16; 6],
+        numbers: [0u16; CUT_NUMBERS],
     }
 }
 
@@ -76,14 +80,14 @@ fn no_pair() -> Picked
         count: 0,
         slot: 0,
         link: 0,
-        numbers: [0u16; 6],
-        from: [65535u16; 64],
+        numbers: [0u16; CUT_NUMBERS],
+        down: [0u8; LINKS],
     }
 }
 
 // One pair more.
 fn pick(p: Picked, s: usize, e: usize) -> Picked
-    requires { ⌜ (p .count < 3) × (s < 64) × (e < 64) ⌝ }
+    requires { ⌜ (p .count < mostCuts) × (s < mostSlots) × (e < mostLinks) ⌝ }
     ensures { λ r. ⌜ r ≡ withPair p s e ⌝ }
 {
     let at = 2 * p.count;
@@ -93,7 +97,7 @@ fn pick(p: Picked, s: usize, e: usize) -> Picked
     q.link = e + 1;
     q.numbers[at] = s as u16;
     q.numbers[at + 1] = e as u16;
-    q.from[e] = s as u16;
+    q.down[e] = 1;
     q
 }
 
@@ -113,18 +117,18 @@ fn hopeless(need: usize, loss: usize) -> bool
 
 // How many messages can be lost where so many are at risk and n pairs more are to come.
 fn heaviest(risk: usize, n: usize, top: usize) -> usize
-    requires { ⌜ (risk ≤ 65536) × (n ≤ 3) × (top < 65536) ⌝ }
+    requires { ⌜ (risk ≤ 65536) × (n ≤ mostCuts) × (top < 65536) ⌝ }
     ensures { λ r. ⌜ (r ≡ risk + n * top) × (r ≤ 262144) ⌝ }
 {
     risk + n * top
 }
 
 // A link is not cut already, and a list that goes on with it can answer.
-fn may(from: &[u16], weights: &[u16], base: usize, need: usize, rest: usize, e: usize) -> bool
-    requires { ⌜ (e < length (now from)) × (base + e < length (now weights)) × (rest ≤ 262144) ⌝ }
-    ensures { λ r. ⌜ r ≡ passes (now (from .entry)) (now (weights .entry)) base need rest e ⌝ }
+fn may(down: &[u8], weights: &[u16], base: usize, need: usize, rest: usize, e: usize) -> bool
+    requires { ⌜ (base + e < length (now weights)) × (rest ≤ 262144) ⌝ }
+    ensures { λ r. ⌜ r ≡ passes (now (down .entry)) (now (weights .entry)) base need rest e ⌝ }
 {
-    if from[e] != 65535 {
+    if cuts::is_down(down, e) {
         return false;
     }
     let loss = rest + weights[base + e] as usize;
@@ -133,7 +137,7 @@ fn may(from: &[u16], weights: &[u16], base: usize, need: usize, rest: usize, e: 
 
 // The first link from e on that may be tried, or how many links there are.
 fn next_link(
-    from: &[u16],
+    down: &[u8],
     weights: &[u16],
     base: usize,
     need: usize,
@@ -141,12 +145,12 @@ fn next_link(
     e: usize,
     links: usize,
 ) -> usize
-    requires { ⌜ (e ≤ links) × (links ≤ length (now from)) × (base + links ≤ length (now weights)) × (rest ≤ 262144) ⌝ }
-    ensures { λ r. ⌜ r ≡ seek (passes (now (from .entry)) (now (weights .entry)) base need rest) (links - e) e ⌝ }
+    requires { ⌜ (e ≤ links) × (base + links ≤ length (now weights)) × (rest ≤ 262144) ⌝ }
+    ensures { λ r. ⌜ r ≡ seek (passes (now (down .entry)) (now (weights .entry)) base need rest) (links - e) e ⌝ }
 {
     let mut i = e;
     while i < links {
-        if may(from, weights, base, need, rest, i) {
+        if may(down, weights, base, need, rest, i) {
             return i;
         }
         i += 1;
@@ -164,9 +168,9 @@ fn risk_one(p: Position, mark: u8) -> usize
     if mark == 0 { 0 } else { 1 }
 }
 
-// How many of the first n messages are marked and not at their targets.
-fn at_risk(ps: [Position; 32], n: usize, marks: &[u8]) -> usize
-    requires { ⌜ (n ≤ 32) × (length (now marks) ≡ 256) ⌝ }
+// How many of the first n records are marked and not at their targets.
+fn count_risks(ps: [Position; MESSAGES], n: usize, marks: &[u8]) -> usize
+    requires { ⌜ (n ≤ mostMessages) × (length (now marks) ≡ mostEntries) ⌝ }
     ensures { λ r. ⌜ (r ≡ atRisk (now (marks .entry)) ps n) × (r ≤ n) ⌝ }
 {
     let mut count = 0;
@@ -179,9 +183,18 @@ fn at_risk(ps: [Position; 32], n: usize, marks: &[u8]) -> usize
     count
 }
 
+// How many of the first n messages are marked and not at their targets.
+fn at_risk(standing: Standing, n: usize, marks: &[u8]) -> usize
+    requires { ⌜ (n ≤ mostMessages) × (length (now marks) ≡ mostEntries) ⌝ }
+    ensures { λ r. ⌜ (r ≡ atRisk (now (marks .entry)) (standing .positions) n) × (r ≤ n) ⌝ }
+{
+    let ps = standing.positions();
+    count_risks(ps, n, marks)
+}
+
 // The marks of the pairs picked.
 fn marks_of(table: &[u8], p: Picked) -> [u8; 256]
-    requires { ⌜ MayMarkPicked (now table) p ⌝ }
+    requires { ⌜ MayMarkPicked p ⌝ }
     ensures { λ r. ⌜ Marks (now (table .entry)) (cutsOf p) r ⌝ }
 {
     let numbers = p.numbers;
@@ -190,20 +203,15 @@ fn marks_of(table: &[u8], p: Picked) -> [u8; 256]
     marks
 }
 
-// The positions one slot on, under the list picked.
-fn advance(
-    row: &[u16],
-    table: &[u8],
-    a: Asked,
-    ps: [Position; 32],
-    p: Picked,
-    s: usize,
-) -> [Position; 32]
-    requires { ⌜ MayAdvance (now row) (now table) a ps p s ⌝ }
-    ensures { λ r. ⌜ StandAt (now (row .entry)) (a .messages) (cutsOf p) (s + 1) r ⌝ }
+// Where the messages stand one slot on, under the list picked.
+fn advance(row: &[u16], table: &[u8], a: Asked, standing: Standing, p: Picked) -> Standing
+    requires { ⌜ MayAdvance (now row) (now table) a standing p ⌝ }
+    ensures { λ r. ⌜ StandAt (now (row .entry)) (a .messages) (cutsOf p) (standing .time .0 + 1) r ⌝ }
 {
-    let from = p.from;
-    cycle::after_slot(ps, a.messages, row, table, &from, Slot(s))
+    let down = p.down;
+    let time = standing.time();
+    let i = time.begins(a.timeout);
+    standing.after(i, a.messages, row, table, &down)
 }
 
 // The list picked, played from its last pair on as long as enough messages can be lost.
@@ -212,7 +220,7 @@ fn play_out(
     table: &[u8],
     marks: &[u8],
     a: Asked,
-    ps: [Position; 32],
+    ps: Standing,
     p: Picked,
 ) -> Found
     requires { ⌜ MayPlayOut (now row) (now table) (now marks) a ps p ⌝ }
@@ -225,7 +233,7 @@ fn play_out(
         if hopeless(a.need, risk) {
             return nothing();
         }
-        let rs = advance(row, table, a, qs, p, i);
+        let rs = advance(row, table, a, qs, p);
         qs = rs;
         i += 1;
     }
@@ -249,7 +257,7 @@ fn in_slot(
     weights: &[u16],
     most: &[u16],
     a: Asked,
-    ps: [Position; 32],
+    ps: Standing,
     p: Picked,
     n: usize,
     s: usize,
@@ -259,12 +267,12 @@ fn in_slot(
     requires { ⌜ MaySeekIn (now row) (now table) (now weights) (now most) a ps p n s e risk ⌝ }
     ensures { λ r. ⌜ SoughtIn (now (row .entry)) a p n s e r ⌝ }
 {
-    let from = p.from;
+    let down = p.down;
     let links = a.links;
-    let base = s * 64;
+    let base = s * LINKS;
     let top = most[s] as usize;
     let rest = heaviest(risk, n - 1, top);
-    let mut i = next_link(&from, weights, base, a.need, rest, e, links);
+    let mut i = next_link(&down, weights, base, a.need, rest, e, links);
     while i < links {
         let q = pick(p, s, i);
         let marks = marks_of(table, q);
@@ -272,7 +280,7 @@ fn in_slot(
         if r.found {
             return r;
         }
-        i = next_link(&from, weights, base, a.need, rest, i + 1, links);
+        i = next_link(&down, weights, base, a.need, rest, i + 1, links);
     }
     nothing()
 }
@@ -285,7 +293,7 @@ fn level(
     most: &[u16],
     marks: &[u8],
     a: Asked,
-    ps: [Position; 32],
+    ps: Standing,
     p: Picked,
     n: usize,
 ) -> Found
@@ -308,7 +316,7 @@ fn level(
         if r.found {
             return r;
         }
-        let rs = advance(row, table, a, qs, p, s);
+        let rs = advance(row, table, a, qs, p);
         qs = rs;
         s += 1;
         e = 0;
@@ -323,7 +331,7 @@ pub fn first_list(
     weights: &[u16],
     most: &[u16],
     a: Asked,
-    ps: [Position; 32],
+    ps: Standing,
     low: usize,
     k: usize,
 ) -> Hunted

@@ -1,4 +1,4 @@
--- `hunt::next_link` meets its contract: what is still to look at gives what the whole gives.
+-- `hunt::next_link` meets its contract: no link before i may be tried.
 use Prim.Native.Nat.{_-_, _≤_}
 use mathlib.Core.Path.{_≡_, refl, sym, _∙_}
 use borrow.Author.Needs.{needs}
@@ -12,11 +12,11 @@ use Rattle.hunt.proofs.next_link.Lts as lts
 use Rattle.hunt.proofs.may.Reads as may-reads
 
 abbrev Inv-loop : tie.InvT-loop
-Inv-loop from weights base need rest e links i₀ i =
-    (i ≤ links) × (seek (passes from weights base need rest) (links - i) i ≡ seek (passes from weights base need rest) (links - e) e)
+Inv-loop down weights base need rest e links i₀ i =
+    (i ≤ links) × (seek (passes down weights base need rest) (links - i) i ≡ seek (passes down weights base need rest) (links - e) e)
 
 abbrev μ-loop : tie.MeasureT-loop
-μ-loop from weights base need rest e links i₀ i = links - i
+μ-loop down weights base need rest e links i₀ i = links - i
 
 loop-holds : tie.Need-loop-holds Inv-loop μ-loop
 loop-holds c = (c .before .before .pre .0, refl)

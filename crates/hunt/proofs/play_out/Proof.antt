@@ -1,4 +1,4 @@
--- `hunt::play_out` meets its contract: at each slot the messages stand where the list puts them.
+-- `hunt::play_out` meets its contract: the messages stand at time i.
 use Prim.Native.Nat.{_-_}
 use native.Mathlib.Omega.{arith}
 use mathlib.Core.Path.{refl}
@@ -10,10 +10,10 @@ use Rattle.hunt.proofs.play_out.Reads as reads
 use Rattle.hunt.proofs.play_out.Lts as lts
 use Rattle.cycle.proofs.count_home.Reads as count-home-reads
 use Rattle.hunt.proofs.advance.Reads as advance-reads
-use Rattle.hunt.proofs.at_risk.Reads as at-risk-reads
-use Rattle.hunt.proofs.nothing.Reads as nothing-reads
 use Rattle.hunt.proofs.answers.Reads as answers-reads
+use Rattle.hunt.proofs.at_risk.Reads as at-risk-reads
 use Rattle.hunt.proofs.hopeless.Reads as hopeless-reads
+use Rattle.hunt.proofs.nothing.Reads as nothing-reads
 
 abbrev Inv-loop : tie.InvT-loop
 Inv-loop row table marks a p qs₀ i₀ qs i = Ending row a p i qs
@@ -25,7 +25,8 @@ loop-holds : tie.Need-loop-holds Inv-loop μ-loop
 loop-holds c = ends-first _ _ _ _ _ _ (c .before .before .before .pre)
 
 at-risk-requires : tie.Need-at-risk-requires Inv-loop μ-loop
-at-risk-requires c κs = (c .before .before .loop .inv .stand .stand .few, c .before .before .before .before .before .before .pre .marked .long)
+at-risk-requires c κs =
+    (c .before .before .loop .inv .stand .next .stand .few, c .before .before .before .before .before .before .pre .marked .long)
 
 hopeless-requires : tie.Need-hopeless-requires Inv-loop μ-loop
 hopeless-requires c κs = search needs
@@ -58,7 +59,7 @@ loop-again c =
     (c .before .before .before .before .before .before .loop .inv) _ (c .before .before .before .before .if1 .taken) (c .advance .ensures)
 
 count-home-requires : tie.Need-count-home-requires Inv-loop μ-loop
-count-home-requires c κs = c .before .before .loop .inv .stand .stand .few
+count-home-requires c κs = c .before .before .loop .inv .stand .next .stand .few
 
 answers-requires : tie.Need-answers-requires Inv-loop μ-loop
 answers-requires c κs = search needs
