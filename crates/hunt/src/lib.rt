@@ -215,14 +215,7 @@ fn advance(row: &[u16], table: &[u8], a: Asked, standing: Standing, p: Picked) -
 }
 
 // The list picked, played from its last pair on as long as enough messages can be lost.
-fn play_out(
-    row: &[u16],
-    table: &[u8],
-    marks: &[u8],
-    a: Asked,
-    ps: Standing,
-    p: Picked,
-) -> Found
+fn play_out(row: &[u16], table: &[u8], marks: &[u8], a: Asked, ps: Standing, p: Picked) -> Found
     requires { ⌜ MayPlayOut (now row) (now table) (now marks) a ps p ⌝ }
     ensures { λ r. ⌜ Sought (now (row .entry)) a p 0 r ⌝ }
 {
