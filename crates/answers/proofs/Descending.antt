@@ -14,7 +14,7 @@ use Rattle.scope.specs.Plan.{Plan, planOf}
 use Rattle.scope.specs.Cuts.{pairs}
 use Rattle.scope.specs.Cycle.{arrivals}
 use Rattle.scope.specs.Verdict.{Resistant, FirstFailing}
-use Rattle.step.specs.declared.Position.{Position}
+use Rattle.step.specs.declared.Standing.{Standing}
 use Rattle.hunt.specs.declared.Asked.{Asked}
 use Rattle.hunt.specs.declared.Hunted.{Hunted}
 use Rattle.hunt.specs.Hunt.{Hunts}
@@ -50,7 +50,7 @@ pub record Descending (row : List ℕ) (a : Asked) (k : ℕ) (entry : List ℕ) 
   pub each : (m : ℕ) → l < m → m ≤ length (planOf row .messages) → Says (planOf row) k m (seven m out)
   pub rest : drop (needed (planOf row)) out ≡ drop (needed (planOf row)) entry
 
-module _ (row table weights most : List ℕ) (ps : List Position) (a : Asked) (k : ℕ) (entry : List ℕ) (f : MayFill row table weights most ps a k (length entry)) where
+module _ (row table weights most : List ℕ) (ps : Standing) (a : Asked) (k : ℕ) (entry : List ℕ) (f : MayFill row table weights most ps a k (length entry)) where
   -- any l may be asked
   asking : (l low : ℕ) → l ≤ a .messages → low ≤ k + 1 → ((i : ℕ) → i < low → NoneOf (planOf row) (Fails (planOf row) l) [] i) →
       MayAskOn row table weights most ps a l low k

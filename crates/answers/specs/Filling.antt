@@ -4,7 +4,7 @@ use mathlib.Core.Path.{_≡_}
 use mathlib.Core.List.{List, _∷_}
 use lib.ListN.{length, drop}
 use Rattle.scope.specs.Plan.{planOf}
-use Rattle.step.specs.declared.Position.{Position}
+use Rattle.step.specs.declared.Standing.{Standing}
 use Rattle.hunt.specs.declared.Asked.{Asked}
 use Rattle.hunt.specs.declared.Hunted.{Hunted}
 use Rattle.plan.specs.Answers.{GoodRow}
@@ -17,7 +17,7 @@ pub record Filled (from to head : ℕ) (numbers entry exit : List ℕ) : Type 0 
   pub above : (l : ℕ) → to ≤ l → drop (7 * l) exit ≡ drop (7 * l) entry
 
 -- the search may be asked for every l, and there is room for the answers
-pub record MayFill (row table weights most : List ℕ) (ps : List Position) (a : Asked) (k room : ℕ) : Type 0 where
+pub record MayFill (row table weights most : List ℕ) (ps : Standing) (a : Asked) (k room : ℕ) : Type 0 where
   pub ask : MayAskOn row table weights most ps a 0 0 k
   pub enough : needed (planOf row) ≤ room
 

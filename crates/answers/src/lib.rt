@@ -4,8 +4,11 @@
 use hunt::Asked;
 use hunt::Hunted;
 use scope::Answer;
-use scope::Refusal;
-use step::Position;
+use scope::limits::CUT_NUMBERS;
+use scope::limits::SLOTS;
+use scope::limits::TABLE;
+use scope::refuse;
+use step::Standing;
 ghost use Prim.Native.Nat.{_+_, _-_, _*_, _≤_, _<_};
 ghost use mathlib.Core.Path.{_≡_};
 ghost use mathlib.Core.List.{_++_, _∷_};
@@ -16,7 +19,7 @@ ghost use Rattle.answers.specs.Answers.{AllSaid, AnswersAll};
 ghost use Rattle.answers.specs.Filling.{Filled, MayFill, MayPut, MayFillAll};
 
 // Seven numbers at the front of a list.
-fn put_answer(out: &mut [u16], head: u16, numbers: [u16; 6])
+fn put_answer(out: &mut [u16], head: u16, numbers: [u16; CUT_NUMBERS])
     requires { ⌜ 7 ≤ length (now out) ⌝ }
     ensures { λ _. ⌜ now (out .exit) ≡ (head ∷ numbers) ++ drop 7 (now (out .entry)) ⌝ }
 {
@@ -25,7 +28,7 @@ fn put_answer(out: &mut [u16], head: u16, numbers: [u16; 6])
 }
 
 // The same answer for each l from `from` on, below `to`.
-fn put_answers(out: &mut [u16], from: usize, to: usize, head: u16, numbers: [u16; 6])
+fn put_answers(out: &mut [u16], from: usize, to: usize, head: u16, numbers: [u16; CUT_NUMBERS])
     requires { ⌜ (from ≤ to) × (to ≤ 64) × (7 * to ≤ length (now out)) ⌝ }
     ensures { λ _. ⌜ Filled from to head numbers (now (out .entry)) (now (out .exit)) ⌝ }
 {
@@ -53,7 +56,7 @@ fn descend(
     table: &[u8],
     weights: &[u16],
     most: &[u16],
-    ps: [Position; 32],
+    ps: Standing,
     a: Asked,
     k: usize,
     out: &mut [u16],
@@ -69,7 +72,7 @@ fn descend(
         let next = resist::ask(row, table, weights, most, ps, a, l, h.pairs, k);
         h = next;
     }
-    let zeros = [0u16; 6];
+    let zeros = [0u16; CUT_NUMBERS];
     put_answers(out, 0, l + 1, 0, zeros);
 }
 
@@ -78,9 +81,9 @@ fn fill(row: &[u16], k: usize, out: &mut [u16])
     requires { ⌜ MayFillAll (now row) k (length (now out)) ⌝ }
     ensures { λ _. ⌜ AllSaid (planOf (now (row .entry))) k (now (out .entry)) (now (out .exit)) ⌝ }
 {
-    let mut table = [0u8; 4096];
-    let mut weights = [0u16; 4096];
-    let mut most = [0u16; 64];
+    let mut table = [0u8; TABLE];
+    let mut weights = [0u16; TABLE];
+    let mut most = [0u16; SLOTS];
     let a = resist::lend(row, &mut table, &mut weights, &mut most);
     let ps = cycle::start_all(row, a.messages);
     descend(row, &table, &weights, &most, ps, a, k, out);
@@ -92,14 +95,11 @@ pub fn answers_good(row: &[u16], k: usize, out: &mut [u16]) -> Answer
     ensures { λ r. ⌜ AnswersAll (now (row .entry)) k (now (out .entry)) (now (out .exit)) r ⌝ }
 {
     if 3 < k {
-        return Answer::Refused(Refusal { no: 11, place: 0 });
+        return refuse(11, 0);
     }
     let needed = 7 * (view::messages(row) + 1);
     if out.len() < needed {
-        return Answer::Refused(Refusal {
-            no: 13,
-            place: needed,
-        });
+        return refuse(13, needed);
     }
     fill(row, k, out);
     Answer::Gives(needed)

@@ -4,6 +4,7 @@ use native.Mathlib.Omega.{arith}
 use mathlib.Core.Path.{_≡_, sym, _∙_, ap}
 use mathlib.Core.List.{List, [], map}
 use lib.ListN.{length}
+use Rattle.scope.specs.Limits.{mostCuts, longestRow}
 use Rattle.scope.specs.Plan.{messageCount, linkCount, timeoutOf, firstMessage, messagesAt, planOf}
 use Rattle.scope.specs.Slot.{onFirst}
 use Rattle.scope.specs.Cycle.{tableOf, positions}
@@ -15,8 +16,8 @@ use Rattle.touch.specs.Weights.{Weighs, Tops}
 use Rattle.touch.proofs.Bounds.{bound}
 use Rattle.flow.proofs.Theorems.{row-most}
 use Rattle.plan.specs.Answers.{GoodRow}
-use Rattle.step.specs.declared.Position.{Position}
-use Rattle.cycle.specs.Stand.{MayStart, Become}
+use Rattle.step.specs.declared.Standing.{Standing}
+use Rattle.cycle.specs.Play.{MayStart, Begins}
 use Rattle.cycle.proofs.Whole.{start-is}
 use Rattle.cycle.proofs.Agree.{owner-same}
 use Rattle.hunt.specs.declared.Asked.{Asked}
@@ -42,7 +43,6 @@ module _ (row : List ℕ) (good : GoodRow row) where
               few = omega (arith, lies .links);
               messages = hn ∙ sym (message-count row);
               owner = owner-same row lies table tab;
-              entries = tab .long;
             };
         many = omega (arith, lies .messages);
         heavy = w .long;
@@ -58,24 +58,30 @@ module _ (row : List ℕ) (good : GoodRow row) where
 
     pub may-start : MayStart row (a .messages)
     may-start =
-        let l : length row ≤ 10405 = row-most row (length row) (good .form) in
+        let l : length row ≤ longestRow = row-most row (length row) (good .form) in
         rw count (record { few = lies .messages; fit = omega (arith, lies .ends) })
 
-    pub may-ask-on : (ps : List Position) → Become row (a .messages) (map onFirst (messagesAt row (firstMessage row) (a .messages))) ps → (l k : ℕ) →
-        l ≤ a .messages → k ≤ 3 → MayAskOn row table weights most ps a l 0 k
+    pub may-ask-on : (ps : Standing) → Begins row (a .messages) ps → (l k : ℕ) → l ≤ a .messages → k ≤ mostCuts → MayAskOn row table weights most ps a l 0 k
     unfolding positions
     may-ask-on ps b l k least few =
         record {
           lent = is;
           stand =
-              record { is = b .is ∙ ap (λ (n : ℕ). map onFirst (messagesAt row (firstMessage row) n)) count ∙ start-is row; stand = b .stand };
+              record {
+                time = b .time;
+                next =
+                    record {
+                      is = b .next .is ∙ ap (λ (n : ℕ). map onFirst (messagesAt row (firstMessage row) n)) count ∙ start-is row;
+                      stand = b .next .stand;
+                    };
+              };
           least = least;
           few = few;
           within = omega arith;
           before = λ i z. absurd (omega arith);
         }
 
-module _ (row table weights most : List ℕ) (ps : List Position) (a : Asked) (l low k : ℕ) (m : MayAskOn row table weights most ps a l low k) where
+module _ (row table weights most : List ℕ) (ps : Standing) (a : Asked) (l low k : ℕ) (m : MayAskOn row table weights most ps a l low k) where
   -- every list leaves 0 arrivals
   pub asks-nought : (h : Hunted) → l ≡ 0 → h ≡ noHunted → Hunts row l k h
   asks-nought h z is = hunts-none row l k h is (λ i le x long good fails. omega arith)
@@ -95,7 +101,6 @@ module _ (row table weights most : List ℕ) (ps : List Position) (a : Asked) (l
                     few = p .few;
                     messages = p .messages;
                     owner = p .owner;
-                    entries = p .entries;
                   };
               heavy = m .lent .heavy;
               tops = m .lent .tops;

@@ -5,7 +5,10 @@ use hunt::Asked;
 use hunt::Hunted;
 use scope::Answer;
 use scope::Refusal;
-use step::Position;
+use scope::limits::SLOTS;
+use scope::limits::TABLE;
+use scope::refusal_at;
+use step::Standing;
 ghost use Rattle.hunt.specs.Hunt.{Hunts};
 ghost use Rattle.plan.specs.Answers.{GoodRow};
 ghost use Rattle.resist.specs.Lent.{MayLend, Lent, MayAskOn};
@@ -40,7 +43,7 @@ pub fn ask(
     table: &[u8],
     weights: &[u16],
     most: &[u16],
-    ps: [Position; 32],
+    ps: Standing,
     a: Asked,
     l: usize,
     low: usize,
@@ -67,9 +70,9 @@ fn decide(row: &[u16], k: usize, l: usize) -> Hunted
     requires { ⌜ MayAsk (now row) k l ⌝ }
     ensures { λ r. ⌜ Hunts (now (row .entry)) l k r ⌝ }
 {
-    let mut table = [0u8; 4096];
-    let mut weights = [0u16; 4096];
-    let mut most = [0u16; 64];
+    let mut table = [0u8; TABLE];
+    let mut weights = [0u16; TABLE];
+    let mut most = [0u16; SLOTS];
     let a = lend(row, &mut table, &mut weights, &mut most);
     let ps = cycle::start_all(row, a.messages);
     ask(row, &table, &weights, &most, ps, a, l, 0, k)
@@ -81,16 +84,13 @@ pub fn verdict_good(row: &[u16], k: usize, l: usize, list: &mut [u16]) -> Ruling
     ensures { λ r. ⌜ Answered (now (row .entry)) k l (now (list .entry)) (now (list .exit)) r ⌝ }
 {
     if 3 < k {
-        return Ruling::Refused(Refusal { no: 11, place: 0 });
+        return Ruling::Refused(refusal_at(11, 0));
     }
     if view::messages(row) < l {
-        return Ruling::Refused(Refusal { no: 11, place: 0 });
+        return Ruling::Refused(refusal_at(11, 0));
     }
     if list.len() < 2 * k {
-        return Ruling::Refused(Refusal {
-            no: 13,
-            place: 2 * k,
-        });
+        return Ruling::Refused(refusal_at(13, 2 * k));
     }
     let hunted = decide(row, k, l);
     if hunted.found {
