@@ -27,7 +27,7 @@ accepted-file file lent n e =
     let r = then-back (rules (planOf (rowOf file))) (λ _. room (length (rowOf file)) lent) n (w .2) in
     (w .0, w .1, record { form = file-row file (w .0) (w .1); keeps = rules-give (planOf (rowOf file)) (r .0) (r .1) })
 
-judged : (row : List ℕ) → GoodRow row → judge row ≡ gives (length row)
+pub judged : (row : List ℕ) → GoodRow row → judge row ≡ gives (length row)
 unfolding judge
 judged row g = rw (g .form, g .keeps)
 

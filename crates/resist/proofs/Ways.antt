@@ -17,35 +17,37 @@ use Rattle.scope.specs.Verdict.{FirstFailing}
 use Rattle.scope.specs.Questions.{judge, mayJudge}
 use Rattle.scope.proofs.Order.{first-once, resistant-or-failing}
 use Rattle.view.proofs.Parts.{message-count}
+use Rattle.plan.specs.Answers.{GoodRow}
+use Rattle.plan.proofs.Theorems.{judged}
 use Rattle.hunt.specs.declared.Hunted.{Hunted}
 use Rattle.hunt.specs.Hunt.{Hunts}
 use Rattle.hunt.proofs.Answer.{all-leave}
 use Rattle.resist.specs.declared.Ruling.{Ruling}
 use Rattle.resist.specs.declared.Ruling.the-variants.{Resistant, Failing, Refused}
-use Rattle.resist.specs.Verdict.{Judged, MayAsk, IsResistant, IsFailing, IsRefused, Answered}
+use Rattle.resist.specs.Verdict.{MayAsk, IsResistant, IsFailing, IsRefused, Answered}
 
 -- refusals 1 to 10
 pub bad-row : (row : List ℕ) (k l : ℕ) (entry : List ℕ) (r : Refusal) → judge row ≡ refused r → IsRefused row k l entry entry r
 unfolding mayJudge
 bad-row row k l entry r e = record { may = rw e; buffer = refl }
 
-module _ (row : List ℕ) (k l : ℕ) (entry : List ℕ) (j : Judged row) where
+module _ (row : List ℕ) (k l : ℕ) (entry : List ℕ) (g : GoodRow row) where
   -- refusal 11
   pub k-too-large : (r : Refusal) → 3 < k → r ≡ refusalAt 11 0 → IsRefused row k l entry entry r
   unfolding mayJudge
-  k-too-large r h is = record { may = rw (j .good, lt-ltb 3 k h) (ap refused (sym is)); buffer = refl }
+  k-too-large r h is = record { may = rw (judged row g, lt-ltb 3 k h) (ap refused (sym is)); buffer = refl }
 
   pub l-too-large : (m : ℕ) (r : Refusal) → m ≡ messageCount row → m < l → r ≡ refusalAt 11 0 → IsRefused row k l entry entry r
   unfolding mayJudge
   l-too-large m r e h is =
       record {
-        may = rw (j .good, lt-ltb (length (planOf row .messages)) l (omega (arith, message-count row)), or-true (ltb 3 k)) (ap refused (sym is));
+        may = rw (judged row g, lt-ltb (length (planOf row .messages)) l (omega (arith, message-count row)), or-true (ltb 3 k)) (ap refused (sym is));
         buffer = refl;
       }
 
   module _ (m : ℕ) (e : m ≡ messageCount row) (few : k ≤ 3) (least : l ≤ m) where
     pub may-ask : MayAsk row k l
-    may-ask = record { judged = j; few = few; least = omega (arith, message-count row) }
+    may-ask = record { good = g; few = few; least = omega (arith, message-count row) }
 
     -- refusal 13
     pub too-short : (r : Refusal) → length entry < 2 * k → r ≡ refusalAt 13 (2 * k) → IsRefused row k l entry entry r
@@ -53,7 +55,7 @@ module _ (row : List ℕ) (k l : ℕ) (entry : List ℕ) (j : Judged row) where
     too-short r h is =
         record {
           may =
-              rw (j .good, le-ltb 3 k few, le-ltb (length (planOf row .messages)) l (omega (arith, message-count row)), lt-leb (2 * k) (length entry) h)
+              rw (judged row g, le-ltb 3 k few, le-ltb (length (planOf row .messages)) l (omega (arith, message-count row)), lt-leb (2 * k) (length entry) h)
               (ap refused (sym is));
           buffer = refl;
         }
@@ -61,11 +63,11 @@ module _ (row : List ℕ) (k l : ℕ) (entry : List ℕ) (j : Judged row) where
     module _ (room : 2 * k ≤ length entry) where
       may : mayJudge row k l (length entry) ≡ gives (2 * k)
       unfolding mayJudge
-      may = rw (j .good, le-ltb 3 k few, le-ltb (length (planOf row .messages)) l (omega (arith, message-count row)), le-leb (2 * k) (length entry) room)
+      may = rw (judged row g, le-ltb 3 k few, le-ltb (length (planOf row .messages)) l (omega (arith, message-count row)), le-leb (2 * k) (length entry) room)
 
       module _ (h : Hunted) (f : Hunts row l k h) where
         pub resists : h .found ≡ false → IsResistant row k l entry entry
-        resists t = record { may = may; resistant = all-leave (planOf row) k l (f .none t); buffer = refl }
+        resists t = record { may = may; resistant = all-leave (planOf row) k l (f .none t .1); buffer = refl }
 
         pub front : length (take (2 * h .pairs) (h .numbers)) ≡ 2 * h .pairs
         front = length-take-le (2 * h .pairs) (h .numbers) (omega (arith, f .long, f .few))

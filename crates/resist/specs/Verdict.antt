@@ -8,7 +8,8 @@ use Rattle.scope.specs.Outcome.{Outcome, gives, refused}
 use Rattle.scope.specs.Plan.{planOf}
 use Rattle.scope.specs.Cuts.{pairs}
 use Rattle.scope.specs.Verdict.{FirstFailing, Resistant as AlwaysLeaves}
-use Rattle.scope.specs.Questions.{judge, mayJudge}
+use Rattle.scope.specs.Questions.{mayJudge}
+use Rattle.plan.specs.Answers.{GoodRow}
 use Rattle.resist.specs.declared.Ruling.{Ruling}
 use Rattle.resist.specs.declared.Ruling.the-variants.{Resistant, Failing, Refused}
 
@@ -36,13 +37,8 @@ Answered row k l entry exit Resistant = IsResistant row k l entry exit
 Answered row k l entry exit (Failing n) = IsFailing row k l entry exit n
 Answered row k l entry exit (Refused r) = IsRefused row k l entry exit r
 
--- a row without refusals 1 to 10
-pub record Judged (row : List ℕ) : Type 0 where
-  pub size : ℕ
-  pub good : judge row ≡ gives size
-
--- and k and l without refusal 11
+-- a good row, and k and l without refusal 11
 pub record MayAsk (row : List ℕ) (k l : ℕ) : Type 0 where
-  pub judged : Judged row
+  pub good : GoodRow row
   pub few : k ≤ 3
   pub least : l ≤ length (planOf row .messages)

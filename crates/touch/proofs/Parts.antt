@@ -1,11 +1,10 @@
--- A list in two parts: its pairs, what they weigh, and what it cuts before the second part begins.
+-- A list in two parts: what its pairs weigh, and what it cuts before the second part begins.
 use Prim.Native.Nat.{ℕ, zero, suc, _+_, _-_, _*_, _≤_, _<_}
 use native.Mathlib.Omega.{arith}
 use mathlib.Core.Path.{_≡_, refl, sym, _∙_, ap, ap₂}
 use mathlib.Core.Bool.{Bool, true, false, _&&_, true≢false}
 use mathlib.Core.List.{List, _++_}
-use lib.ListN.{length, getD, length-append, List·getD-append}
-use lib.Seq.{getD-append-add}
+use lib.ListN.{length, length-append}
 use lib.Dec.{ltb, leb, eqb}
 use borrow.Author.Tests.{ltb-true, ltb-false, le-leb}
 use Rattle.scope.specs.Plan.{Plan}
@@ -15,28 +14,8 @@ use Rattle.touch.specs.Sums.{sumOf}
 use Rattle.touch.specs.Touch.{harm}
 use Rattle.touch.specs.Harmed.{NotBefore}
 use Rattle.touch.proofs.Sums.{sum-same}
-use Rattle.touch.proofs.Some.{some-one}
-
--- the pairs of a list that is put together
-module _ (pre x : List ℕ) (d : ℕ) (long : length pre ≡ 2 * d) where
-  pub slot-left : (j : ℕ) → j < d → cutSlot (pre ++ x) j ≡ cutSlot pre j
-  slot-left j l = List·getD-append pre x 0 (2 * j) (omega arith)
-
-  pub link-left : (j : ℕ) → j < d → cutLink (pre ++ x) j ≡ cutLink pre j
-  link-left j l = List·getD-append pre x 0 (2 * j + 1) (omega arith)
-
-  pub slot-right : (j : ℕ) → cutSlot (pre ++ x) (d + j) ≡ cutSlot x j
-  slot-right j =
-      let e : 2 * (d + j) ≡ length pre + 2 * j = omega arith in
-      ap (λ (i : ℕ). getD (pre ++ x) i 0) e ∙ getD-append-add pre x (2 * j) 0
-
-  pub link-right : (j : ℕ) → cutLink (pre ++ x) (d + j) ≡ cutLink x j
-  link-right j =
-      let e : 2 * (d + j) + 1 ≡ length pre + (2 * j + 1) = omega arith in
-      ap (λ (i : ℕ). getD (pre ++ x) i 0) e ∙ getD-append-add pre x (2 * j + 1) 0
-
-  pub pairs-both : (n : ℕ) → length x ≡ 2 * n → pairs (pre ++ x) ≡ d + n
-  pairs-both n h = omega (arith, length-append pre x)
+use Rattle.order.proofs.Some.{some-one}
+use Rattle.order.proofs.Parts.{slot-left, link-left, slot-right, link-right}
 
 module _ (weight : ℕ → ℕ → ℕ) (pre x : List ℕ) (d : ℕ) (long : length pre ≡ 2 * d) where
   pub harm-front : harm weight (pre ++ x) d ≡ harm weight pre d

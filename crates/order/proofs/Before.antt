@@ -6,8 +6,9 @@ use mathlib.Core.Bool.{Bool, true, false, _&&_, _||_}
 use mathlib.Core.List.{List, [], _∷_, _++_}
 use lib.Dec.{ltb, eqb}
 use borrow.Author.Tests.{le-ltb, eq-eqb, ne-eqb, eqb-true}
+use Rattle.scope.specs.Limits.{mostLinks}
 use Rattle.scope.specs.Verdict.{earlier}
-use Rattle.hunt.specs.Search.{code}
+use Rattle.order.specs.Search.{code}
 
 pub earlier-under : (pre x y : List ℕ) → earlier (pre ++ x) (pre ++ y) ≡ earlier x y
 unfolding earlier
@@ -15,7 +16,7 @@ earlier-under [] x y = refl
 earlier-under (c ∷ pre) x y = rw (le-ltb c c (omega arith), eq-eqb c c refl) (earlier-under pre x y)
 
 -- a pair with a higher code does not come earlier
-pub not-earlier : (a b c d : ℕ) (x y : List ℕ) → b < 64 → d < 64 → code c d < code a b → earlier (a ∷ b ∷ x) (c ∷ d ∷ y) ≡ false
+pub not-earlier : (a b c d : ℕ) (x y : List ℕ) → b < mostLinks → d < mostLinks → code c d < code a b → earlier (a ∷ b ∷ x) (c ∷ d ∷ y) ≡ false
 unfolding earlier
 not-earlier a b c d x y hb hd h = by (eqb a c) refl
   where

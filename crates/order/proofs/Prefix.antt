@@ -12,8 +12,8 @@ use Rattle.scope.specs.Plan.{Plan}
 use Rattle.scope.specs.Cuts.{pairs, cutSlot, cutLink, isCut}
 use Rattle.scope.specs.Cycle.{orderOf, tableOf, start, positions}
 use Rattle.laws.proofs.Replay.{positions-follow, depends-on-these-slots}
-use Rattle.touch.proofs.Some.{some-same, some-more}
-use Rattle.touch.proofs.Parts.{slot-left, link-left, slot-right, link-right, pairs-both}
+use Rattle.order.proofs.Some.{some-same, some-more}
+use Rattle.order.proofs.Parts.{slot-left, link-left, slot-right, link-right, pairs-both}
 
 -- what a list with one pair more cuts
 pub cut-more : (plan : Plan) (pre : List ℕ) (d s e : ℕ) → length pre ≡ 2 * d → (i x : ℕ) →

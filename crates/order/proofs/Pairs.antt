@@ -7,15 +7,16 @@ use mathlib.Core.List.{List, [], _∷_, _++_}
 use lib.ListN.{length, length-append}
 use lib.Dec.{ltb, eqb}
 use borrow.Author.Tests.{ltb-true, ltb-false, lt-ltb, eq-eqb, ne-eqb, eqb-true, eqb-false, not-false}
+use Rattle.scope.specs.Limits.{mostLinks}
 use Rattle.scope.specs.Plan.{Plan}
 use Rattle.scope.specs.Cuts.{pairs, cutSlot, cutLink, pairBefore, falls, badPair, isCutList}
 use Rattle.scope.proofs.Cuts.{slot-below, link-below, rising, once, even}
-use Rattle.hunt.specs.Search.{code, codeAt}
-use Rattle.touch.proofs.Some.{none, none-below}
-use Rattle.touch.proofs.Parts.{slot-left, link-left, slot-right, link-right}
+use Rattle.order.specs.Search.{code, codeAt}
+use Rattle.order.proofs.Some.{none, none-below}
+use Rattle.order.proofs.Parts.{slot-left, link-left, slot-right, link-right}
 
 -- pairs rise as their codes do
-pub code-before : (a b c d : ℕ) → b < 64 → d < 64 → pairBefore a b c d ≡ true → code a b < code c d
+pub code-before : (a b c d : ℕ) → b < mostLinks → d < mostLinks → pairBefore a b c d ≡ true → code a b < code c d
 code-before a b c d hb hd h = by (ltb a c) refl h
   where
     by : (t : Bool) → ltb a c ≡ t → (t || (eqb a c && ltb b d)) ≡ true → code a b < code c d
@@ -26,7 +27,7 @@ code-before a b c d hb hd h = by (ltb a c) refl h
         by2 true f k = omega (arith, eqb-true a c f, ltb-true b d k)
         by2 false f k = absurd (true≢false (sym k))
 
-pub before-code : (a b c d : ℕ) → b < 64 → d < 64 → code a b < code c d → pairBefore a b c d ≡ true
+pub before-code : (a b c d : ℕ) → b < mostLinks → d < mostLinks → code a b < code c d → pairBefore a b c d ≡ true
 before-code a b c d hb hd h = by (ltb a c) refl
   where
     by : (t : Bool) → ltb a c ≡ t → (t || (eqb a c && ltb b d)) ≡ true
@@ -40,7 +41,7 @@ pub is-cut-list : (plan : Plan) (cuts : List ℕ) → ((i : ℕ) → i < pairs c
 is-cut-list plan cuts h = rw (none (badPair plan cuts) (pairs cuts) h)
 
 -- a pair that breaks no rule
-rises-not-falls : (cuts : List ℕ) (i : ℕ) → ((j : ℕ) → j < i + 1 → cutLink cuts j < 64) → ((j : ℕ) → j + 1 ≡ i → codeAt cuts j < codeAt cuts i) →
+rises-not-falls : (cuts : List ℕ) (i : ℕ) → ((j : ℕ) → j < i + 1 → cutLink cuts j < mostLinks) → ((j : ℕ) → j + 1 ≡ i → codeAt cuts j < codeAt cuts i) →
     falls cuts i ≡ false
 rises-not-falls cuts zero links rise = refl
 rises-not-falls cuts (suc i) links rise =
@@ -59,7 +60,7 @@ pub record Fine (plan : Plan) (cuts : List ℕ) (i : ℕ) : Type 0 where
   pub rise : (j : ℕ) → j + 1 ≡ i → codeAt cuts j < codeAt cuts i
   pub once : (j : ℕ) → j < i → cutLink cuts j ≡ cutLink cuts i → ⊥
 
-pub fine-pair : (plan : Plan) (cuts : List ℕ) (i : ℕ) → length (plan .links) ≤ 64 → Fine plan cuts i → badPair plan cuts i ≡ false
+pub fine-pair : (plan : Plan) (cuts : List ℕ) (i : ℕ) → length (plan .links) ≤ mostLinks → Fine plan cuts i → badPair plan cuts i ≡ false
 fine-pair plan cuts i small f =
     rw (
       ne-eqb (length cuts) (2 * i + 1) (f .even),
@@ -69,7 +70,7 @@ fine-pair plan cuts i small f =
       none (λ j. eqb (cutLink cuts j) (cutLink cuts i)) i (λ j h. ne-eqb (cutLink cuts j) (cutLink cuts i) (f .once j h)),
     )
 
-module _ (plan : Plan) (small : length (plan .links) ≤ 64) (cuts : List ℕ) (good : isCutList plan cuts ≡ true) where
+module _ (plan : Plan) (small : length (plan .links) ≤ mostLinks) (cuts : List ℕ) (good : isCutList plan cuts ≡ true) where
   -- codes rise
   pub codes-rise : (i : ℕ) → i + 1 < pairs cuts → codeAt cuts i < codeAt cuts (i + 1)
   codes-rise i h =
@@ -101,7 +102,7 @@ pub record Next (plan : Plan) (pre : List ℕ) (d a b : ℕ) : Type 0 where
   pub new : (j : ℕ) → j < d → cutLink pre j ≡ b → ⊥
   pub rises : (j : ℕ) → j + 1 ≡ d → codeAt pre j < code a b
 
-module _ (plan : Plan) (small : length (plan .links) ≤ 64) (pre : List ℕ) (d : ℕ) (long : length pre ≡ 2 * d) where
+module _ (plan : Plan) (small : length (plan .links) ≤ mostLinks) (pre : List ℕ) (d : ℕ) (long : length pre ≡ 2 * d) where
   pub next-pair : (a b : ℕ) (x : List ℕ) → isCutList plan (pre ++ a ∷ b ∷ x) ≡ true → Next plan pre d a b
   next-pair a b x good =
       let y : List ℕ = a ∷ b ∷ x in

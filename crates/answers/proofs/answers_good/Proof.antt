@@ -1,11 +1,11 @@
--- `answers::all_good` meets its contract, one law for each answer.
+-- `answers::answers_good` meets its contract, one law for each answer.
 use mathlib.Core.Path.{refl}
 use Rattle.answers.proofs.Ways.{k-too-large, too-short, may-fill-all, answered}
 use borrow.Author.Needs.{needs}
-use Rattle.answers.proofs.all_good.Statement.{statement}
-use Rattle.answers.proofs.all_good.Tie as tie
-use Rattle.answers.proofs.all_good.Reads as reads
-use Rattle.answers.proofs.all_good.Lts as lts
+use Rattle.answers.proofs.answers_good.Statement.{statement}
+use Rattle.answers.proofs.answers_good.Tie as tie
+use Rattle.answers.proofs.answers_good.Reads as reads
+use Rattle.answers.proofs.answers_good.Lts as lts
 use Rattle.answers.proofs.fill.Reads as fill-reads
 use Rattle.view.proofs.messages.Reads as messages-reads
 
@@ -39,8 +39,8 @@ same-length c = search needs
 returns-3 : tie.Need-returns-3
 returns-3 c = answered _ _ _ (c .before .before .before .before .before .before .before .before .before .pre) (c .before .before .before .before .before .before .if1 .left) _ _ (c .before .before .before .before .before .messages .ensures .is) refl (c .before .before .before .before .if2 .left) _ (c .before .before .fill .ensures)
 
-pub all-good-spec : {M : Type 1} → statement M
-all-good-spec =
+pub answers-good-spec : {M : Type 1} → statement M
+answers-good-spec =
     tie.close
     (tie.spec
     refuse-requires
