@@ -1,7 +1,7 @@
 /* Nuthatchet for C: every public question. Link target/staticlib/libnuthatchet.a (`rt staticlib nuthatchet`), on x86-64 Linux.
 
    Each function takes any numbers, and asks nothing but that its pointers tell the truth:
-     - a buffer has as many elements as the length behind it says (never null, aligned, also where the length is 0);
+     - a buffer has as many elements as the length behind it says, and is aligned; where the length is 0 it may be NULL;
      - what is written (no const) is not also lent to the same call under another name.
    It returns the number of the refusal, 0 where nothing is refused (README.md has the list), writes the refusal's place, 0 where there
    is none, and the result, 0 beside a refusal. A refusal changes no buffer; a success changes only the part that it writes. Nothing is
@@ -54,13 +54,15 @@ size_t nuthatchet_all_answers(const uint16_t *row, size_t row_len, size_t k, uin
 size_t nuthatchet_slack(const uint16_t *row, size_t row_len, size_t m, size_t p, size_t *place, int32_t *slots);
 
 /* What the replay program prints for the bytes of plan.bin and of its input, a refusal's line too: the text at the front. Refusal 13 alone.
-   Result: how many bytes. */
+   36,942 bytes are room for every text. Result: how many bytes. */
 size_t nuthatchet_replay_text(const uint8_t *file, size_t file_len, const uint8_t *input, size_t input_len, uint8_t *out, size_t out_len, size_t *place, size_t *result);
 
-/* A plan file's row as a line of decimals, or the line of its refusal. Refusal 13 alone. Result: how many bytes. */
+/* A plan file's row as a line of decimals, or the line of its refusal. Refusal 13 alone. 62,430 bytes are room for every text. Result: how many
+   bytes. */
 size_t nuthatchet_row_text(const uint8_t *file, size_t file_len, uint8_t *out, size_t out_len, size_t *place, size_t *result);
 
-/* The plan file of a row in decimals: its bytes at the front, refusals 1 to 10, 13. Result: how many bytes. */
+/* The plan file of a row in decimals, parted by single spaces or line feeds: its bytes at the front, refusals 1 to 10, 13. NUTHATCHET_FILE bytes are
+   room for every file. Result: how many bytes. */
 size_t nuthatchet_pack_text(const uint8_t *text, size_t text_len, uint8_t *file, size_t file_len, size_t *place, size_t *result);
 
 #ifdef __cplusplus

@@ -1,10 +1,12 @@
 # Draws a replay's listing (standard input) as one SVG picture (standard output): a row for each message, a column for
-# each slot. It knows the listing alone, so it shows what was proved and nothing else. POSIX awk.
+# each slot. It knows the listing and the cuts alone, so it shows what was proved and nothing else. POSIX awk.
 #
 #   awk -f picture.awk < listing > cycle.svg
-#   awk -v title='Plan B, link 0 cut in slot 0' -f picture.awk < listing > cycle.svg
+#   awk -v title='Plan B, link 0 cut in slot 0' -v cuts=cuts -f picture.awk < listing > cycle.svg
 #
-# What is no listing gets a message on standard error, exit status 1 and no picture.
+# The title and the name of the file with the cuts may also come as PICTURE_TITLE and PICTURE_CUTS in the environment. Without the cuts it
+# shows a cut where the listing first shows it. What is no listing, or has other cuts, gets a message on standard error, exit status 1 and
+# no picture.
 
 BEGIN {
     MOST_SLOTS = 64
@@ -14,7 +16,11 @@ BEGIN {
     EVENT = "^" NUMBER " " NUMBER " [0-7] " NUMBER "$"
     LAST = "^arrived " NUMBER " of " NUMBER "$"
     REFUSED = "^refused [1-9][0-9]* place [0-9]+$"
-    AGAIN = "Give it what the replay printed, whole:\n  ./nuthatchet replay < cuts | ./nuthatchet picture > cycle.svg"
+    AGAIN = "Give it what the replay printed, whole:\n  ./nuthatchet replay < cuts | ./nuthatchet picture cuts > cycle.svg"
+
+    CUT = "^cut " NUMBER " " NUMBER "$"
+    if (title == "") title = ENVIRON["PICTURE_TITLE"]
+    if (cuts == "") cuts = ENVIRON["PICTURE_CUTS"]
 
     split("D W C S T H X Z", letters, " ")
     slot = -1
@@ -122,7 +128,8 @@ function see(    s, m) {
         turned[m] = -1
         for (s = 0; s < slots; s++) see_event(s, m)
     }
-    see_cuts()
+    if (cuts == "") see_cuts()
+    else read_cuts()
     see_fates()
 }
 
@@ -150,6 +157,40 @@ function see_cuts(    s, m) {
         if (tags[s] > most_tags) most_tags = tags[s]
     }
 }
+
+# The cuts as they were given, each in its slot. They are those of this listing only if it shows no link as cut that is whole by them,
+# and none as whole that is cut.
+function read_cuts(    line, words, lines, s, m, before) {
+    before = -1
+    for (s = 0; s < slots; s++) tags[s] = 0
+    while ((got = (getline line < cuts)) > 0) {
+        split(line, words, " ")
+        if (line !~ CUT || words[2] >= slots || words[2] * MOST_LINKS + words[3] <= before || words[3] + 0 in cut)
+            no_picture("line " lines + 0 " of " clean(cuts) " is no cut of this cycle: " clean(substr(line, 1, 40)))
+        if (failed) return
+        before = words[2] * MOST_LINKS + words[3]
+        if (first_cut == "") first_cut = words[2] + 0
+        note_cut(words[2] + 0, words[3] + 0)
+        lines++
+    }
+    if (got < 0) no_picture("the cuts in " clean(cuts) " cannot be read")
+    close(cuts)
+    for (s = 0; s < slots; s++) {
+        if (tags[s] > most_tags) most_tags = tags[s]
+        for (m = 0; m < lanes; m++) agrees(s, m, kind[s, m], number[s, m])
+    }
+}
+
+function agrees(s, m, k, n) {
+    if ((k == 6 || k == 7) && !is_cut(s, n)) not_these("link " n " is cut in slot " s)
+    if ((k == 1 || k == 2 || k == 3) && is_cut(s, n)) not_these("link " n " is whole in slot " s)
+    if (turned[m] == s && s > 0 && kind[s - 1, m] == 1 && !is_cut(s, number[s - 1, m])) not_these("link " number[s - 1, m] " is cut in slot " s)
+    if (turned[m] == s && (first_cut == "" || first_cut > s)) not_these("message " m " turns in slot " s)
+}
+
+function is_cut(s, link) { return link in cut && cut[link] <= s }
+
+function not_these(why) { no_picture("these are not the cuts of this listing, in which " why ".\n" AGAIN) }
 
 function note_cut(s, link) {
     if (link in cut) return
@@ -414,7 +455,7 @@ function draw_legend(    k) {
     draw_turn(item_x(8), item_y(8))
     draw_words(8, "turn: from here on its second path")
     draw_tag(item_x(9) + 13, item_y(9) + 1, "n")
-    draw_words(9, "link n is cut, first seen here (?: not named)")
+    draw_words(9, cuts == "" ? "link n is cut, first seen here (?: not named)" : "link n is cut from this slot on")
     draw_arrow(item_x(10) + 26, item_y(10) + 16, item_x(10) + 2, item_y(10) + 5, "5 sample")
     draw_words(10, "from H to the message that goes first")
     draw_arrow(item_x(11) + 26, item_y(11) + 16, item_x(11) + 2, item_y(11) + 5, "4 sample")

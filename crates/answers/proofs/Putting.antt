@@ -9,18 +9,6 @@ use borrow.Author.Count.{below-more}
 use Rattle.answers.specs.Answers.{seven}
 use Rattle.answers.specs.Filling.{Filled}
 
--- zeros after the first n numbers
-drop-replicate : (n m : ℕ) → drop {A = ℕ} n (replicate m 0) ≡ replicate (m - n) 0
-drop-replicate zero m = let z : m - 0 ≡ m = omega arith in rw z
-drop-replicate (suc n) zero = let z : 0 - suc n ≡ 0 = omega arith in rw z
-drop-replicate (suc n) (suc m) = let z : suc m - suc n ≡ m - n = omega arith in drop-replicate n m ∙ ap (λ (k : ℕ). replicate k 0) (sym z)
-
-pub pads : (numbers r : List ℕ) (n : ℕ) → n ≤ 6 → length numbers ≡ 6 → r ≡ take n numbers ++ drop (length (take n numbers)) (replicate 6 0) →
-    r ≡ take n numbers ++ replicate (6 - n) 0
-pads numbers r n h l e =
-    e ∙ ap (λ (k : ℕ). take n numbers ++ drop k (replicate 6 0)) (length-take-le n numbers (omega arith)) ∙
-    ap (λ (z : List ℕ). take n numbers ++ z) (drop-replicate n 6)
-
 -- a part that was lent from an index on comes back
 back : (out part w final : List ℕ) (at : ℕ) → part ≡ w ++ drop (length w) (take (length out - at) (drop at out)) →
     final ≡ take at out ++ (part ++ drop (length out - at) (drop at out)) → final ≡ take at out ++ (w ++ drop (length w) (drop at out))

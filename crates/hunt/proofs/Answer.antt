@@ -12,16 +12,17 @@ use Rattle.scope.specs.Cuts.{pairs, isCutList}
 use Rattle.scope.specs.Cycle.{arrivals}
 use Rattle.scope.specs.Verdict.{earlier, goesBefore, Resistant, FirstFailing}
 use Rattle.scope.proofs.Cuts.{even}
-use Rattle.hunt.specs.Search.{AllLeave, FirstOf}
+use Rattle.order.specs.Search.{NoneOf, FirstOf}
+use Rattle.touch.specs.Bound.{Fails}
 
-pub all-leave : (plan : Plan) (k l : ℕ) → ((i : ℕ) → i < k + 1 → AllLeave plan l [] i) → Resistant plan k l
+pub all-leave : (plan : Plan) (k l : ℕ) → ((i : ℕ) → i < k + 1 → NoneOf plan (Fails plan l) [] i) → Resistant plan k l
 unfolding Resistant
-all-leave plan k l all cuts good few = all (pairs cuts) (omega arith) cuts (even plan cuts good) good
+all-leave plan k l all cuts good few = omega (arith, all (pairs cuts) (omega arith) cuts (even plan cuts good) good)
 
-pub first-failing : (plan : Plan) (k l n : ℕ) (r : List ℕ) → n ≤ k → ((i : ℕ) → i < n → AllLeave plan l [] i) → FirstOf plan l [] n r → FirstFailing plan k l r
+pub first-failing : (plan : Plan) (k l n : ℕ) (r : List ℕ) → n ≤ k → ((i : ℕ) → i < n → NoneOf plan (Fails plan l) [] i) → FirstOf plan (Fails plan l) [] n r → FirstFailing plan k l r
 unfolding goesBefore
 first-failing plan k l n r h fewer f =
-    record { good = f .good; few = omega (arith, count); fails = f .fails; first = λ others good fails. by others good fails }
+    record { good = f .good; few = omega (arith, count); fails = f .answers; first = λ others good fails. by others good fails }
   where
     count : pairs r ≡ n
     count = omega (arith, ap length (f .is), f .long)
@@ -29,8 +30,7 @@ first-failing plan k l n r h fewer f =
     not-earlier : (others : List ℕ) → isCutList plan others ≡ true → arrivals plan others < l → pairs others ≡ n → (b : Bool) → earlier others r ≡ b → b ≡ false
     not-earlier others good fails same false e = refl
     not-earlier others good fails same true e =
-        let enough = f .first others (omega (arith, even plan others good)) good e in
-        absurd (omega arith)
+        absurd (f .first others (omega (arith, even plan others good)) e good fails)
 
     by : (others : List ℕ) → isCutList plan others ≡ true → arrivals plan others < l → goesBefore others r ≡ false
     by others good fails = less (ltb (pairs others) (pairs r)) refl
@@ -41,6 +41,5 @@ first-failing plan k l n r h fewer f =
 
         less : (b : Bool) → ltb (pairs others) (pairs r) ≡ b → (b || (eqb (pairs others) (pairs r) && earlier others r)) ≡ false
         less true e =
-            let enough = fewer (pairs others) (omega (arith, count, ltb-true (pairs others) (pairs r) e)) others (even plan others good) good in
-            absurd (omega arith)
+            absurd (fewer (pairs others) (omega (arith, count, ltb-true (pairs others) (pairs r) e)) others (even plan others good) good fails)
         less false e = as-many (eqb (pairs others) (pairs r)) refl

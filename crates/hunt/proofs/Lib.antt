@@ -1,11 +1,9 @@
-pub mod Pairs
-pub mod Prefix
-pub mod Before
 pub mod Weigh
-pub mod Steps
 pub mod Answer
 pub mod Picking
 pub mod Risk
+pub mod Telling
 pub mod Playing
 pub mod Levels
 pub mod Hunting
+pub mod Once

@@ -1,28 +1,26 @@
--- One pair more: the numbers, the first cuts and the positions.
+-- One pair more: the numbers, what is down and where the messages stand.
 use Prim.Native.Nat.{ℕ, suc, _+_, _*_, _≤_, _<_}
 use native.Mathlib.Omega.{arith}
 use mathlib.Core.Path.{_≡_, refl, sym, _∙_, ap}
-use mathlib.Core.Bool.{Bool, true, false, _&&_, true≢false, or-false}
+use mathlib.Core.Bool.{Bool, true, false, _&&_, true≢false, or-false, or-true}
 use mathlib.Core.List.{List, [], _∷_, _++_, append-assoc}
 use lib.ListN.{length, getD, take, set, length-set}
 use lib.Seq.{take-suc-set, getD-set-same, getD-set-other}
-use lib.Dec.{leb, eqb}
-use borrow.Author.Tests.{eqb-true, eqb-false, eq-eqb, le-leb, lt-leb}
+use lib.Dec.{ltb, leb, eqb}
+use borrow.Author.Tests.{eqb-true, eqb-false, eq-eqb, le-leb}
+use Rattle.scope.specs.Limits.{mostCuts}
 use Rattle.scope.specs.Plan.{Plan, planOf}
-use Rattle.scope.specs.Cuts.{pairs, cutSlot, cutLink, isCut, isCutList}
-use Rattle.scope.specs.Cycle.{positions}
-use Rattle.scope.proofs.Cuts.{slot-below}
+use Rattle.scope.specs.Cuts.{pairs, cutSlot, cutLink, cutsLink, isCut}
 use Rattle.laws.proofs.Cuts.{cut-pair}
-use Rattle.cuts.specs.From.{never, cutFrom, downOf, Tells}
-use Rattle.cuts.proofs.From.{getD-any}
-use Rattle.step.specs.declared.Position as P
+use Rattle.cuts.specs.Down.{isDown}
+use Rattle.step.specs.declared.Standing.{Standing}
+use Rattle.order.specs.Search.{code}
+use Rattle.order.proofs.Some.{some-one}
+use Rattle.order.proofs.Prefix.{cut-more, same-before}
+use Rattle.order.proofs.Steps.{picked}
 use Rattle.hunt.specs.declared.Asked.{Asked}
 use Rattle.hunt.specs.declared.Picked.{Picked}
-use Rattle.hunt.specs.Search.{code}
 use Rattle.hunt.specs.Hunt.{cutsOf, withPair, Playable, Holding, StandAt}
-use Rattle.touch.proofs.Some.{some-one}
-use Rattle.hunt.proofs.Prefix.{cut-more, same-before}
-use Rattle.hunt.proofs.Steps.{picked}
 
 -- two numbers more at the front of a list
 take-two : (l : List ℕ) (d s e : ℕ) → 2 * d + 1 < length l → take (2 * (d + 1)) (set (set l (2 * d) s) (2 * d + 1) e) ≡ take (2 * d) l ++ s ∷ e ∷ []
@@ -36,52 +34,42 @@ take-two l d s e h =
     ap (λ (x : List ℕ). x ++ (e ∷ [])) (take-suc-set l (2 * d) s (omega arith)) ∙
     append-assoc (take (2 * d) l) (s ∷ []) (e ∷ [])
 
--- a link that no pair names
-from-at : (from : List ℕ) (e : ℕ) → length from ≡ 64 → e < 64 → cutFrom from e ≡ getD from e 0
-from-at from e l h = getD-any from e 65535 0 (omega arith)
+module _ (row : List ℕ) (a : Asked) (p : Picked) (h : Holding row a p) (e : ℕ) where
+  -- a link that is not down is named by no pair
+  pub free : isDown (p .down) e ≡ false → (j : ℕ) → j < pairs (cutsOf p) → cutLink (cutsOf p) j ≡ e → ⊥
+  unfolding isCut
+  free whole j l same =
+      let i = p .slot + cutSlot (cutsOf p) j in
+      let cut : isCut (planOf row) (cutsOf p) i e ≡ true =
+      some-one (λ k. cutsLink (planOf row) (cutLink (cutsOf p) k) e && leb (cutSlot (cutsOf p) k) i) (pairs (cutsOf p)) j l
+      (rw (eq-eqb (cutLink (cutsOf p) j) e same, le-leb (cutSlot (cutsOf p) j) i (omega arith))) in
+      true≢false (sym cut ∙ sym (h .down i e (omega arith)) ∙ whole)
 
-pub free : (plan : Plan) (pre from : List ℕ) (e : ℕ) → plan .timeout ≤ 64 → isCutList plan pre ≡ true → Tells pre 64 from → e < 64 → getD from e 0 ≡ 65535 →
-    (j : ℕ) → j < pairs pre → cutLink pre j ≡ e → ⊥
-unfolding isCut
-free plan pre from e time good t h whole j l same =
-    let s = slot-below plan pre good j l in
-    let cut : isCut pre (cutSlot pre j) e ≡ true =
-    some-one (λ i. eqb (cutLink pre i) e && leb (cutSlot pre i) (cutSlot pre j)) (pairs pre) j l
-    (rw (eq-eqb (cutLink pre j) e same, le-leb (cutSlot pre j) (cutSlot pre j) (omega arith))) in
-    let not-down : downOf from (cutSlot pre j) e ≡ false =
-    ap (λ (i : ℕ). leb i (cutSlot pre j)) (from-at from e (t .long) h ∙ whole) ∙ lt-leb 65535 (cutSlot pre j) (omega arith) in
-    true≢false (sym cut ∙ sym (t .is (cutSlot pre j) e (omega arith) h) ∙ not-down)
+  -- and one that is down is named
+  pub named : isDown (p .down) e ≡ true → (j : ℕ) × (j < pairs (cutsOf p)) × (cutLink (cutsOf p) j ≡ e)
+  named down =
+      let c = cut-pair (planOf row) (cutsOf p) (p .slot) e (sym (h .down (p .slot) e (omega arith)) ∙ down) in
+      (c .0, c .1, eqb-true (cutLink (cutsOf p) (c .0)) e (c .2))
 
-pub named : (pre from : List ℕ) (e : ℕ) → Tells pre 64 from → e < 64 → getD from e 0 < 65535 → (j : ℕ) × (j < pairs pre) × (cutLink pre j ≡ e)
-named pre from e t h low =
-    let i = getD from e 0 in
-    let down : downOf from i e ≡ true = le-leb (cutFrom from e) i (omega (arith, from-at from e (t .long) h)) in
-    let c = cut-pair pre i e (sym (t .is i e low h) ∙ down) in
-    (c .0, c .1, c .2)
-
--- the first cuts with one pair more
-tells-more : (pre from : List ℕ) (d s e : ℕ) → length pre ≡ 2 * d → Tells pre 64 from → e < 64 → getD from e 0 ≡ 65535 →
-    Tells (pre ++ s ∷ e ∷ []) 64 (set from e s)
-tells-more pre from d s e long t h whole =
-    record { long = length-set from e s ∙ t .long; is = λ i x l g. by i x l g (eqb e x) refl }
+-- what is down with one pair more
+down-more : (plan : Plan) (pre down : List ℕ) (d s e i x : ℕ) → length pre ≡ 2 * d → e < length down → s ≤ i → isDown down x ≡ isCut plan pre i x →
+    isDown (set down e 1) x ≡ isCut plan (pre ++ s ∷ e ∷ []) i x
+down-more plan pre down d s e i x long there early is = by (eqb e x) refl
   where
-    by : (i x : ℕ) → i < never → x < 64 → (b : Bool) → eqb e x ≡ b → downOf (set from e s) i x ≡ isCut (pre ++ s ∷ e ∷ []) i x
-    by i x l g true q =
+    by : (b : Bool) → eqb e x ≡ b → isDown (set down e 1) x ≡ isCut plan (pre ++ s ∷ e ∷ []) i x
+    by true q =
         let same : e ≡ x = eqb-true e x q in
-        let not-yet : isCut pre i x ≡ false =
-        sym (t .is i x l g) ∙ ap (λ (k : ℕ). leb k i) (ap (cutFrom from) (sym same) ∙ from-at from e (t .long) h ∙ whole) ∙ lt-leb 65535 i l in
-        ap (λ (k : ℕ). leb k i) (ap (cutFrom (set from e s)) (sym same) ∙ getD-set-same from e s 65535 (omega (arith, t .long))) ∙
-        sym (cut-more pre d s e long i x ∙ rw (not-yet, q))
-    by i x l g false q =
+        let put : getD (set down e 1) x 0 ≡ 1 = ap (λ (k : ℕ). getD (set down e 1) k 0) (sym same) ∙ getD-set-same down e 1 0 there in
+        ap (ltb 0) put ∙ sym (cut-more plan pre d s e long i x ∙ rw (q, le-leb s i early, or-true (isCut plan pre i x)))
+    by false q =
         let other : x ≡ e → ⊥ = λ r. eqb-false e x q (sym r) in
-        ap (λ (k : ℕ). leb k i) (getD-set-other from e x s 65535 other) ∙ t .is i x l g ∙
-        sym (cut-more pre d s e long i x ∙ rw (q, or-false (isCut pre i x)))
+        ap (ltb 0) (getD-set-other down e x 1 0 other) ∙ is ∙ sym (cut-more plan pre d s e long i x ∙ rw (q, or-false (isCut plan pre i x)))
 
-module _ (row table : List ℕ) (a : Asked) (p : Picked) (y : Playable row table a) (h : Holding row a p) (s e : ℕ) (room : p .count < 3) where
+module _ (row table : List ℕ) (a : Asked) (p : Picked) (y : Playable row table a) (h : Holding row a p) (s e : ℕ) (room : p .count < mostCuts) where
   pub cuts-more : cutsOf (withPair p s e) ≡ cutsOf p ++ s ∷ e ∷ []
   cuts-more = take-two (p .numbers) (p .count) s e (omega (arith, h .long))
 
-  pub holding-more : code (p .slot) (p .link) ≤ code s e → s < a .timeout → e < a .links → getD (p .from) e 0 ≡ 65535 → Holding row a (withPair p s e)
+  pub holding-more : code (p .slot) (p .link) ≤ code s e → s < a .timeout → e < a .links → isDown (p .down) e ≡ false → Holding row a (withPair p s e)
   holding-more later hs he whole =
       record {
         long = length-set (set (p .numbers) (2 * p .count) s) (2 * p .count + 1) e ∙ length-set (p .numbers) (2 * p .count) s ∙ h .long;
@@ -90,19 +78,22 @@ module _ (row table : List ℕ) (a : Asked) (p : Picked) (y : Playable row table
         chosen =
             rw cuts-more
             (picked (planOf row) (omega (arith, y .links, y .few)) (cutsOf p) (p .count) (code (p .slot) (p .link)) s e (h .chosen) later
-            (omega (arith, y .timeout)) (omega (arith, y .links))
-            (λ j l. free (planOf row) (cutsOf p) (p .from) e (omega (arith, y .timeout, y .short)) (h .chosen .good) (h .tells)
-            (omega (arith, y .few)) whole j (omega (arith, h .chosen .long))));
-        tells =
-            rw cuts-more (tells-more (cutsOf p) (p .from) (p .count) s e (h .chosen .long) (h .tells) (omega (arith, y .few)) whole);
-        first = λ x l. first x l (eqb x e) refl;
+            (omega (arith, y .timeout)) (omega (arith, y .links)) (λ j l. free row a p h e whole j (omega (arith, h .chosen .long))));
+        size = length-set (p .down) e 1 ∙ h .size;
+        down = λ i x l.
+            rw cuts-more
+            (down-more (planOf row) (cutsOf p) (p .down) (p .count) s e i x (h .chosen .long) (omega (arith, h .size, y .few)) l
+            (h .down i x (omega (arith, h .link, y .few))));
+        past = λ i l.
+            getD-set-other (set (p .numbers) (2 * p .count) s) (2 * p .count + 1) i e 0 (λ z. omega arith) ∙
+            getD-set-other (p .numbers) (2 * p .count) i s 0 (λ z. omega arith) ∙ h .past i (omega arith);
       }
-    where
-      first : (x : ℕ) → x < 64 → (b : Bool) → eqb x e ≡ b → getD (set (p .from) e s) x 0 ≤ 65535
-      first x l true q = rw (eqb-true x e q, getD-set-same (p .from) e s 0 (omega (arith, h .tells .long, y .few))) (omega (arith, y .short))
-      first x l false q = rw (getD-set-other (p .from) e x s 0 (eqb-false x e q)) (h .first x l)
 
-  pub stand-more : (n : ℕ) (ps : List P.Position) → StandAt row n (cutsOf p) s ps → StandAt row n (cutsOf (withPair p s e)) s ps
+  pub stand-more : (n : ℕ) (ps : Standing) → StandAt row n (cutsOf p) s ps → StandAt row n (cutsOf (withPair p s e)) s ps
   stand-more n ps t =
       rw cuts-more
-      (record { is = t .is ∙ sym (same-before (planOf row) (cutsOf p) (p .count) s e (h .chosen .long)); stand = t .stand })
+      (record {
+        time = t .time;
+        next =
+            record { is = t .next .is ∙ sym (same-before (planOf row) (cutsOf p) (p .count) s e (h .chosen .long)); stand = t .next .stand };
+      })

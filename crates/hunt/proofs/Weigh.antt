@@ -6,18 +6,21 @@ use mathlib.Core.Path.{_≡_}
 use mathlib.Core.Bool.{true}
 use mathlib.Core.List.{List, _∷_, _++_}
 use lib.ListN.{length, getD}
+use Rattle.scope.specs.Limits.{mostLinks}
 use Rattle.scope.specs.Plan.{Plan}
 use Rattle.scope.specs.Cuts.{pairs, cutSlot, cutLink, isCutList}
-use Rattle.scope.specs.Cycle.{arrivals}
 use Rattle.scope.proofs.Cuts.{slot-below, link-below}
 use Rattle.touch.specs.Sums.{sumOf}
 use Rattle.touch.specs.Touch.{harm}
 use Rattle.touch.specs.Harmed.{harmed, NotBefore}
 use Rattle.touch.specs.Bound.{weightIn, Bound}
-use Rattle.touch.proofs.Parts.{slot-right, link-right, pairs-both}
-use Rattle.hunt.proofs.Pairs.{slots-from}
+use Rattle.order.specs.Search.{code, Chosen, Not, NoneOf, NoneIn}
+use Rattle.order.proofs.Parts.{slot-right, link-right, pairs-both}
+use Rattle.order.proofs.Pairs.{slots-from}
+use Rattle.order.proofs.Steps.{after, no-more}
 
-module _ (plan : Plan) (l need : ℕ) (weights most : List ℕ) (bound : Bound plan l need weights most) (links : length (plan .links) ≤ 64) (time : plan .timeout ≤ 64) where
+module _ (plan : Plan) (Answers : List ℕ → Type 0) (need : ℕ) (weights most : List ℕ) (bound : Bound plan Answers need weights most)
+    (links : length (plan .links) ≤ mostLinks) where
   -- pairs that are not in a slot before s
   module _ (pre x : List ℕ) (d n s : ℕ) (long : length pre ≡ 2 * d) (rest : length x ≡ 2 * n) (good : isCutList plan (pre ++ x) ≡ true) where
     not-before : s ≤ cutSlot x 0 → NotBefore s x n
@@ -30,9 +33,8 @@ module _ (plan : Plan) (l need : ℕ) (weights most : List ℕ) (bound : Bound p
     one-pair : (j : ℕ) → j < n → s ≤ cutSlot x j → weightIn weights (cutSlot x j) (cutLink x j) ≤ getD most s 0
     one-pair j h low =
         let there : d + j < pairs (pre ++ x) = omega (arith, pairs-both pre x d long n rest) in
-        let high = slot-below plan (pre ++ x) good (d + j) there in
-        let far = link-below plan (pre ++ x) good (d + j) there in
-        bound .later s (cutSlot x j) (cutLink x j) low (omega (arith, high, slot-right pre x d long j)) (omega (arith, far, link-right pre x d long j))
+        bound .later s (cutSlot x j) (cutLink x j) low (rw (slot-right pre x d long j) at (slot-below plan (pre ++ x) good (d + j) there))
+        (rw (link-right pre x d long j) at (link-below plan (pre ++ x) good (d + j) there))
 
     all-weigh : NotBefore s x n → (k : ℕ) → k ≤ n → harm (weightIn weights) x k ≤ k * getD most s 0
     unfolding sumOf
@@ -47,9 +49,9 @@ module _ (plan : Plan) (l need : ℕ) (weights most : List ℕ) (bound : Bound p
     then-weigh later (suc k) h =
         omega (arith, then-weigh later k (omega arith), one-pair (suc k) h (later (suc k) h), suc-mul k (getD most s 0))
 
-  -- a list with k + 1 pairs more that fails has enough weight
+  -- a list with k + 1 pairs more that answers has enough weight
   module _ (pre : List ℕ) (d k a b : ℕ) (x : List ℕ) (long : length pre ≡ 2 * d) (rest : length x ≡ 2 * k) (good : isCutList plan (pre ++ a ∷ b ∷ x) ≡ true)
-      (fails : arrivals plan (pre ++ a ∷ b ∷ x) < l) where
+      (it : Answers (pre ++ a ∷ b ∷ x)) where
     size : length {A = ℕ} (a ∷ b ∷ x) ≡ 2 * suc k
     size = omega arith
 
@@ -59,15 +61,30 @@ module _ (plan : Plan) (l need : ℕ) (weights most : List ℕ) (bound : Bound p
         let first : cutSlot (pre ++ a ∷ b ∷ x) d ≡ a = rw z at (slot-right pre (a ∷ b ∷ x) d long 0) in
         omega (arith, first, slot-below plan (pre ++ a ∷ b ∷ x) good d (omega (arith, pairs-both pre (a ∷ b ∷ x) d long (suc k) size)))
 
-    pub all-later : (s : ℕ) → s ≤ a → need ≤ harmed plan pre s + (1 + k) * getD most s 0
+    all-later : (s : ℕ) → s ≤ a → need ≤ harmed plan pre s + (1 + k) * getD most s 0
     all-later s h =
         let e : 1 + k ≡ suc k = omega arith in
         let later = not-before pre (a ∷ b ∷ x) d (suc k) s long size good h in
-        let enough = bound .enough pre (a ∷ b ∷ x) d (suc k) s (omega (arith, early)) long size later good fails in
+        let enough = bound .enough pre (a ∷ b ∷ x) d (suc k) s (omega (arith, early)) long size later good it in
         rw e (omega (arith, enough, all-weigh pre (a ∷ b ∷ x) d (suc k) s long size good later (suc k) (omega arith)))
 
-    pub then-later : need ≤ harmed plan pre a + weightIn weights a b + k * getD most a 0
+    then-later : need ≤ harmed plan pre a + weightIn weights a b + k * getD most a 0
     then-later =
         let later = not-before pre (a ∷ b ∷ x) d (suc k) a long size good (omega arith) in
-        let enough = bound .enough pre (a ∷ b ∷ x) d (suc k) a (omega (arith, early)) long size later good fails in
+        let enough = bound .enough pre (a ∷ b ∷ x) d (suc k) a (omega (arith, early)) long size later good it in
         omega (arith, enough, then-weigh pre (a ∷ b ∷ x) d (suc k) a long size good later k (omega arith))
+
+  module _ (pre : List ℕ) (d start : ℕ) (chosen : Chosen plan pre d start) (k : ℕ) where
+    -- a pair that is too light
+    pub too-light : (s b : ℕ) → harmed plan pre s + weightIn weights s b + k * getD most s 0 < need → (x : List ℕ) → length x ≡ 2 * k →
+        Not plan Answers (pre ++ s ∷ b ∷ x)
+    too-light s b light x long good it = omega (arith, light, then-later pre d k s b x (chosen .long) long good it)
+
+    -- all pairs from a slot on are
+    pub too-light-now : (s e : ℕ) → e ≤ mostLinks → harmed plan pre s + (1 + k) * getD most s 0 < need → NoneIn plan Answers pre k 0 (code s e) →
+        NoneOf plan Answers pre (1 + k)
+    too-light-now s e h light before =
+        no-more plan Answers links pre d start chosen k s e before
+        (λ a b x long low good it.
+        let n = after plan Answers links pre d start chosen k a b x good in
+        omega (arith, light, all-later pre d k a b x (chosen .long) long good it s (omega (arith, n .link))))

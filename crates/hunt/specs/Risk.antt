@@ -1,14 +1,15 @@
 -- How many messages can still be lost, as the code counts it: those that a pair picked touches, by the table, and that are not at their
 -- targets.
-use Prim.Native.Nat.{ℕ, _+_, _≤_, _<_}
+use Prim.Native.Nat.{ℕ, _+_, _*_, _≤_, _<_}
 use mathlib.Core.Path.{_≡_}
 use mathlib.Core.Bool.{not, _&&_}
 use mathlib.Core.List.{List}
 use lib.ListN.{length, getD}
 use lib.Dec.{ltb, eqb}
-use Rattle.scope.specs.Cuts.{pairs, cutSlot, cutLink}
+use Rattle.scope.specs.Limits.{mostCuts, mostSlots}
+use Rattle.scope.specs.Cuts.{pairs, cutSlot}
 use Rattle.step.specs.declared.Position.{Position}
-use Rattle.cycle.specs.Stand.{home}
+use Rattle.step.specs.Stand.{home}
 use Rattle.touch.specs.Sums.{sumOf, oneIf}
 use Rattle.touch.specs.Touch.{harm}
 use Rattle.touch.specs.Marks.{entryFrom}
@@ -28,9 +29,7 @@ abbrev pub risks : List ℕ → List ℕ → List Position → ℕ → ℕ
 risks table cuts ps n = sumOf (λ m. riskIf (harm (entryFrom table (m + 1)) cuts (pairs cuts)) (getD ps m home)) n
 
 -- the pairs picked may be marked
-pub record MayMarkPicked (table : List ℕ) (p : Picked) : Type 0 where
-  pub entries : length table ≡ 4096
-  pub few : p .count ≤ 3
-  pub long : length (p .numbers) ≡ 6
-  pub slots : (j : ℕ) → j < pairs (cutsOf p) → cutSlot (cutsOf p) j ≤ 64
-  pub links : (j : ℕ) → j < pairs (cutsOf p) → cutLink (cutsOf p) j < 64
+pub record MayMarkPicked (p : Picked) : Type 0 where
+  pub few : p .count ≤ mostCuts
+  pub long : length (p .numbers) ≡ 2 * mostCuts
+  pub slots : (j : ℕ) → j < pairs (cutsOf p) → cutSlot (cutsOf p) j ≤ mostSlots

@@ -1,15 +1,21 @@
 // The search over cut lists: lists are tried in the order of document 01's verdict, fewest pairs first; a list is played from its last
-// pair on, and lists that a bound shows to leave enough are passed over. Of the bound it knows only specs/Bound of `touch`. It leans on
-// `cycle` for a slot and on the theorems of `laws`.
+// pair on, and lists that a bound shows not to answer are passed over. What is asked of a list only `answers` knows, and `hopeless` that
+// no list from here can answer. Of the bound it knows only specs/Bound of `touch`. It leans on `cycle` for a slot, on `order` for the
+// steps from pair to pair and on the theorems of `laws`.
+use scope::limits::CUT_NUMBERS;
+use scope::limits::LINKS;
+use scope::limits::MESSAGES;
 use step::Position;
-use step::Slot;
+use step::Standing;
 ghost use Prim.Native.Nat.{ℕ, _+_, _-_, _*_, _<_, _≤_};
 ghost use mathlib.Core.Path.{_≡_};
-ghost use mathlib.Core.Bool.{false};
 ghost use lib.ListN.{length};
+ghost use lib.Dec.{ltb};
+ghost use Rattle.scope.specs.Limits.{mostCuts, mostSlots, mostLinks, mostMessages};
 ghost use Rattle.scope.specs.Lowest.{seek};
-ghost use Rattle.hunt.specs.Hunt.{cutsOf, withPair, noPair, passes, StandAt, MayPlayOut, MayAdvance, MaySeek, MaySeekIn, Sought, SoughtIn, MayHunt, Hunts};
-ghost use Rattle.touch.specs.Marks.{Marks};
+ghost use Rattle.hunt.specs.Hunt.{cutsOf, withPair, noPair, passes, noFound, noHunted, StandAt};
+ghost use Rattle.hunt.specs.Hunt.{MayPlayOut, MayAdvance, MaySeek, MaySeekIn, Sought, SoughtIn, MayHunt, Hunts};
+ghost use Rattle.touch.specs.Marks.{mostEntries, Marks};
 ghost use Rattle.hunt.specs.Risk.{riskIf, atRisk, MayMarkPicked};
 
 // What is asked of a plan: its timeout, links and messages, the least number of arrivals, and what a list must weigh to leave fewer.
@@ -21,38 +27,49 @@ pub struct Asked {
     pub need: usize,
 }
 
-// The pairs picked so far: how many, the place from which the next one is to be picked, their numbers, and the first slot in which
-// each link is cut.
+// The pairs picked so far: how many, the place from which the next one is to be picked, their numbers, and what is down from the last
+// one's slot on.
 pub struct Picked {
     pub count: usize,
     pub slot: usize,
     pub link: usize,
-    pub numbers: [u16; 6],
-    pub from: [u16; 64],
+    pub numbers: [u16; CUT_NUMBERS],
+    pub down: [u8; LINKS],
 }
 
-// A list that fails, with its arrivals; or none.
+// A list that answers, with its arrivals; or none.
 pub struct Found {
     pub found: bool,
     pub arrivals: usize,
-    pub numbers: [u16; 6],
+    pub numbers: [u16; CUT_NUMBERS],
 }
 
-// The first list that fails, with its pairs and arrivals; or none.
+// The first list that answers, with its pairs and arrivals; or none.
 pub struct Hunted {
     pub found: bool,
     pub pairs: usize,
     pub arrivals: usize,
-    pub numbers: [u16; 6],
+    pub numbers: [u16; CUT_NUMBERS],
 }
 
 fn nothing() -> Found
-    ensures { λ r. ⌜ (r .found ≡ false) × (length (r .numbers) ≡ 6) ⌝ }
+    ensures { λ r. ⌜ r ≡ noFound ⌝ }
 {
     Found {
         found: false,
         arrivals: 0,
-        numbers: [0u16; 6],
+        numbers: [0u16; CUT_NUMBERS],
+    }
+}
+
+pub fn no_list() -> Hunted
+    ensures { λ r. ⌜ r ≡ noHunted ⌝ }
+{
+    Hunted {
+        found: false,
+        pairs: 0,
+        arrivals: 0,
+        numbers: [0u16; CUT_NUMBERS],
     }
 }
 
@@ -63,14 +80,14 @@ fn no_pair() -> Picked
         count: 0,
         slot: 0,
         link: 0,
-        numbers: [0u16; 6],
-        from: [65535u16; 64],
+        numbers: [0u16; CUT_NUMBERS],
+        down: [0u8; LINKS],
     }
 }
 
 // One pair more.
 fn pick(p: Picked, s: usize, e: usize) -> Picked
-    requires { ⌜ (p .count < 3) × (s < 64) × (e < 64) ⌝ }
+    requires { ⌜ (p .count < mostCuts) × (s < mostSlots) × (e < mostLinks) ⌝ }
     ensures { λ r. ⌜ r ≡ withPair p s e ⌝ }
 {
     let at = 2 * p.count;
@@ -80,56 +97,65 @@ fn pick(p: Picked, s: usize, e: usize) -> Picked
     q.link = e + 1;
     q.numbers[at] = s as u16;
     q.numbers[at + 1] = e as u16;
-    q.from[e] = s as u16;
+    q.down[e] = 1;
     q
 }
 
-// A link is not cut already, and heavy enough.
-fn may(from: &[u16], weights: &[u8], base: usize, floor: usize, e: usize) -> bool
-    requires { ⌜ (e < length (now from)) × (base + e < length (now weights)) ⌝ }
-    ensures { λ r. ⌜ r ≡ passes (now (from .entry)) (now (weights .entry)) base floor e ⌝ }
+// This list answers: it leaves too few arrivals.
+fn answers(least: usize, arrivals: usize) -> bool
+    ensures { λ r. ⌜ r ≡ ltb arrivals least ⌝ }
 {
-    if from[e] != 65535 {
+    arrivals < least
+}
+
+// No list from here can answer, if it loses no more messages than so many.
+fn hopeless(need: usize, loss: usize) -> bool
+    ensures { λ r. ⌜ r ≡ ltb loss need ⌝ }
+{
+    loss < need
+}
+
+// How many messages can be lost where so many are at risk and n pairs more are to come.
+fn heaviest(risk: usize, n: usize, top: usize) -> usize
+    requires { ⌜ (risk ≤ 65536) × (n ≤ mostCuts) × (top < 65536) ⌝ }
+    ensures { λ r. ⌜ (r ≡ risk + n * top) × (r ≤ 262144) ⌝ }
+{
+    risk + n * top
+}
+
+// A link is not cut already, and a list that goes on with it can answer.
+fn may(down: &[u8], weights: &[u16], base: usize, need: usize, rest: usize, e: usize) -> bool
+    requires { ⌜ (base + e < length (now weights)) × (rest ≤ 262144) ⌝ }
+    ensures { λ r. ⌜ r ≡ passes (now (down .entry)) (now (weights .entry)) base need rest e ⌝ }
+{
+    if cuts::is_down(down, e) {
         return false;
     }
-    floor <= weights[base + e] as usize
+    let loss = rest + weights[base + e] as usize;
+    !hopeless(need, loss)
 }
 
 // The first link from e on that may be tried, or how many links there are.
 fn next_link(
-    from: &[u16],
-    weights: &[u8],
+    down: &[u8],
+    weights: &[u16],
     base: usize,
-    floor: usize,
+    need: usize,
+    rest: usize,
     e: usize,
     links: usize,
 ) -> usize
-    requires { ⌜ (e ≤ links) × (links ≤ length (now from)) × (base + links ≤ length (now weights)) ⌝ }
-    ensures { λ r. ⌜ r ≡ seek (passes (now (from .entry)) (now (weights .entry)) base floor) (links - e) e ⌝ }
+    requires { ⌜ (e ≤ links) × (base + links ≤ length (now weights)) × (rest ≤ 262144) ⌝ }
+    ensures { λ r. ⌜ r ≡ seek (passes (now (down .entry)) (now (weights .entry)) base need rest) (links - e) e ⌝ }
 {
     let mut i = e;
     while i < links {
-        if may(from, weights, base, floor, i) {
+        if may(down, weights, base, need, rest, i) {
             return i;
         }
         i += 1;
     }
     i
-}
-
-// What a pair must weigh at least if others weigh `rest`.
-fn lacking(need: usize, rest: usize) -> usize
-    ensures { λ r. ⌜ r ≡ need - rest ⌝ }
-{
-    if rest < need { need - rest } else { 0 }
-}
-
-// How many messages can be lost where so many are at risk and n pairs more are to come.
-fn heaviest(risk: usize, n: usize, top: usize) -> usize
-    requires { ⌜ (risk ≤ 65536) × (n ≤ 3) × (top < 256) ⌝ }
-    ensures { λ r. ⌜ r ≡ risk + n * top ⌝ }
-{
-    risk + n * top
 }
 
 // One where a message is marked and not at its target, else 0.
@@ -142,9 +168,9 @@ fn risk_one(p: Position, mark: u8) -> usize
     if mark == 0 { 0 } else { 1 }
 }
 
-// How many of the first n messages are marked and not at their targets.
-fn at_risk(ps: [Position; 32], n: usize, marks: &[u8]) -> usize
-    requires { ⌜ (n ≤ 32) × (length (now marks) ≡ 256) ⌝ }
+// How many of the first n records are marked and not at their targets.
+fn count_risks(ps: [Position; MESSAGES], n: usize, marks: &[u8]) -> usize
+    requires { ⌜ (n ≤ mostMessages) × (length (now marks) ≡ mostEntries) ⌝ }
     ensures { λ r. ⌜ (r ≡ atRisk (now (marks .entry)) ps n) × (r ≤ n) ⌝ }
 {
     let mut count = 0;
@@ -157,9 +183,18 @@ fn at_risk(ps: [Position; 32], n: usize, marks: &[u8]) -> usize
     count
 }
 
+// How many of the first n messages are marked and not at their targets.
+fn at_risk(standing: Standing, n: usize, marks: &[u8]) -> usize
+    requires { ⌜ (n ≤ mostMessages) × (length (now marks) ≡ mostEntries) ⌝ }
+    ensures { λ r. ⌜ (r ≡ atRisk (now (marks .entry)) (standing .positions) n) × (r ≤ n) ⌝ }
+{
+    let ps = standing.positions();
+    count_risks(ps, n, marks)
+}
+
 // The marks of the pairs picked.
 fn marks_of(table: &[u8], p: Picked) -> [u8; 256]
-    requires { ⌜ MayMarkPicked (now table) p ⌝ }
+    requires { ⌜ MayMarkPicked p ⌝ }
     ensures { λ r. ⌜ Marks (now (table .entry)) (cutsOf p) r ⌝ }
 {
     let numbers = p.numbers;
@@ -168,46 +203,35 @@ fn marks_of(table: &[u8], p: Picked) -> [u8; 256]
     marks
 }
 
-// The positions one slot on, under the list picked.
-fn advance(
-    row: &[u16],
-    table: &[u8],
-    a: Asked,
-    ps: [Position; 32],
-    p: Picked,
-    s: usize,
-) -> [Position; 32]
-    requires { ⌜ MayAdvance (now row) (now table) a ps p s ⌝ }
-    ensures { λ r. ⌜ StandAt (now (row .entry)) (a .messages) (cutsOf p) (s + 1) r ⌝ }
+// Where the messages stand one slot on, under the list picked.
+fn advance(row: &[u16], table: &[u8], a: Asked, standing: Standing, p: Picked) -> Standing
+    requires { ⌜ MayAdvance (now row) (now table) a standing p ⌝ }
+    ensures { λ r. ⌜ StandAt (now (row .entry)) (a .messages) (cutsOf p) (standing .time .0 + 1) r ⌝ }
 {
-    let from = p.from;
-    cycle::after_slot(ps, a.messages, row, table, &from, Slot(s))
+    let down = p.down;
+    let time = standing.time();
+    let i = time.begins(a.timeout);
+    standing.after(i, a.messages, row, table, &down)
 }
 
 // The list picked, played from its last pair on as long as enough messages can be lost.
-fn play_out(
-    row: &[u16],
-    table: &[u8],
-    marks: &[u8],
-    a: Asked,
-    ps: [Position; 32],
-    p: Picked,
-) -> Found
+fn play_out(row: &[u16], table: &[u8], marks: &[u8], a: Asked, ps: Standing, p: Picked) -> Found
     requires { ⌜ MayPlayOut (now row) (now table) (now marks) a ps p ⌝ }
-    ensures { λ r. ⌜ Sought (now (row .entry)) (a .least) p 0 r ⌝ }
+    ensures { λ r. ⌜ Sought (now (row .entry)) a p 0 r ⌝ }
 {
     let mut qs = ps;
     let mut i = p.slot;
     while i < a.timeout {
-        if at_risk(qs, a.messages, marks) < a.need {
+        let risk = at_risk(qs, a.messages, marks);
+        if hopeless(a.need, risk) {
             return nothing();
         }
-        let rs = advance(row, table, a, qs, p, i);
+        let rs = advance(row, table, a, qs, p);
         qs = rs;
         i += 1;
     }
     let arrivals = cycle::count_home(qs, a.messages);
-    if arrivals < a.least {
+    if answers(a.least, arrivals) {
         let numbers = p.numbers;
         Found {
             found: true,
@@ -223,10 +247,10 @@ fn play_out(
 fn in_slot(
     row: &[u16],
     table: &[u8],
-    weights: &[u8],
-    most: &[u8],
+    weights: &[u16],
+    most: &[u16],
     a: Asked,
-    ps: [Position; 32],
+    ps: Standing,
     p: Picked,
     n: usize,
     s: usize,
@@ -234,14 +258,14 @@ fn in_slot(
     risk: usize,
 ) -> Found
     requires { ⌜ MaySeekIn (now row) (now table) (now weights) (now most) a ps p n s e risk ⌝ }
-    ensures { λ r. ⌜ SoughtIn (now (row .entry)) (a .least) p n s e r ⌝ }
+    ensures { λ r. ⌜ SoughtIn (now (row .entry)) a p n s e r ⌝ }
 {
-    let from = p.from;
+    let down = p.down;
     let links = a.links;
-    let base = s * 64;
+    let base = s * LINKS;
     let top = most[s] as usize;
-    let floor = lacking(a.need, heaviest(risk, n - 1, top));
-    let mut i = next_link(&from, weights, base, floor, e, links);
+    let rest = heaviest(risk, n - 1, top);
+    let mut i = next_link(&down, weights, base, a.need, rest, e, links);
     while i < links {
         let q = pick(p, s, i);
         let marks = marks_of(table, q);
@@ -249,7 +273,7 @@ fn in_slot(
         if r.found {
             return r;
         }
-        i = next_link(&from, weights, base, floor, i + 1, links);
+        i = next_link(&down, weights, base, a.need, rest, i + 1, links);
     }
     nothing()
 }
@@ -258,16 +282,16 @@ fn in_slot(
 fn level(
     row: &[u16],
     table: &[u8],
-    weights: &[u8],
-    most: &[u8],
+    weights: &[u16],
+    most: &[u16],
     marks: &[u8],
     a: Asked,
-    ps: [Position; 32],
+    ps: Standing,
     p: Picked,
     n: usize,
 ) -> Found
     requires { ⌜ MaySeek (now row) (now table) (now weights) (now most) (now marks) a ps p n ⌝ }
-    ensures { λ r. ⌜ Sought (now (row .entry)) (a .least) p n r ⌝ }
+    ensures { λ r. ⌜ Sought (now (row .entry)) a p n r ⌝ }
 {
     if n == 0 {
         return play_out(row, table, marks, a, ps, p);
@@ -278,14 +302,14 @@ fn level(
     while s < a.timeout {
         let top = most[s] as usize;
         let risk = at_risk(qs, a.messages, marks);
-        if heaviest(risk, n, top) < a.need {
+        if hopeless(a.need, heaviest(risk, n, top)) {
             return nothing();
         }
         let r = in_slot(row, table, weights, most, a, qs, p, n, s, e, risk);
         if r.found {
             return r;
         }
-        let rs = advance(row, table, a, qs, p, s);
+        let rs = advance(row, table, a, qs, p);
         qs = rs;
         s += 1;
         e = 0;
@@ -293,28 +317,20 @@ fn level(
     nothing()
 }
 
-// The first list of at most k pairs that fails, where those of fewer than `low` pairs are known not to.
+// The first list of at most k pairs that answers, where those of fewer than `low` pairs are known not to.
 pub fn first_list(
     row: &[u16],
     table: &[u8],
-    weights: &[u8],
-    most: &[u8],
+    weights: &[u16],
+    most: &[u16],
     a: Asked,
-    ps: [Position; 32],
+    ps: Standing,
     low: usize,
     k: usize,
 ) -> Hunted
     requires { ⌜ MayHunt (now row) (now table) (now weights) (now most) a ps low k ⌝ }
     ensures { λ r. ⌜ Hunts (now (row .entry)) (a .least) k r ⌝ }
 {
-    if a.least == 0 {
-        return Hunted {
-            found: false,
-            pairs: 0,
-            arrivals: 0,
-            numbers: [0u16; 6],
-        };
-    }
     let p = no_pair();
     let marks = marks_of(table, p);
     let mut n = low;
@@ -331,10 +347,5 @@ pub fn first_list(
         }
         n += 1;
     }
-    Hunted {
-        found: false,
-        pairs: 0,
-        arrivals: 0,
-        numbers: [0u16; 6],
-    }
+    no_list()
 }

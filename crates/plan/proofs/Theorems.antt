@@ -13,7 +13,7 @@ use Rattle.scope.specs.Plan.{planOf}
 use Rattle.scope.specs.Good.{rules}
 use Rattle.scope.specs.Questions.{judge, readFile, writeFile}
 use Rattle.bits.proofs.Laws.{AreBytes}
-use Rattle.flow.specs.Longest.{longestRow, longestFile}
+use Rattle.scope.specs.Limits.{longestRow, longestFile}
 use Rattle.flow.proofs.Theorems.{file-row-file, file-row, row-file-row, row-file, file-most, row-most, row-file-most}
 use Rattle.plan.specs.Answers.{GoodRow, Reads, Writes}
 use Rattle.plan.proofs.Outcomes.{then-back, rules-give, room-there, same-answer, only-one}
@@ -27,7 +27,7 @@ accepted-file file lent n e =
     let r = then-back (rules (planOf (rowOf file))) (λ _. room (length (rowOf file)) lent) n (w .2) in
     (w .0, w .1, record { form = file-row file (w .0) (w .1); keeps = rules-give (planOf (rowOf file)) (r .0) (r .1) })
 
-judged : (row : List ℕ) → GoodRow row → judge row ≡ gives (length row)
+pub judged : (row : List ℕ) → GoodRow row → judge row ≡ gives (length row)
 unfolding judge
 judged row g = rw (g .form, g .keeps)
 

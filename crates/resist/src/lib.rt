@@ -1,12 +1,18 @@
-// The verdict: whether every cut list of at most k pairs leaves at least l arrivals, and if not, the first list that does not. It
-// takes anything and asks nothing. It leans on `plan` for refusals 1 to 10, on `hunt` for the search, and on `table`, `touch` and
-// `cycle` for what the search is lent.
+// The verdict: whether every cut list of at most k pairs leaves at least l arrivals, and if not, the first list that does not.
+// `verdict` takes anything and asks nothing; `verdict_good` takes a row that is known to be good. It leans on `plan` for refusals 1 to
+// 10, on `hunt` for the search, and on `table`, `touch` and `cycle` for what the search is lent.
 use hunt::Asked;
 use hunt::Hunted;
 use scope::Answer;
 use scope::Refusal;
+use scope::limits::SLOTS;
+use scope::limits::TABLE;
+use scope::refusal_at;
+use step::Standing;
 ghost use Rattle.hunt.specs.Hunt.{Hunts};
-ghost use Rattle.resist.specs.Verdict.{Answered, Judged, MayAsk};
+ghost use Rattle.plan.specs.Answers.{GoodRow};
+ghost use Rattle.resist.specs.Lent.{MayLend, Lent, MayAskOn};
+ghost use Rattle.resist.specs.Verdict.{Answered, MayAsk};
 
 pub enum Ruling {
     Resistant,
@@ -14,45 +20,77 @@ pub enum Ruling {
     Refused(Refusal),
 }
 
+// What the search is lent of a good row, its table and the weights, and what is asked, but for l.
+pub fn lend(row: &[u16], table: &mut [u8], weights: &mut [u16], most: &mut [u16]) -> Asked
+    requires { ⌜ MayLend (now row) (now table) (now weights) (now most) ⌝ }
+    ensures { λ r. ⌜ Lent (now (row .entry)) (now (table .exit)) (now (weights .exit)) (now (most .exit)) r ⌝ }
+{
+    table::fill_table(row, table);
+    touch::weigh(table, weights);
+    touch::tops(weights, most);
+    Asked {
+        timeout: view::timeout(row),
+        links: view::links(row),
+        messages: view::messages(row),
+        least: 0,
+        need: 0,
+    }
+}
+
+// The first failing list for l, where lists of fewer than `low` pairs are known to leave l arrivals.
+pub fn ask(
+    row: &[u16],
+    table: &[u8],
+    weights: &[u16],
+    most: &[u16],
+    ps: Standing,
+    a: Asked,
+    l: usize,
+    low: usize,
+    k: usize,
+) -> Hunted
+    requires { ⌜ MayAskOn (now row) (now table) (now weights) (now most) ps a l low k ⌝ }
+    ensures { λ r. ⌜ Hunts (now (row .entry)) l k r ⌝ }
+{
+    if l == 0 {
+        return hunt::no_list();
+    }
+    let b = Asked {
+        timeout: a.timeout,
+        links: a.links,
+        messages: a.messages,
+        least: l,
+        need: touch::need(a.messages, l),
+    };
+    hunt::first_list(row, table, weights, most, b, ps, low, k)
+}
+
 // The first failing list of a row that may be asked about.
 fn decide(row: &[u16], k: usize, l: usize) -> Hunted
     requires { ⌜ MayAsk (now row) k l ⌝ }
     ensures { λ r. ⌜ Hunts (now (row .entry)) l k r ⌝ }
 {
-    let mut table = [0u8; 4096];
-    table::fill_table(row, &mut table);
-    let mut weights = [0u8; 4096];
-    touch::weigh(&table, &mut weights);
-    let mut most = [0u8; 64];
-    touch::tops(&weights, &mut most);
-    let messages = view::messages(row);
-    let ps = cycle::start_all(row, messages);
-    let a = Asked {
-        timeout: view::timeout(row),
-        links: view::links(row),
-        messages,
-        least: l,
-        need: touch::need(messages, l),
-    };
-    hunt::first_list(row, &table, &weights, &most, a, ps, 0, k)
+    let mut table = [0u8; TABLE];
+    let mut weights = [0u16; TABLE];
+    let mut most = [0u16; SLOTS];
+    let a = lend(row, &mut table, &mut weights, &mut most);
+    let ps = cycle::start_all(row, a.messages);
+    ask(row, &table, &weights, &most, ps, a, l, 0, k)
 }
 
 // The verdict on a good row: refusals 11 and 13, or the answer.
-fn verdict_good(row: &[u16], k: usize, l: usize, list: &mut [u16]) -> Ruling
-    requires { ⌜ Judged (now row) ⌝ }
+pub fn verdict_good(row: &[u16], k: usize, l: usize, list: &mut [u16]) -> Ruling
+    requires { ⌜ GoodRow (now row) ⌝ }
     ensures { λ r. ⌜ Answered (now (row .entry)) k l (now (list .entry)) (now (list .exit)) r ⌝ }
 {
     if 3 < k {
-        return Ruling::Refused(Refusal { no: 11, place: 0 });
+        return Ruling::Refused(refusal_at(11, 0));
     }
     if view::messages(row) < l {
-        return Ruling::Refused(Refusal { no: 11, place: 0 });
+        return Ruling::Refused(refusal_at(11, 0));
     }
     if list.len() < 2 * k {
-        return Ruling::Refused(Refusal {
-            no: 13,
-            place: 2 * k,
-        });
+        return Ruling::Refused(refusal_at(13, 2 * k));
     }
     let hunted = decide(row, k, l);
     if hunted.found {

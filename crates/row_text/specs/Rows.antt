@@ -6,7 +6,8 @@ use lib.Dec.{ltb, leb, eqb}
 use Rattle.scope.specs.Outcome.{Outcome, gives, refused}
 use Rattle.scope.specs.File.{rowOf}
 use Rattle.scope.specs.Questions.{readFile}
-use Rattle.scope.specs.Lines.{decimal, isDigit, refusedLine, longestRow}
+use Rattle.scope.specs.Limits.{longestRow}
+use Rattle.scope.specs.Lines.{decimal, isDigit, refusedLine}
 
 -- the byte after a number of a row: a space, or a line feed after the last
 abbrev pub mark : List ℕ → ℕ
@@ -23,7 +24,7 @@ unfoldable pub rowText : List ℕ → List ℕ
 rowText file = said (readFile file longestRow)
   where
     said : Outcome → List ℕ
-    said (refused k p) = refusedLine k p
+    said (refused r) = refusedLine r
     said (gives n) = rowLine (rowOf file)
 
 -- A text is read byte by byte. `begun` says that a number has begun, and a is what its digits say so far.

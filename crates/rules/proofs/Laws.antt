@@ -9,7 +9,7 @@ use borrow.Author.Tests.{lt-ltb, le-ltb}
 use lib.ListN.{length, getD, replicate, length-replicate, getD-replicate}
 use lib.Dec.{ltb}
 use Rattle.scope.specs.Lowest.{lowest, some}
-use Rattle.scope.specs.Outcome.{Outcome, refused, unlessSome}
+use Rattle.scope.specs.Outcome.{Outcome, unlessSome, refuse}
 use Rattle.scope.specs.Plan.{Plan, Place, at, messageAt, afterMessage, firstMessage, messageCount, planOf, pathOf}
 use Rattle.scope.specs.Good.{holds, taken}
 use Rattle.scope.specs.SecondPath.{messageIndex}
@@ -17,7 +17,8 @@ use Rattle.view.specs.View.{Is}
 use Rattle.view.specs.Lies.{MessageLies, PlanLies}
 use Rattle.view.proofs.Index.{messages-suc}
 use Rattle.view.proofs.Parts.{path-at, places-length, places-at}
-use Rattle.table.specs.Table.{Table, entryAt, ownerBelow}
+use Rattle.table.specs.Table.{Table, indexOf, entryAt, ownerBelow}
+use Rattle.table.proofs.Entries.{entry-in}
 use Rattle.broken.specs.Broken.{inTable}
 use Rattle.broken.proofs.Seek.{Seeking, seeking-first, seeking-next}
 
@@ -51,7 +52,7 @@ pub no-entries : (n : ℕ) → n ≡ 4096 → Table (λ i e. 0) (replicate n 0)
 no-entries n h =
     record {
       long = length-replicate n 0 ∙ h;
-      is = λ i e hi he. getD-replicate n (i * 64 + e) 0 0 (omega arith);
+      is = λ i e hi he. entry-in (replicate n 0) i e hi he ∙ getD-replicate n (indexOf i e) 0 0 (omega arith);
     }
 
 -- the table of the lower messages has an entry for a place exactly if a lower message holds its link and slot
@@ -84,7 +85,7 @@ module _ (plan : Plan) (m : ℕ) (table : List ℕ) (t : Table (ownerBelow plan 
 
 -- a refusal is given, is not given: r is what a loop found, and n how many things it looked at
 module _ (k : ℕ) (broken : ℕ → Bool) (count : ℕ) (after : Outcome) (r n c : ℕ) (fr : r ≡ lowest broken c) (fn : n ≡ c) (fc : count ≡ c) where
-  pub given : r < n → refused k r ≡ unlessSome k broken count after
+  pub given : r < n → refuse k r ≡ unlessSome k broken count after
   given h = let t : ltb (lowest broken c) c ≡ true = lt-ltb (lowest broken c) c (omega arith) in rw (fc, t, fr)
 
   pub not-given : n ≤ r → after ≡ unlessSome k broken count after

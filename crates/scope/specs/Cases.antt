@@ -6,12 +6,12 @@ use mathlib.Core.List.{List, [], _∷_}
 use lib.ListN.{length, getD}
 use lib.IntN.{ℤ, pos, negsuc}
 use lib.Dec.{eqb}
-use Rattle.scope.specs.Outcome.{Outcome, gives, refused}
+use Rattle.scope.specs.Outcome.{Outcome, gives, refuse}
 use Rattle.scope.specs.File.{rowOf, fileOf}
 use Rattle.scope.specs.Plan.{planOf}
 use Rattle.scope.specs.Cuts.{isCut}
 use Rattle.scope.specs.Slot.{onSecond, atTarget}
-use Rattle.scope.specs.Cycle.{byNumber, tableOf, start, positions, events, eventRow}
+use Rattle.scope.specs.Cycle.{orderOf, tableOf, start, positions, events, eventRow}
 use Rattle.scope.specs.Verdict.{FirstFailing}
 use Rattle.scope.specs.Questions.{readFile, writeFile, replay, mayJudge, slack, maySpare}
 
@@ -73,7 +73,7 @@ brief i e = eqb i 0 && eqb e 0
 -- message m is at its target at a time
 abbrev pub thereAt : List ℕ → List ℕ → ℕ → ℕ → Bool
 thereAt row cuts m time =
-    atTarget (getD (positions byNumber (isCut cuts) (tableOf (planOf row)) 0 time (start (planOf row))) m (onSecond (0 ∷ [])))
+    atTarget (getD (positions (orderOf (planOf row)) (isCut (planOf row) cuts) (tableOf (planOf row)) 0 time (start (planOf row))) m (onSecond (0 ∷ [])))
 
 -- a row of the table: a question with its answer
 pub data Case : Type 0 where
@@ -100,7 +100,7 @@ Holds (plays row cuts n told) =
     (replay row cuts (length told) ≡ gives n) × (eventRow (planOf row) cuts ≡ told)
 Holds (arrives row cuts m time) = (thereAt row cuts m (time - 1) ≡ false) × (thereAt row cuts m time ≡ true)
 Holds (comesAndGoes row down told) =
-    events byNumber down (tableOf (planOf row)) 0 (planOf row .timeout) (start (planOf row)) ≡ told
+    events (orderOf (planOf row)) down (tableOf (planOf row)) 0 (planOf row .timeout) (start (planOf row)) ≡ told
 Holds (spares row m p z) = (maySpare row m p ≡ gives 0) × (slack row m p ≡ z)
 Holds (fails row k l cuts) = (mayJudge row k l (2 * k) ≡ gives (2 * k)) × FirstFailing (planOf row) k l cuts
 
@@ -108,9 +108,9 @@ Holds (fails row k l cuts) = (mayJudge row k l (2 * k) ≡ gives (2 * k)) × Fir
 abbrev pub table : List Case
 table =
     same fileB rowB ∷
-    reads (fileWith 0x10 0x01) 25 (refused 4 129) ∷
-    reads [] 25 (refused 2 0) ∷
-    reads (fileWith 0x20 0x00) 25 (refused 1 0) ∷
+    reads (fileWith 0x10 0x01) 25 (refuse 4 129) ∷
+    reads [] 25 (refuse 2 0) ∷
+    reads (fileWith 0x20 0x00) 25 (refuse 1 0) ∷
     plays rowB (0 ∷ 0 ∷ []) 2
     (3 ∷ 1 ∷ 5 ∷ 0 ∷ 3 ∷ 2 ∷ 3 ∷ 1 ∷ 0 ∷ 0 ∷ 3 ∷ 2 ∷ 0 ∷ 0 ∷ 0 ∷ 0 ∷ []) ∷
     plays rowB (1 ∷ 0 ∷ []) 2

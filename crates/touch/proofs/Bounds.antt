@@ -1,9 +1,9 @@
 -- The tables are a bound.
-use Prim.Native.Nat.{ℕ, _+_, _-_, _*_, _/_, _≤_, _<_}
+use Prim.Native.Nat.{ℕ, _+_, _-_, _*_, _/_, _%_, _≤_, _<_}
 use native.Mathlib.Omega.{arith}
-use mathlib.Core.Path.{_≡_, sym, _∙_, ap}
+use mathlib.Core.Path.{_≡_, sym, _∙_, ap, ap₂}
 use mathlib.Core.List.{List, _++_}
-use lib.ListN.{length, getD}
+use lib.ListN.{length}
 use lib.Dec.{ltb}
 use Rattle.scope.specs.Outcome.{gives}
 use Rattle.scope.specs.Plan.{Plan}
@@ -11,38 +11,42 @@ use Rattle.scope.specs.Good.{rules}
 use Rattle.scope.specs.Cuts.{pairs, cutSlot, cutLink}
 use Rattle.scope.specs.Cycle.{tableOf}
 use Rattle.scope.proofs.Cuts.{slot-below, link-below}
-use Rattle.table.specs.Table.{Table}
+use Rattle.scope.specs.Limits.{mostSlots, mostLinks}
+use Rattle.table.specs.Table.{indexOf, entryAt, Table}
 use Rattle.touch.specs.Sums.{oneIf}
-use Rattle.touch.specs.Bound.{weightIn, Bound}
-use Rattle.touch.specs.Touch.{harm, touches}
+use Rattle.touch.specs.Bound.{weightIn, Bound, Fails}
+use Rattle.touch.specs.Touch.{harm, touchedIn, touches}
 use Rattle.touch.specs.Weights.{entriesFrom, Weighs, Tops}
-use Rattle.touch.proofs.Sums.{sum-same}
-use Rattle.touch.proofs.Parts.{slot-right, link-right, pairs-both}
+use Rattle.order.proofs.Parts.{slot-right, link-right, pairs-both}
+use Rattle.touch.proofs.Sums.{sum-same, sum-le, sum-fewer}
 use Rattle.touch.proofs.Harmed.{loses-no-more-from}
 
--- the weight of a pair is how many messages it touches
-weight-is : (owner : ℕ → ℕ → ℕ) (table weights : List ℕ) → Table owner table → Weighs table weights → (s e : ℕ) → s < 64 → e < 64 →
-    touches owner s e ≡ weightIn weights s e
+-- the weight of a pair is how many messages the table has on its link from its slot on
+weight-is : (owner : ℕ → ℕ → ℕ) (table weights : List ℕ) → Table owner table → Weighs table weights → (s e : ℕ) → s < mostSlots → e < mostLinks →
+    touchedIn owner (mostSlots - s) s e ≡ weightIn weights s e
 weight-is owner table weights t w s e hs he =
-    let k : (s * 64 + e) / 64 ≡ s = omega arith in
-    sum-same (λ i. oneIf (ltb 0 (owner (s + i) e))) (λ i. oneIf (ltb 0 (getD table (s * 64 + e + i * 64) 0))) (64 - s)
-    (λ i l.
-    let j : (s + i) * 64 + e ≡ s * 64 + e + i * 64 = omega arith in
-    ap (λ (x : ℕ). oneIf (ltb 0 x)) (sym (t .is (s + i) e (omega arith) he) ∙ ap (λ (x : ℕ). getD table x 0) j)) ∙
-    ap (λ (n : ℕ). entriesFrom table (64 - n) (s * 64 + e)) (sym k) ∙ sym (w .is (s * 64 + e) (omega arith))
+    let slot : s ≡ indexOf s e / mostLinks = omega arith in
+    let link : e ≡ indexOf s e % mostLinks = omega arith in
+    sum-same (λ i. oneIf (ltb 0 (owner (s + i) e))) (λ i. oneIf (ltb 0 (entryAt table (s + i) e))) (mostSlots - s)
+    (λ i l. ap (λ (x : ℕ). oneIf (ltb 0 x)) (sym (t .is (s + i) e (omega arith) he))) ∙
+    ap₂ (entriesFrom table) slot link ∙ sym (w .is (indexOf s e) (omega arith))
 
-pub bound : (plan : Plan) (l need : ℕ) (table weights most : List ℕ) → rules plan ≡ gives 0 → plan .timeout ≤ 64 → length (plan .links) ≤ 64 →
-    Table (tableOf plan) table → Weighs table weights → Tops weights most → need ≡ length (plan .messages) + 1 - l → Bound plan l need weights most
+pub bound : (plan : Plan) (l need : ℕ) (table weights most : List ℕ) → rules plan ≡ gives 0 → plan .timeout ≤ mostSlots → length (plan .links) ≤ mostLinks →
+    Table (tableOf plan) table → Weighs table weights → Tops weights most → need ≡ length (plan .messages) + 1 - l → Bound plan (Fails plan l) need weights most
 bound plan l need table weights most g time links t w m e =
     record {
       enough = λ pre x d n s early long rest later good fails.
-          let same : harm (touches (tableOf plan)) x n ≡ harm (weightIn weights) x n =
-          sum-same (λ j. touches (tableOf plan) (cutSlot x j) (cutLink x j)) (λ j. weightIn weights (cutSlot x j) (cutLink x j)) n
+          let less : harm (touches plan) x n ≤ harm (weightIn weights) x n =
+          sum-le (λ j. touches plan (cutSlot x j) (cutLink x j)) (λ j. weightIn weights (cutSlot x j) (cutLink x j)) n
           (λ j h.
           let there : d + j < pairs (pre ++ x) = omega (arith, pairs-both pre x d long n rest) in
-          weight-is (tableOf plan) table weights t w (cutSlot x j) (cutLink x j)
-          (omega (arith, slot-below plan (pre ++ x) good (d + j) there, slot-right pre x d long j))
-          (omega (arith, link-below plan (pre ++ x) good (d + j) there, link-right pre x d long j))) in
-          omega (arith, same, loses-no-more-from plan pre x d n s g time early long rest later);
-      later = m .later;
+          let slot : cutSlot x j < plan .timeout = rw (slot-right pre x d long j) at (slot-below plan (pre ++ x) good (d + j) there) in
+          let link : cutLink x j < length (plan .links) = rw (link-right pre x d long j) at (link-below plan (pre ++ x) good (d + j) there) in
+          omega (
+            arith,
+            weight-is (tableOf plan) table weights t w (cutSlot x j) (cutLink x j) (omega arith) (omega arith),
+            sum-fewer (λ i. oneIf (ltb 0 (tableOf plan (cutSlot x j + i) (cutLink x j)))) (plan .timeout - cutSlot x j) (mostSlots - cutSlot x j) (omega arith),
+          )) in
+          omega (arith, less, loses-no-more-from plan pre x d n s g early long rest later);
+      later = λ s i e a b c. m .later s i e a (omega arith) (omega arith);
     }

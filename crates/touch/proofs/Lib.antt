@@ -1,5 +1,4 @@
 pub mod Sums
-pub mod Some
 pub mod Parts
 pub mod Touch
 pub mod Harmed

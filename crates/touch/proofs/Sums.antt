@@ -30,6 +30,16 @@ sum-term f (suc n) i l = by (ltb i n) refl (sum-term f n i)
     by true h more = omega (arith, more (ltb-true i n h))
     by false h more = let e : i ≡ n = omega (arith, ltb-false i n h) in omega (arith, at n e)
 
+-- fewer terms are no more
+pub sum-fewer : (f : ℕ → ℕ) (n m : ℕ) → n ≤ m → sumOf f n ≤ sumOf f m
+unfolding sumOf
+sum-fewer f n zero l = let z : n ≡ 0 = omega arith in rw z (omega arith)
+sum-fewer f n (suc m) l = by (ltb m n) refl (sum-fewer f n m)
+  where
+    by : (b : Bool) → ltb m n ≡ b → (n ≤ m → sumOf f n ≤ sumOf f m) → sumOf f n ≤ sumOf f m + f m
+    by true h more = let e : n ≡ suc m = omega (arith, ltb-true m n h) in rw e (omega arith)
+    by false h more = omega (arith, more (ltb-false m n h))
+
 pub sum-first : (f : ℕ → ℕ) (n : ℕ) → sumOf f (suc n) ≡ f 0 + sumOf (λ i. f (suc i)) n
 unfolding sumOf
 sum-first f zero = omega arith

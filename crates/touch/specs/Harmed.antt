@@ -11,22 +11,26 @@ use Rattle.scope.specs.Plan.{Plan}
 use Rattle.scope.specs.Good.{rules}
 use Rattle.scope.specs.Slot.{Position, atTarget}
 use Rattle.scope.specs.Cuts.{pairs, cutSlot, isCut}
-use Rattle.scope.specs.Cycle.{byNumber, tableOf, start, positions, arrivals}
+use Rattle.scope.specs.Cycle.{orderOf, tableOf, start, positions, arrivals}
 use Rattle.laws.specs.Message.{positionOf}
 use Rattle.touch.specs.Sums.{sumOf, oneIf}
 use Rattle.touch.specs.Touch.{harm, touches}
 
--- in how many slots from slot s on the table gives link e to message m
-abbrev pub hers : (ℕ → ℕ → ℕ) → ℕ → ℕ → ℕ → ℕ
-hers owner m s e = sumOf (λ i. oneIf (eqb (owner (s + i) e) (m + 1))) (64 - s)
+-- in how many of n slots from slot s on the table gives link e to message m
+abbrev pub hersIn : (ℕ → ℕ → ℕ) → ℕ → ℕ → ℕ → ℕ → ℕ
+hersIn owner n m s e = sumOf (λ i. oneIf (eqb (owner (s + i) e) (m + 1))) n
+
+-- and in the plan's slots
+abbrev pub hers : Plan → ℕ → ℕ → ℕ → ℕ
+hers plan m s e = hersIn (tableOf plan) (plan .timeout - s) m s e
 
 -- a pair of the list touches message m
 abbrev pub isTouched : Plan → List ℕ → ℕ → Bool
-isTouched plan cuts m = ltb 0 (harm (hers (tableOf plan) m) cuts (pairs cuts))
+isTouched plan cuts m = ltb 0 (harm (hers plan m) cuts (pairs cuts))
 
 -- where message m stands at time s
 abbrev pub stands : Plan → List ℕ → ℕ → ℕ → Position
-stands plan cuts s m = positionOf m (positions byNumber (isCut cuts) (tableOf plan) 0 s (start plan))
+stands plan cuts s m = positionOf m (positions (orderOf plan) (isCut plan cuts) (tableOf plan) 0 s (start plan))
 
 -- how many messages the list touches that are not at their targets at time s
 abbrev pub harmed : Plan → List ℕ → ℕ → ℕ
@@ -39,5 +43,5 @@ NotBefore s cuts n = (j : ℕ) → j < n → s ≤ cutSlot cuts j
 -- a list that goes on from slot s or later loses no more messages than its first part harms at time s and its later pairs touch
 abbrev pub LosesNoMoreFrom : Type 0
 LosesNoMoreFrom =
-    (plan : Plan) (pre x : List ℕ) (d n s : ℕ) → rules plan ≡ gives 0 → plan .timeout ≤ 64 → s ≤ plan .timeout → length pre ≡ 2 * d → length x ≡ 2 * n →
-    NotBefore s x n → length (plan .messages) ≤ arrivals plan (pre ++ x) + (harmed plan pre s + harm (touches (tableOf plan)) x n)
+    (plan : Plan) (pre x : List ℕ) (d n s : ℕ) → rules plan ≡ gives 0 → s ≤ plan .timeout → length pre ≡ 2 * d → length x ≡ 2 * n → NotBefore s x n →
+    length (plan .messages) ≤ arrivals plan (pre ++ x) + (harmed plan pre s + harm (touches plan) x n)

@@ -1,5 +1,5 @@
 -- "a list loses no more messages than it touches": a pair touches the messages that have its link before them in its slot or later.
-use Prim.Native.Nat.{ℕ, _+_, _-_, _≤_}
+use Prim.Native.Nat.{ℕ, _+_, _-_, _*_, _≤_}
 use mathlib.Core.Path.{_≡_}
 use mathlib.Core.List.{List}
 use lib.ListN.{length}
@@ -7,7 +7,7 @@ use lib.Dec.{ltb}
 use Rattle.scope.specs.Outcome.{gives}
 use Rattle.scope.specs.Plan.{Plan}
 use Rattle.scope.specs.Good.{rules}
-use Rattle.scope.specs.Cuts.{pairs, cutSlot, cutLink}
+use Rattle.scope.specs.Cuts.{cutSlot, cutLink}
 use Rattle.scope.specs.Cycle.{tableOf, arrivals}
 use Rattle.touch.specs.Sums.{sumOf, oneIf}
 
@@ -19,12 +19,12 @@ harm weight cuts n = sumOf (λ j. weight (cutSlot cuts j) (cutLink cuts j)) n
 abbrev pub touchedIn : (ℕ → ℕ → ℕ) → ℕ → ℕ → ℕ → ℕ
 touchedIn owner n s e = sumOf (λ i. oneIf (ltb 0 (owner (s + i) e))) n
 
--- a pair touches no message in a slot from 64 on, where no plan has any
-abbrev pub touches : (ℕ → ℕ → ℕ) → ℕ → ℕ → ℕ
-touches owner s e = touchedIn owner (64 - s) s e
+-- a pair touches those of its slot and every later one of the plan
+abbrev pub touches : Plan → ℕ → ℕ → ℕ
+touches plan s e = touchedIn (tableOf plan) (plan .timeout - s) s e
 
 -- a list loses no more messages than it touches
 abbrev pub LosesNoMore : Type 0
 LosesNoMore =
-    (plan : Plan) (cuts : List ℕ) → rules plan ≡ gives 0 → plan .timeout ≤ 64 →
-    length (plan .messages) ≤ arrivals plan cuts + harm (touches (tableOf plan)) cuts (pairs cuts)
+    (plan : Plan) (cuts : List ℕ) (n : ℕ) → rules plan ≡ gives 0 → length cuts ≡ 2 * n →
+    length (plan .messages) ≤ arrivals plan cuts + harm (touches plan) cuts n

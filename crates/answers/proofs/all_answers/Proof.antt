@@ -1,12 +1,12 @@
--- `answers::all_answers` meets its contract: refusals 1 to 10, or what `all_good` answers.
-use Rattle.plan.proofs.Ways.{gave, refused-as}
+-- `answers::all_answers` meets its contract: refusals 1 to 10, or what `answers_good` answers.
+use Rattle.plan.proofs.Ways.{gave, refused-as, good-row}
 use Rattle.answers.proofs.Ways.{bad-row}
 use borrow.Author.Needs.{needs}
 use Rattle.answers.proofs.all_answers.Statement.{statement}
 use Rattle.answers.proofs.all_answers.Tie as tie
 use Rattle.answers.proofs.all_answers.Reads as reads
 use Rattle.answers.proofs.all_answers.Lts as lts
-use Rattle.answers.proofs.all_good.Reads as all-good-reads
+use Rattle.answers.proofs.answers_good.Reads as answers-good-reads
 use Rattle.plan.proofs.judge.Reads as judge-reads
 
 judge-requires : tie.Need-judge-requires
@@ -18,8 +18,8 @@ enum-known-judged c = search needs
 enum-told : tie.Need-enum-told
 enum-told c = search needs
 
-all-good-requires : tie.Need-all-good-requires
-all-good-requires c κs = record { size = _; good = gave _ (c .before .enum-told .given .1) (c .before .before .before .judge .ensures) }
+answers-good-requires : tie.Need-answers-good-requires
+answers-good-requires c κs = good-row _ _ (gave _ (c .before .enum-told .given .1) (c .before .before .before .judge .ensures))
 
 returns : tie.Need-returns
 returns c = bad-row (c .before .before .before .before .before .before .args .row .now) (c .before .before .before .before .before .before .args .k) (c .before .before .before .before .before .before .args .out .now) _ (refused-as _ (c .before .judged .given .1) (c .before .before .before .judge .ensures))
@@ -37,7 +37,7 @@ all-answers-spec =
     judge-requires
     enum-known-judged
     enum-told
-    all-good-requires
+    answers-good-requires
     returns
     same-length
     returns-2)

@@ -1,6 +1,6 @@
--- `answers::fill` meets its contract: what the search is lent is right.
-use Rattle.resist.proofs.Asking.{lies, may-start}
-use Rattle.answers.proofs.Ways.{may-fill}
+-- `answers::fill` meets its contract: the search is asked of what it is lent.
+use native.Mathlib.Omega.{arith}
+use Rattle.resist.proofs.Asking.{may-start, may-ask-on}
 use borrow.Author.Needs.{needs}
 use Rattle.answers.proofs.fill.Statement.{statement}
 use Rattle.answers.proofs.fill.Tie as tie
@@ -8,48 +8,24 @@ use Rattle.answers.proofs.fill.Reads as reads
 use Rattle.answers.proofs.fill.Lts as lts
 use Rattle.answers.proofs.descend.Reads as descend-reads
 use Rattle.cycle.proofs.start_all.Reads as start-all-reads
-use Rattle.table.proofs.fill_table.Reads as fill-table-reads
-use Rattle.touch.proofs.tops.Reads as tops-reads
-use Rattle.touch.proofs.weigh.Reads as weigh-reads
-use Rattle.view.proofs.links.Reads as links-reads
-use Rattle.view.proofs.messages.Reads as messages-reads
-use Rattle.view.proofs.timeout.Reads as timeout-reads
+use Rattle.resist.proofs.lend.Reads as lend-reads
 
-slice-aggregate-fill-table : tie.Need-slice-aggregate-fill-table
-slice-aggregate-fill-table c = search needs
+slice-aggregate-lend : tie.Need-slice-aggregate-lend
+slice-aggregate-lend c = search needs
 
-fill-table-requires : tie.Need-fill-table-requires
-fill-table-requires c κs = (search needs, lies (c .before .before .before .args .row .now) (c .before .before .before .pre .judged) .messages)
+slice-aggregate-lend-2 : tie.Need-slice-aggregate-lend-2
+slice-aggregate-lend-2 c = search needs
 
-slice-aggregate-weigh : tie.Need-slice-aggregate-weigh
-slice-aggregate-weigh c = search needs
+slice-aggregate-lend-3 : tie.Need-slice-aggregate-lend-3
+slice-aggregate-lend-3 c = search needs
 
-slice-aggregate-weigh-2 : tie.Need-slice-aggregate-weigh-2
-slice-aggregate-weigh-2 c = search needs
-
-weigh-requires : tie.Need-weigh-requires
-weigh-requires c κs = search needs
-
-slice-aggregate-tops : tie.Need-slice-aggregate-tops
-slice-aggregate-tops c = search needs
-
-slice-aggregate-tops-2 : tie.Need-slice-aggregate-tops-2
-slice-aggregate-tops-2 c = search needs
-
-tops-requires : tie.Need-tops-requires
-tops-requires c κs = search needs
-
-messages-requires : tie.Need-messages-requires
-messages-requires c κs = search needs
+lend-requires : tie.Need-lend-requires
+lend-requires c κs = search needs
 
 start-all-requires : tie.Need-start-all-requires
-start-all-requires c κs = may-start (c .before .before .before .before .before .before .before .before .before .before .before .before .before .before .args .row .now) (c .before .before .before .before .before .before .before .before .before .before .before .before .before .before .pre .judged) _ (c .messages .ensures .is)
-
-timeout-requires : tie.Need-timeout-requires
-timeout-requires c κs = search needs
-
-links-requires : tie.Need-links-requires
-links-requires c κs = search needs
+start-all-requires c κs =
+    may-start _ (c .before .before .before .before .before .before .before .before .before .pre .good) _ _ _ _
+    (c .before .before .before .lend .ensures)
 
 slice-aggregate-descend : tie.Need-slice-aggregate-descend
 slice-aggregate-descend c = search needs
@@ -61,7 +37,9 @@ slice-aggregate-descend-3 : tie.Need-slice-aggregate-descend-3
 slice-aggregate-descend-3 c = search needs
 
 descend-requires : tie.Need-descend-requires
-descend-requires c κs = may-fill (c .before .before .before .before .before .before .before .before .before .before .before .before .before .before .before .before .before .before .before .before .before .args .row .now) _ _ (c .before .before .before .before .before .before .before .before .before .before .before .before .before .before .before .before .before .before .before .before .before .pre) _ _ _ (c .before .before .before .before .before .timeout .ensures .is) (c .before .before .before .before .links .ensures .is) (c .before .before .before .before .before .before .before .messages .ensures .is) _ _ _ _ (c .before .before .before .before .before .before .before .before .before .before .before .before .before .before .before .before .before .fill-table .ensures) (c .before .before .before .before .before .before .before .before .before .before .before .before .before .weigh .ensures) (c .before .before .before .before .before .before .before .before .before .tops .ensures) (c .before .before .before .before .before .before .start-all .ensures) 0 0
+descend-requires c κs =
+    record
+    { ask = may-ask-on _ (c .before .before .before .before .before .before .before .before .before .before .before .before .before .before .pre .good) _ _ _ _ (c .before .before .before .before .before .before .before .before .lend .ensures) _ (c .before .before .before .before .start-all .ensures) _ _ (omega arith) (c .before .before .before .before .before .before .before .before .before .before .before .before .before .before .pre .few); enough = c .before .before .before .before .before .before .before .before .before .before .before .before .before .before .pre .enough }
 
 same-length : tie.Need-same-length
 same-length c = search needs
@@ -73,18 +51,11 @@ pub fill-spec : {M : Type 1} → statement M
 fill-spec =
     tie.close
     (tie.spec
-    slice-aggregate-fill-table
-    fill-table-requires
-    slice-aggregate-weigh
-    slice-aggregate-weigh-2
-    weigh-requires
-    slice-aggregate-tops
-    slice-aggregate-tops-2
-    tops-requires
-    messages-requires
+    slice-aggregate-lend
+    slice-aggregate-lend-2
+    slice-aggregate-lend-3
+    lend-requires
     start-all-requires
-    timeout-requires
-    links-requires
     slice-aggregate-descend
     slice-aggregate-descend-2
     slice-aggregate-descend-3

@@ -41,7 +41,7 @@ entry-requires c κs = search needs
 returns : tie.Need-returns Inv-loop μ-loop
 returns c = let a = c .before .before .before .before .before .before .before .before .before .args in
     let l = c .before .before .before .before .before .loop in
-    sym (law.entry-there (a .row .now) (c .before .before .before .before .before .before .place-count .result) (l .at) (l .k) (a .table .now) (c .before .before .before .number .result) (c .before .before .number2 .result) (c .before .entry .result) (c .before .before .before .before .loop-test .taken) (c .before .before .before .number .ensures .is) (c .before .before .number2 .ensures .is) (c .before .entry .ensures .is) (c .if1 .taken)) ∙ l .inv .1
+    sym (law.entry-there (a .row .now) (c .before .before .before .before .before .before .place-count .result) (l .at) (l .k) (a .table .now) (c .before .before .before .number .result) (c .before .before .number2 .result) (c .before .entry .result) (c .before .before .before .before .loop-test .taken) (c .before .before .before .number .ensures .is) (c .before .before .number2 .ensures .is) (c .before .entry .ensures) (c .if1 .taken)) ∙ l .inv .1
 
 place-size-requires : tie.Need-place-size-requires Inv-loop μ-loop
 place-size-requires c κs = search needs
@@ -59,7 +59,7 @@ loop-again : tie.Need-loop-again Inv-loop μ-loop
 loop-again c = let a = c .before .before .before .before .before .before .before .before .before .before .args in
     let l = c .before .before .before .before .before .before .loop in
     let n = c .before .before .before .before .before .before .before .place-count .result in
-    let g = law.entry-next (a .row .now) n (l .at) (l .k) (a .table .now) (c .before .before .before .before .number .result) (c .before .before .before .number2 .result) (c .before .before .entry .result) (c .before .before .before .before .before .loop-test .taken) (c .before .before .before .before .number .ensures .is) (c .before .before .before .number2 .ensures .is) (c .before .before .entry .ensures .is) (c .place-size .result) (c .place-size .ensures .is) (c .before .if1 .left) in
+    let g = law.entry-next (a .row .now) n (l .at) (l .k) (a .table .now) (c .before .before .before .before .number .result) (c .before .before .before .number2 .result) (c .before .before .entry .result) (c .before .before .before .before .before .loop-test .taken) (c .before .before .before .before .number .ensures .is) (c .before .before .before .number2 .ensures .is) (c .before .before .entry .ensures) (c .place-size .result) (c .place-size .ensures .is) (c .before .if1 .left) in
     (law.passing-next (a .row .now) (a .i) n (l .at) (l .k) (c .place-size .result) (l .inv .0) (c .before .before .before .before .before .loop-test .taken) (c .place-size .ensures .is) (c .place-size .ensures .small), g ∙ l .inv .1)
 
 returns-2 : tie.Need-returns-2 Inv-loop μ-loop

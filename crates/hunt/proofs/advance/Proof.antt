@@ -1,19 +1,39 @@
--- `hunt::advance` meets its contract.
-use Rattle.hunt.proofs.Playing.{advanced}
+-- `hunt::advance` meets its contract: one slot on, under the list picked.
+use native.Mathlib.Omega.{arith}
+use mathlib.Core.Path.{ap}
+use Rattle.step.specs.declared.Time.{Time}
+use Rattle.hunt.proofs.Playing.{may-step, stepped}
 use borrow.Author.Needs.{needs}
 use Rattle.hunt.proofs.advance.Statement.{statement}
 use Rattle.hunt.proofs.advance.Tie as tie
 use Rattle.hunt.proofs.advance.Reads as reads
 use Rattle.hunt.proofs.advance.Lts as lts
+use Rattle.step.proofs.Standing.after.Reads as after-reads
+use Rattle.step.proofs.Standing.time.Reads as time-reads
+use Rattle.step.proofs.Time.begins.Reads as begins-reads
 
-slice-aggregate-after-slot : tie.Need-slice-aggregate-after-slot
-slice-aggregate-after-slot c = search needs
+time-requires : tie.Need-time-requires
+time-requires c κs = search needs
 
-after-slot-requires : tie.Need-after-slot-requires
-after-slot-requires c κs = search needs
+begins-requires : tie.Need-begins-requires
+begins-requires c κs = omega (arith, c .before .before .before .before .pre .early, ap (λ (t : Time). t .0) (c .time .ensures))
+
+slice-aggregate-after : tie.Need-slice-aggregate-after
+slice-aggregate-after c = search needs
+
+after-requires : tie.Need-after-requires
+after-requires c κs =
+    may-step _ _ _ _ (c .before .before .before .before .before .before .pre .play)
+    (c .before .before .before .before .before .before .pre .holding) _ (c .before .before .before .before .before .before .pre) _ _
+    (c .before .before .time .ensures) (c .before .begins .ensures)
 
 returns : tie.Need-returns
-returns c = advanced _ _ _ _ (c .before .before .before .before .before .pre .play) (c .before .before .before .before .before .pre .holding) _ _ _ (c .before .before .before .before .before .pre .early) (c .before .before .before .before .before .pre .stand) (c .after-slot .ensures)
+returns c =
+    stepped _ _ _ _ (c .before .before .before .before .before .before .before .pre .play)
+    (c .before .before .before .before .before .before .before .pre .holding) _
+    (c .before .before .before .before .before .before .before .pre) _ _ (c .before .before .before .time .ensures)
+    (c .before .before .begins .ensures) _ (c .after .ensures)
 
 pub advance-spec : {M : Type 1} → statement M
-advance-spec = tie.close (tie.spec slice-aggregate-after-slot after-slot-requires returns)
+advance-spec =
+    tie.close (tie.spec time-requires begins-requires slice-aggregate-after after-requires returns)

@@ -3,7 +3,7 @@ use Prim.Native.Nat.{_+_, _-_}
 use mathlib.Core.Path.{refl}
 use native.Mathlib.Omega.{arith}
 use borrow.Author.Needs.{needs}
-use Rattle.hunt.proofs.Hunting.{none-for-nought, Hunting, hunt-first, may-mark-none, may-seek, hunt-some, hunt-on, hunt-over}
+use Rattle.hunt.proofs.Hunting.{Hunting, hunt-first, may-mark-none, may-seek, hunt-some, hunt-on, hunt-over}
 use Rattle.hunt.proofs.first_list.Statement.{statement}
 use Rattle.hunt.proofs.first_list.Tie as tie
 use Rattle.hunt.proofs.first_list.Reads as reads
@@ -11,6 +11,7 @@ use Rattle.hunt.proofs.first_list.Lts as lts
 use Rattle.hunt.proofs.level.Reads as level-reads
 use Rattle.hunt.proofs.marks_of.Reads as marks-of-reads
 use Rattle.hunt.proofs.no_pair.Reads as no-pair-reads
+use Rattle.hunt.proofs.no_list.Reads as no-list-reads
 
 abbrev Inv-loop : tie.InvT-loop
 Inv-loop row table weights most a ps low k p marks n₀ n = Hunting row a low k n
@@ -18,38 +19,51 @@ Inv-loop row table weights most a ps low k p marks n₀ n = Hunting row a low k 
 abbrev μ-loop : tie.MeasureT-loop
 μ-loop row table weights most a ps low k p marks n₀ n = k + 1 - n
 
-returns : tie.Need-returns Inv-loop μ-loop
-returns c = none-for-nought _ _ _ _ (c .if1 .taken) refl refl refl
-
 no-pair-requires : tie.Need-no-pair-requires Inv-loop μ-loop
 no-pair-requires c κs = search needs
 
 marks-of-requires : tie.Need-marks-of-requires Inv-loop μ-loop
-marks-of-requires c κs = may-mark-none _ _ _ _ _ _ _ _ (c .before .before .before .before .before .before .before .pre) _ (c .no-pair .ensures)
+marks-of-requires c κs = may-mark-none _ _ _ _ _ _ _ _ (c .before .before .before .before .before .pre) _ (c .no-pair .ensures)
 
 loop-holds : tie.Need-loop-holds Inv-loop μ-loop
-loop-holds c = hunt-first _ _ _ _ _ _ _ _ (c .before .before .before .before .before .before .before .before .pre)
+loop-holds c = hunt-first _ _ _ _ _ _ _ _ (c .before .before .before .before .before .before .pre)
 
 slice-aggregate-level : tie.Need-slice-aggregate-level Inv-loop μ-loop
 slice-aggregate-level c = search needs
 
 level-requires : tie.Need-level-requires Inv-loop μ-loop
-level-requires c κs = may-seek _ _ _ _ _ _ _ _ (c .before .before .before .before .before .before .before .before .before .before .before .pre) _ _ _ (c .before .loop-test .taken) (c .before .before .before .before .no-pair .ensures) (c .before .before .before .marks-of .ensures)
+level-requires c κs =
+    may-seek _ _ _ _ _ _ _ _ (c .before .before .before .before .before .before .before .before .before .pre) _ _ _
+    (c .before .loop-test .taken) (c .before .before .before .before .no-pair .ensures) (c .before .before .before .marks-of .ensures)
 
-returns-2 : tie.Need-returns-2 Inv-loop μ-loop
-returns-2 c = hunt-some _ _ _ _ _ _ _ _ (c .before .before .before .before .before .before .before .before .before .before .before .before .before .before .pre) _ (c .before .before .before .before .before .loop .inv) _ _ (c .before .before .before .before .before .before .before .no-pair .ensures) (c .before .before .level .ensures) _ (c .before .before .before .before .loop-test .taken) (c .before .if2 .taken) refl refl refl refl
+returns : tie.Need-returns Inv-loop μ-loop
+returns c =
+    hunt-some _ _ _ _ _ _ _ _ (c .before .before .before .before .before .before .before .before .before .before .before .before .pre) _
+    (c .before .before .before .before .before .loop .inv) _ _
+    (c .before .before .before .before .before .before .before .no-pair .ensures) (c .before .before .level .ensures) _
+    (c .before .before .before .before .loop-test .taken) (c .before .if1 .taken) refl refl refl refl
 
 add-n : tie.Need-add-n Inv-loop μ-loop
-add-n c = omega (arith, c .before .before .before .loop-test .taken, c .before .before .before .before .before .before .before .before .before .before .before .before .before .pre .few)
+add-n c =
+    omega
+    (arith, c .before .before .before .loop-test .taken, c .before .before .before .before .before .before .before .before .before .before .before .pre .few)
 
 loop-less : tie.Need-loop-less Inv-loop μ-loop
 loop-less c = omega (arith, c .before .before .before .loop-test .taken)
 
 loop-again : tie.Need-loop-again Inv-loop μ-loop
-loop-again c = hunt-on _ _ _ _ _ _ _ _ (c .before .before .before .before .before .before .before .before .before .before .before .before .before .pre) _ (c .before .before .before .before .loop .inv) _ _ (c .before .before .before .before .before .before .no-pair .ensures) (c .before .level .ensures) (c .before .before .before .loop-test .taken) (c .if2 .left)
+loop-again c =
+    hunt-on _ _ _ _ _ _ _ _ (c .before .before .before .before .before .before .before .before .before .before .before .pre) _
+    (c .before .before .before .before .loop .inv) _ _ (c .before .before .before .before .before .before .no-pair .ensures)
+    (c .before .level .ensures) (c .before .before .before .loop-test .taken) (c .if1 .left)
 
-returns-3 : tie.Need-returns-3 Inv-loop μ-loop
-returns-3 c = hunt-over _ _ _ _ _ _ _ _ (c .before .before .before .before .before .before .before .before .before .before .pre) _ _ (c .before .loop .inv) (c .loop-test .left) refl refl refl
+no-list-requires : tie.Need-no-list-requires Inv-loop μ-loop
+no-list-requires c κs = search needs
+
+returns-2 : tie.Need-returns-2 Inv-loop μ-loop
+returns-2 c =
+    hunt-over _ _ _ _ _ _ _ _ (c .before .before .before .before .before .before .before .before .before .pre) _ _
+    (c .before .before .loop .inv) (c .before .loop-test .left) (c .no-list .ensures)
 
 pub first-list-spec : {M : Type 1} → statement M
 first-list-spec =
@@ -57,14 +71,14 @@ first-list-spec =
     (tie.spec
     Inv-loop
     μ-loop
-    returns
     no-pair-requires
     marks-of-requires
     loop-holds
     slice-aggregate-level
     level-requires
-    returns-2
+    returns
     add-n
     loop-less
     loop-again
-    returns-3)
+    no-list-requires
+    returns-2)

@@ -1,4 +1,4 @@
--- `hunt::marks_of` meets its contract: the pairs picked are marked on zeros.
+-- `hunt::marks_of` meets its contract.
 use native.Mathlib.Omega.{arith}
 use mathlib.Core.Path.{sym}
 use lib.Seq.{length-take-le}
@@ -17,13 +17,15 @@ array-share-prefix-numbers : tie.Need-array-share-prefix-numbers
 array-share-prefix-numbers c = search needs
 
 slice-aggregate-mark-all : tie.Need-slice-aggregate-mark-all
-slice-aggregate-mark-all c = sym (length-take-le _ (c .before .before .before .before .args .p .numbers) (omega (arith, c .before .before .before .before .pre .few, c .before .before .before .before .pre .long)))
+slice-aggregate-mark-all c =
+    sym
+    (length-take-le _ (c .before .before .before .before .args .p .numbers) (omega (arith, c .before .before .before .before .pre .few, c .before .before .before .before .pre .long)))
 
 slice-aggregate-mark-all-2 : tie.Need-slice-aggregate-mark-all-2
 slice-aggregate-mark-all-2 c = search needs
 
 mark-all-requires : tie.Need-mark-all-requires
-mark-all-requires c κs = may-mark-all _ _ (c .before .before .before .before .before .pre)
+mark-all-requires c κs = may-mark-all _ (c .before .before .before .before .before .pre)
 
 returns : tie.Need-returns
 returns c = search needs

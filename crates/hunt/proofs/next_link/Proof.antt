@@ -1,4 +1,4 @@
--- `hunt::next_link` meets its contract: what is still to look at gives what the whole gives.
+-- `hunt::next_link` meets its contract: no link before i may be tried.
 use Prim.Native.Nat.{_-_, _≤_}
 use mathlib.Core.Path.{_≡_, refl, sym, _∙_}
 use borrow.Author.Needs.{needs}
@@ -12,10 +12,11 @@ use Rattle.hunt.proofs.next_link.Lts as lts
 use Rattle.hunt.proofs.may.Reads as may-reads
 
 abbrev Inv-loop : tie.InvT-loop
-Inv-loop from weights base floor e links i₀ i = (i ≤ links) × (seek (passes from weights base floor) (links - i) i ≡ seek (passes from weights base floor) (links - e) e)
+Inv-loop down weights base need rest e links i₀ i =
+    (i ≤ links) × (seek (passes down weights base need rest) (links - i) i ≡ seek (passes down weights base need rest) (links - e) e)
 
 abbrev μ-loop : tie.MeasureT-loop
-μ-loop from weights base floor e links i₀ i = links - i
+μ-loop down weights base need rest e links i₀ i = links - i
 
 loop-holds : tie.Need-loop-holds Inv-loop μ-loop
 loop-holds c = (c .before .before .pre .0, refl)
@@ -24,7 +25,9 @@ may-requires : tie.Need-may-requires Inv-loop μ-loop
 may-requires c κs = search needs
 
 returns : tie.Need-returns Inv-loop μ-loop
-returns c = sym (seek-found _ _ _ (c .before .before .loop-test .taken) (sym (c .before .may .ensures) ∙ c .if1 .taken)) ∙ c .before .before .before .loop .inv .1
+returns c =
+    sym (seek-found _ _ _ (c .before .before .loop-test .taken) (sym (c .before .may .ensures) ∙ c .if1 .taken)) ∙
+    c .before .before .before .loop .inv .1
 
 add-i : tie.Need-add-i Inv-loop μ-loop
 add-i c = search needs
@@ -33,7 +36,8 @@ loop-less : tie.Need-loop-less Inv-loop μ-loop
 loop-less c = search needs
 
 loop-again : tie.Need-loop-again Inv-loop μ-loop
-loop-again c = (search needs, sym (seek-next _ _ _ (c .before .before .loop-test .taken) (sym (c .before .may .ensures) ∙ c .if1 .left)) ∙ c .before .before .before .loop .inv .1)
+loop-again c =
+    (search needs, sym (seek-next _ _ _ (c .before .before .loop-test .taken) (sym (c .before .may .ensures) ∙ c .if1 .left)) ∙ c .before .before .before .loop .inv .1)
 
 returns-2 : tie.Need-returns-2 Inv-loop μ-loop
 returns-2 c = sym (seek-done _ _ _ (c .loop-test .left)) ∙ c .before .loop .inv .1

@@ -1,6 +1,5 @@
 -- `replays::replay_good` meets its contract: refusal 12, or what `replay_cut` gives. Assumes nothing.
 use Rattle.plan.proofs.Ways.{gave, refused-as}
--- `replays::replay_good` meets its contract: refusal 12, or what `replay_cut` gives. Assumes nothing.
 use Rattle.replays.proofs.Ways.{replay-cuts}
 use borrow.Author.Needs.{needs}
 use Rattle.replays.proofs.replay_good.Statement.{statement}

@@ -1,5 +1,5 @@
 -- `resist::verdict` meets its contract: refusals 1 to 10, or what `verdict_good` answers.
-use Rattle.plan.proofs.Ways.{gave, refused-as}
+use Rattle.plan.proofs.Ways.{gave, refused-as, good-row}
 use Rattle.resist.proofs.Ways.{bad-row}
 use borrow.Author.Needs.{needs}
 use Rattle.resist.proofs.verdict.Statement.{statement}
@@ -19,7 +19,7 @@ enum-told : tie.Need-enum-told
 enum-told c = search needs
 
 verdict-good-requires : tie.Need-verdict-good-requires
-verdict-good-requires c κs = record { size = _; good = gave _ (c .before .enum-told .given .1) (c .before .before .before .judge .ensures) }
+verdict-good-requires c κs = good-row _ _ (gave _ (c .before .enum-told .given .1) (c .before .before .before .judge .ensures))
 
 returns : tie.Need-returns
 returns c = bad-row (c .before .before .before .before .before .before .args .row .now) (c .before .before .before .before .before .before .args .k) (c .before .before .before .before .before .before .args .l) (c .before .before .before .before .before .before .args .list .now) _ (refused-as _ (c .before .judged .given .1) (c .before .before .before .judge .ensures))

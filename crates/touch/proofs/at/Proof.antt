@@ -7,6 +7,9 @@ use Rattle.touch.proofs.at.Tie as tie
 use Rattle.touch.proofs.at.Reads as reads
 use Rattle.touch.proofs.at.Lts as lts
 
+mul-result : tie.Need-mul-result
+mul-result c = search needs
+
 shared-slice-read-result : tie.Need-shared-slice-read-result
 shared-slice-read-result c = search needs
 
@@ -17,4 +20,4 @@ returns-2 : tie.Need-returns-2
 returns-2 c = sym (List·getD-eq-default (c .before .args .weights .now) 0 (c .if1 .left))
 
 pub at-spec : {M : Type 1} → statement M
-at-spec = tie.close (tie.spec shared-slice-read-result returns returns-2)
+at-spec = tie.close (tie.spec mul-result shared-slice-read-result returns returns-2)

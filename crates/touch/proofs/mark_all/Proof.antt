@@ -47,7 +47,7 @@ cast-mark-2 : tie.Need-cast-mark-2 Inv-loop μ-loop
 cast-mark-2 c = omega (arith, c .shared-slice-known4 .given (2 * c .before .before .before .loop .j + 1))
 
 mark-requires : tie.Need-mark-requires Inv-loop μ-loop
-mark-requires c κs = may-mark _ _ _ (c .before .before .before .before .before .before .before .before .pre) _ _ (c .before .before .before .before .loop .inv) (omega (arith, c .before .before .before .loop-test .taken)) _ _ refl refl
+mark-requires c κs = may-mark _ _ _ (c .before .before .before .before .before .before .before .before .pre) _ _ (c .before .before .before .before .loop .inv) (omega (arith, c .before .before .before .loop-test .taken)) _ refl
 
 add-j : tie.Need-add-j Inv-loop μ-loop
 add-j c = search needs

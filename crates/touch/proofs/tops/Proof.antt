@@ -20,8 +20,14 @@ loop-holds c = topping-none _ _ (c .pre .0) (c .pre .1)
 sub-k : tie.Need-sub-k Inv-loop μ-loop
 sub-k c = search needs
 
+mul-w : tie.Need-mul-w Inv-loop μ-loop
+mul-w c = search needs
+
 shared-slice-read-w : tie.Need-shared-slice-read-w Inv-loop μ-loop
 shared-slice-read-w c = search needs
+
+mul-most : tie.Need-mul-most Inv-loop μ-loop
+mul-most c = search needs
 
 slice-write-most : tie.Need-slice-write-most Inv-loop μ-loop
 slice-write-most c = search needs
@@ -46,7 +52,9 @@ tops-spec =
     μ-loop
     loop-holds
     sub-k
+    mul-w
     shared-slice-read-w
+    mul-most
     slice-write-most
     loop-less
     loop-again

@@ -1,0 +1,10 @@
+-- `hunt::answers` meets its contract.
+use mathlib.Core.Path.{refl}
+use Rattle.hunt.proofs.answers.Statement.{statement}
+use Rattle.hunt.proofs.answers.Tie as tie
+
+returns : tie.Need-returns
+returns c = refl
+
+pub answers-spec : {M : Type 1} → statement M
+answers-spec = tie.close (tie.spec returns)

@@ -1,0 +1,6 @@
+pub mod Some
+pub mod Parts
+pub mod Pairs
+pub mod Prefix
+pub mod Before
+pub mod Steps

@@ -1,0 +1,65 @@
+-- `resist::lend` meets its contract: what the search is lent is right.
+use Rattle.resist.proofs.Asking.{lies, lent}
+use borrow.Author.Needs.{needs}
+use Rattle.resist.proofs.lend.Statement.{statement}
+use Rattle.resist.proofs.lend.Tie as tie
+use Rattle.resist.proofs.lend.Reads as reads
+use Rattle.resist.proofs.lend.Lts as lts
+use Rattle.table.proofs.fill_table.Reads as fill-table-reads
+use Rattle.touch.proofs.tops.Reads as tops-reads
+use Rattle.touch.proofs.weigh.Reads as weigh-reads
+use Rattle.view.proofs.links.Reads as links-reads
+use Rattle.view.proofs.messages.Reads as messages-reads
+use Rattle.view.proofs.timeout.Reads as timeout-reads
+
+fill-table-requires : tie.Need-fill-table-requires
+fill-table-requires c κs =
+    (c .before .before .before .before .before .pre .entries, lies (c .before .before .before .before .before .args .row .now) (c .before .before .before .before .before .pre .good) .messages)
+
+weigh-requires : tie.Need-weigh-requires
+weigh-requires c κs = search needs
+
+tops-requires : tie.Need-tops-requires
+tops-requires c κs = search needs
+
+timeout-requires : tie.Need-timeout-requires
+timeout-requires c κs = search needs
+
+links-requires : tie.Need-links-requires
+links-requires c κs = search needs
+
+messages-requires : tie.Need-messages-requires
+messages-requires c κs = search needs
+
+same-length : tie.Need-same-length
+same-length c = search needs
+
+same-length-2 : tie.Need-same-length-2
+same-length-2 c = search needs
+
+same-length-3 : tie.Need-same-length-3
+same-length-3 c = search needs
+
+returns : tie.Need-returns
+returns c =
+    lent _
+    (c .before .before .before .before .before .before .before .before .before .before .before .before .before .before .before .before .before .before .before .before .before .pre .good)
+    _ _ _ _ _ (c .before .before .timeout .ensures .is) (c .before .links .ensures .is) (c .messages .ensures .is) _ _ _
+    (c .before .before .before .before .before .before .before .before .before .before .before .before .before .before .before .fill-table .ensures)
+    (c .before .before .before .before .before .before .before .before .before .before .weigh .ensures)
+    (c .before .before .before .before .before .tops .ensures)
+
+pub lend-spec : {M : Type 1} → statement M
+lend-spec =
+    tie.close
+    (tie.spec
+    fill-table-requires
+    weigh-requires
+    tops-requires
+    timeout-requires
+    links-requires
+    messages-requires
+    same-length
+    same-length-2
+    same-length-3
+    returns)

@@ -1,0 +1,48 @@
+/* Every function of the header with NULL and length 0 where a slice may be empty; each number is document 01's for the empty row or for plan B. */
+#include "../include/nuthatchet.h"
+
+#include <stdio.h>
+
+static int passed, failed;
+static size_t place, result;
+
+static void is(const char *what, size_t number, size_t wanted, size_t wanted_place, size_t wanted_result) {
+    if (number == wanted && place == wanted_place && result == wanted_result) passed++;
+    else {
+        failed++;
+        printf("FAILED: %s: %zu, place %zu, result %zu\n", what, number, place, result);
+    }
+    place = result = 99;
+}
+
+int main(void) {
+    const uint16_t b[] = {1, 2, 2, 1, 3, 0, 1, 0, 2, 2, 1, 0, 0, 0, 1, 1, 1, 2, 0, 0, 1, 1, 1, 1, 2};
+    uint16_t events[16];
+    uint8_t text[18];
+    int32_t slots = 99;
+    size_t number;
+
+    is("judge", nuthatchet_judge(NULL, 0, &place, &result), 2, 0, 0);
+    is("read_file", nuthatchet_read_file(NULL, 0, NULL, 0, &place, &result), 2, 0, 0);
+    is("write_file", nuthatchet_write_file(NULL, 0, NULL, 0, &place, &result), 2, 0, 0);
+    is("write_file of B", nuthatchet_write_file(b, 25, NULL, 0, &place, &result), 13, 17, 0);
+    number = nuthatchet_second_path(NULL, 0, 0, 0, &place);
+    result = 0;
+    is("second_path", number, 0, 0, 0);
+    is("replay", nuthatchet_replay(NULL, 0, NULL, 0, NULL, 0, &place, &result), 2, 0, 0);
+    is("replay of B without cuts", nuthatchet_replay(b, 25, NULL, 0, events, 16, &place, &result), 0, 0, 2);
+    is("replay of B without room", nuthatchet_replay(b, 25, NULL, 0, NULL, 0, &place, &result), 13, 16, 0);
+    is("verdict for k 0", nuthatchet_verdict(b, 25, 0, 2, NULL, 0, &place, &result), 0, 0, 0);
+    is("verdict for k 1", nuthatchet_verdict(b, 25, 1, 2, NULL, 0, &place, &result), 13, 2, 0);
+    is("all_answers", nuthatchet_all_answers(b, 25, 1, NULL, 0, &place, &result), 13, 21, 0);
+    number = nuthatchet_slack(NULL, 0, 0, 0, &place, &slots);
+    result = (size_t)slots;
+    is("slack", number, 2, 0, 0);
+    is("replay_text", nuthatchet_replay_text(NULL, 0, NULL, 0, text, 18, &place, &result), 0, 0, 18);
+    is("replay_text without room", nuthatchet_replay_text(NULL, 0, NULL, 0, NULL, 0, &place, &result), 13, 18, 0);
+    is("row_text", nuthatchet_row_text(NULL, 0, text, 18, &place, &result), 0, 0, 18);
+    is("row_text without room", nuthatchet_row_text(NULL, 0, NULL, 0, &place, &result), 13, 18, 0);
+    is("pack_text", nuthatchet_pack_text(NULL, 0, NULL, 0, &place, &result), 2, 0, 0);
+    printf("%d passed, %d failed\n", passed, failed);
+    return failed != 0;
+}
