@@ -20,7 +20,7 @@ use Rattle.view.specs.Lies.{PlanLies}
 use Rattle.view.proofs.Walked.{walked}
 use Rattle.view.proofs.Parts.{message-count}
 use Rattle.plan.specs.Answers.{GoodRow}
-use Rattle.touch.proofs.Some.{none-below}
+use Rattle.order.proofs.Some.{none-below}
 use Rattle.answers.specs.Answers.{Says, SaysResistant, SaysFailing, seven, needed, mayAnswer, AllSaid, After, AnswersAll}
 use Rattle.text.specs.Text.{Told, Puts}
 use Rattle.verdict_text.specs.Layout.{lineOf, linesOf, Sevens, LinesUnder}
