@@ -56,7 +56,12 @@ returns-3 : tie.Need-returns-3
 returns-3 c = let a = c .before .before .before .before .before .before .before .before .before .before .before .args in
     let row = a .row .now in
     let mi = c .before .before .before .before .before .before .before .message-index in
-    let g : a .m < messageCount row = omega (arith, c .before .before .before .before .before .before .before .before .before .messages .ensures .is, c .before .before .before .before .before .before .before .before .if1 .left) in
+    let g : a .m < messageCount row = omega (
+      arith,
+      c .before .before .before .before .before .before .before .before .before .messages
+          .ensures .is,
+      c .before .before .before .before .before .before .before .before .if1 .left,
+    ) in
     let f : c .before .before .before .before .before .before .place-count .result ≡ placeCount row (messageIndex row (a .m)) =
     c .before .before .before .before .before .before .place-count .ensures .is ∙ ap (placeCount row) (mi .ensures .is) in
     let h : a .p < placeCount row (messageIndex row (a .m)) = omega (arith, f, c .before .before .before .before .before .if2 .left) in
@@ -64,13 +69,19 @@ returns-3 c = let a = c .before .before .before .before .before .before .before 
     c .before .before .before .before .after-places .ensures .is ∙ ap (λ i. afterPlaces row (i + 1) (a .p)) (mi .ensures .is) in
     let here = c .before .before .before .place-at .ensures in
     law.shown-no-second row (a .m) (a .p) (a .row .ptr) g h
-    (ap (flagged row) (sym e) ∙ law.no-links row (c .before .before .before .before .after-places .result) (c .before .before .before .place-at .result) here (c .before .if3 .taken))
+    (ap (flagged row) (sym e) ∙ law.no-links row (c .before .before .before .before .after-places .result)
+    (c .before .before .before .place-at .result) here (c .before .if3 .taken))
 
 part-requires : tie.Need-part-requires
 part-requires c κs = let a = c .before .before .before .before .before .before .before .before .before .before .args in
     let row = a .row .now in
     let mi = c .before .before .before .before .before .before .message-index in
-    let g : a .m < messageCount row = omega (arith, c .before .before .before .before .before .before .before .before .messages .ensures .is, c .before .before .before .before .before .before .before .if1 .left) in
+    let g : a .m < messageCount row = omega (
+      arith,
+      c .before .before .before .before .before .before .before .before .messages .ensures
+          .is,
+      c .before .before .before .before .before .before .before .if1 .left,
+    ) in
     let f : c .before .before .before .before .before .place-count .result ≡ placeCount row (messageIndex row (a .m)) =
     c .before .before .before .before .before .place-count .ensures .is ∙ ap (placeCount row) (mi .ensures .is) in
     let h : a .p < placeCount row (messageIndex row (a .m)) = omega (arith, f, c .before .before .before .before .if2 .left) in
@@ -78,18 +89,27 @@ part-requires c κs = let a = c .before .before .before .before .before .before 
     c .before .before .before .after-places .ensures .is ∙ ap (λ i. afterPlaces row (i + 1) (a .p)) (mi .ensures .is) in
     let here = c .before .before .place-at .ensures in
     let u : flagged row (placeIndex row (a .m) (a .p)) ≡ true =
-    ap (flagged row) (sym e) ∙ law.some-links row (c .before .before .before .after-places .result) (c .before .before .place-at .result) here (c .if3 .left) in
-    let n = law.links-next row (c .before .before .before .after-places .result) (c .before .before .place-at .result) here (ap (flagged row) e ∙ u) in
-    let k : secondCount row (c .before .before .before .after-places .result) ≡ secondCount row (placeIndex row (a .m) (a .p)) = ap (secondCount row) e in
+    ap (flagged row) (sym e) ∙ law.some-links row (c .before .before .before .after-places .result) (c .before .before .place-at .result)
+    here (c .if3 .left) in
+    let n = law.links-next row (c .before .before .before .after-places .result) (c .before .before .place-at .result) here
+    (ap (flagged row) e ∙ u) in
+    let k : secondCount row (c .before .before .before .after-places .result) ≡ secondCount row (placeIndex row (a .m) (a .p)) = ap
+    (secondCount row) e in
     let w : placeIndex row (a .m) (a .p) + 4 + secondCount row (placeIndex row (a .m) (a .p)) ≤ length row =
-    law.part-lies row (a .m) (a .p) (walked row (c .before .before .before .before .before .before .before .before .before .before .pre)) g h u .lies in
+    law.part-lies row (a .m) (a .p) (walked row (c .before .before .before .before .before .before .before .before .before .before .pre))
+    g h u .lies in
     (omega (arith, n, here .second), omega (arith, w, n, k, e))
 
 returns-4 : tie.Need-returns-4
 returns-4 c = let a = c .before .before .before .before .before .before .before .before .before .before .before .args in
     let row = a .row .now in
     let mi = c .before .before .before .before .before .before .before .message-index in
-    let g : a .m < messageCount row = omega (arith, c .before .before .before .before .before .before .before .before .before .messages .ensures .is, c .before .before .before .before .before .before .before .before .if1 .left) in
+    let g : a .m < messageCount row = omega (
+      arith,
+      c .before .before .before .before .before .before .before .before .before .messages
+          .ensures .is,
+      c .before .before .before .before .before .before .before .before .if1 .left,
+    ) in
     let f : c .before .before .before .before .before .before .place-count .result ≡ placeCount row (messageIndex row (a .m)) =
     c .before .before .before .before .before .before .place-count .ensures .is ∙ ap (placeCount row) (mi .ensures .is) in
     let h : a .p < placeCount row (messageIndex row (a .m)) = omega (arith, f, c .before .before .before .before .before .if2 .left) in
@@ -97,9 +117,12 @@ returns-4 c = let a = c .before .before .before .before .before .before .before 
     c .before .before .before .before .after-places .ensures .is ∙ ap (λ i. afterPlaces row (i + 1) (a .p)) (mi .ensures .is) in
     let here = c .before .before .before .place-at .ensures in
     let u : flagged row (placeIndex row (a .m) (a .p)) ≡ true =
-    ap (flagged row) (sym e) ∙ law.some-links row (c .before .before .before .before .after-places .result) (c .before .before .before .place-at .result) here (c .before .if3 .left) in
-    let n = law.links-next row (c .before .before .before .before .after-places .result) (c .before .before .before .place-at .result) here (ap (flagged row) e ∙ u) in
-    let k : secondCount row (c .before .before .before .before .after-places .result) ≡ secondCount row (placeIndex row (a .m) (a .p)) = ap (secondCount row) e in
+    ap (flagged row) (sym e) ∙ law.some-links row (c .before .before .before .before .after-places .result)
+    (c .before .before .before .place-at .result) here (c .before .if3 .left) in
+    let n = law.links-next row (c .before .before .before .before .after-places .result) (c .before .before .before .place-at .result)
+    here (ap (flagged row) e ∙ u) in
+    let k : secondCount row (c .before .before .before .before .after-places .result) ≡ secondCount row (placeIndex row (a .m) (a .p)) =
+    ap (secondCount row) e in
     let p = c .before .before .before .place-at .result in
     let q = c .part .ensures in
     law.shown-there row (a .m) (a .p) (a .row .ptr) g h u (p .second) (p .next - p .second)
