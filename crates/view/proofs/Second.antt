@@ -86,7 +86,7 @@ module _ (row : List ℕ) (m p : ℕ) where
     pub shown-there : m < messageCount row → p < placeCount row (messageIndex row m) → flagged row (placeIndex row m p) ≡ true →
         (a n : ℕ) → a ≡ secondStart (placeIndex row m p) → n ≡ secondCount row (placeIndex row m p) →
         {now : List ℕ} {part : ℕ × ℕ} → PartAt (take n (drop a row)) a ptr now part → PartAt (secondPart row m p) (secondIndex row m p)
-            ptr now part
+        ptr now part
     shown-there g h u a n ea en q =
         let e : hasSecond row m p ≡ true = has-flag g h ∙ u in
         let i : secondIndex row m p ≡ secondStart (placeIndex row m p) = rw e in
@@ -108,7 +108,7 @@ module _ (row : List ℕ) (m p : ℕ) where
           secondPart row m p ≡ secondAt row (placeIndex row m p)
       there g h true u =
           sym (part-there (has-flag g h ∙ u)) ∙ sym (numbers-part row (placeIndex row m p + 4) (secondCount row (placeIndex row m p))
-              (part-lies l g h u .lies)) ∙ rw u
+          (part-lies l g h u .lies)) ∙ rw u
       there g h false u = sym (part-none (has-flag g h ∙ u)) ∙ rw u
 
       by-place : m < messageCount row → (t : Bool) → ltb p (placeCount row (messageIndex row m)) ≡ t → secondPart row m p ≡ placeOf
@@ -117,12 +117,12 @@ module _ (row : List ℕ) (m p : ℕ) where
           let h : p < placeCount row (messageIndex row m) = ltb-true p (placeCount row (messageIndex row m)) s in
           let e : placeOf (planOf row) m p ≡ placeAt row (placeIndex row m p) =
           path (messageAt row (messageIndex row m)) (path-at row m g) ∙ places-at row none (messageIndex row m + 1)
-              (placeCount row (messageIndex row m)) p h in
+          (placeCount row (messageIndex row m)) p h in
           there g h (flagged row (placeIndex row m p)) refl ∙ sym (ap (λ q. q .second) e)
       by-place g false s =
           let h : placeCount row (messageIndex row m) ≤ p = ltb-false p (placeCount row (messageIndex row m)) s in
           let b : length (messageAt row (messageIndex row m)) ≤ p = rw
-              (places-length row (messageIndex row m + 1) (placeCount row (messageIndex row m))) h in
+          (places-length row (messageIndex row m + 1) (placeCount row (messageIndex row m))) h in
           let e : placeOf (planOf row) m p ≡ none =
           path (messageAt row (messageIndex row m)) (path-at row m g) ∙ List·getD-eq-default (messageAt row (messageIndex row m)) none b in
           sym (part-none (has-no-place g h)) ∙ sym (ap (λ q. q .second) e)
