@@ -13,7 +13,8 @@ use Rattle.scope.specs.Plan.{Plan, planOf}
 use Rattle.scope.specs.File.{rowOf}
 use Rattle.scope.specs.Cycle.{eventRow}
 use Rattle.scope.specs.Questions.{after, readFile, replay}
-use Rattle.scope.specs.Lines.{cutsFrom, cutsOf, header, eventLine, eventLines, arrivedLine, refusedLine, listing, longestRow, longestEvents, replayText}
+use Rattle.scope.specs.Limits.{longestRow, longestEvents}
+use Rattle.scope.specs.Lines.{cutsFrom, cutsOf, header, eventLine, eventLines, arrivedLine, refusedLine, listing, replayText}
 use Rattle.cut_lines.specs.Reads.{Cuts}
 use Rattle.cut_lines.proofs.Replay.{replay-enough}
 use Rattle.replays.specs.Replay.{Replays}

@@ -4,7 +4,8 @@ use mathlib.Core.List.{List}
 use Rattle.scope.specs.Plan.{planOf}
 use Rattle.scope.specs.Cycle.{eventRow}
 use Rattle.scope.specs.Questions.{replay}
-use Rattle.scope.specs.Lines.{listing, longestEvents}
+use Rattle.scope.specs.Limits.{longestEvents}
+use Rattle.scope.specs.Lines.{listing}
 
 -- for a row and a cut list: the listing of the replay, or its refusal
 abbrev pub textOf : List ℕ → List ℕ → List ℕ
