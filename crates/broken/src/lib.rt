@@ -1,8 +1,10 @@
 // Whether one link or one message breaks a rule of document 01: the tests of refusals 5 to 10. Each is its namesake in specs/ of
 // `scope` (Good) on the plan of a row; a message is told by its index. It leans on `view`, `paths` and `table`.
+use scope::limits::PLACES;
 ghost use mathlib.Core.Path.{_≡_};
 ghost use Prim.Native.Nat.{_+_, _<_, _≤_, _^_};
 ghost use lib.ListN.{length};
+ghost use Rattle.scope.specs.Limits.{mostPlaces};
 ghost use Rattle.scope.specs.Plan.{planOf, linkOf, placeAt, messageAt, placeSize, placeCount};
 ghost use Rattle.scope.specs.Good.{badEnds, sameEnds, repeats, goodPlace, goodSeconds};
 ghost use Rattle.view.specs.Lies.{MessageLies, PlanLies};
@@ -52,10 +54,10 @@ pub fn repeats_earlier(row: &[u16], e: usize) -> bool
 
 // Refusal 7: the first path of the message at an index breaks a rule other than that of slots.
 pub fn bad_path(row: &[u16], i: usize) -> bool
-    requires { ⌜ PlanLies (now row) × (i < 2 ^ 60) × (placeCount (now row) i ≤ 16) ⌝ }
+    requires { ⌜ PlanLies (now row) × (i < 2 ^ 60) × (placeCount (now row) i ≤ mostPlaces) ⌝ }
     ensures { λ r. ⌜ r ≡ brokenPath (planOf (now (row .entry))) (messageAt (now (row .entry)) i) ⌝ }
 {
-    let mut path = [0u16; 16];
+    let mut path = [0u16; PLACES];
     let n = paths::first_links(row, i, &mut path);
     let v = paths::link_from(row, view::number(&path, 0));
     !paths::is_path(row, v, &path[..n])
@@ -96,7 +98,8 @@ pub fn held_below(row: &[u16], i: usize, m: usize, table: &[u8]) -> bool
     let mut k = 0;
     while k < n {
         let here = view::place_at(row, at);
-        if table::entry(table, here.slot, here.link) <= m {
+        let holder = table::entry(table, here.slot, here.link) as usize;
+        if holder <= m {
             return true;
         }
         at = here.next;
@@ -157,7 +160,7 @@ pub fn bad_seconds(row: &[u16], i: usize) -> bool
     requires { ⌜ PlanLies (now row) × (i < 2 ^ 60) × MessageLies (now row) i ⌝ }
     ensures { λ r. ⌜ r ≡ brokenSeconds (planOf (now (row .entry))) (messageAt (now (row .entry)) i) ⌝ }
 {
-    let mut path = [0u16; 16];
+    let mut path = [0u16; PLACES];
     let n = paths::first_links(row, i, &mut path);
     let end = paths::path_end(row, &path[..n]);
     !seconds_hold(row, end, i)

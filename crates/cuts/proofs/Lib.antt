@@ -1,2 +1,3 @@
-pub mod From
+pub mod Some
+pub mod Downs
 pub mod Pairs

@@ -1,2 +1,2 @@
-pub mod From
+pub mod Down
 pub mod Pairs

@@ -1,8 +1,9 @@
-// Cut lists: refusal 12, and the first slot in which each link is cut, so that "is this link down in this slot" is one read.
+// Cut lists: refusal 12, and what is down in a slot, so that "is this link down" is one read.
 // It leans on specs/ of `scope` (Cuts, Outcome) and on the total read of `view`. No function but `bad_pair` and its parts asks
 // anything of the list, and no list is passed over further than its first bad pair.
 use scope::Answer;
 use scope::Refusal;
+use scope::limits::LINKS;
 use view::number;
 ghost use Prim.Native.Nat.{_+_, _*_, _<_, _^_};
 ghost use mathlib.Core.Path.{_≡_};
@@ -11,59 +12,51 @@ ghost use Rattle.scope.specs.Outcome.{outcomeOf};
 ghost use Rattle.scope.specs.Plan.{planOf};
 ghost use Rattle.scope.specs.Cuts.{pairs, falls, checkCuts};
 ghost use Rattle.cuts.specs.Pairs.{isTwice, isBad};
-ghost use Rattle.cuts.specs.From.{cutFrom, downOf, earlier, Tells};
+ghost use Rattle.cuts.specs.Down.{isDown, withPair, DownIn};
 
-// The first slot in which a link is cut; 65535 where it is not, or there is no number for it.
-fn first_cut(from: &[u16], link: usize) -> usize
-    ensures { λ r. ⌜ r ≡ cutFrom (now (from .entry)) link ⌝ }
+// A link is down: its byte is not 0. One past the list is whole.
+pub fn is_down(down: &[u8], link: usize) -> bool
+    ensures { λ r. ⌜ r ≡ isDown (now (down .entry)) link ⌝ }
 {
-    if link < from.len() {
-        from[link] as usize
+    if link < down.len() {
+        0 < down[link]
     } else {
-        65535
+        false
     }
-}
-
-// Link `link` is down in slot `slot`.
-pub fn is_down(from: &[u16], slot: usize, link: usize) -> bool
-    ensures { λ r. ⌜ r ≡ downOf (now (from .entry)) slot link ⌝ }
-{
-    first_cut(from, link) <= slot
 }
 
 // How many pairs there are, an odd last number among them.
 fn count(cuts: &[u16]) -> usize
     ensures { λ r. ⌜ r ≡ pairs (now (cuts .entry)) ⌝ }
 {
-    (cuts.len() + 1) / 2
+    cuts.len() / 2 + cuts.len() % 2
 }
 
-// One more pair: the earlier slot of the two stays.
-fn put_pair(from: &mut [u16], slot: usize, link: usize)
-    requires { ⌜ slot < 65536 ⌝ }
-    ensures { λ _. ⌜ now (from .exit) ≡ earlier (now (from .entry)) slot link ⌝ }
+// One more pair, of slot `at`: if it is not later than `slot`, its link is down.
+fn put_pair(down: &mut [u8], at: usize, link: usize, slot: usize)
+    ensures { λ _. ⌜ now (down .exit) ≡ withPair (now (down .entry)) at link slot ⌝ }
 {
-    if link < from.len() {
-        if slot < from[link] as usize {
-            from[link] = slot as u16;
+    if at <= slot {
+        if link < down.len() {
+            down[link] = 1;
         }
     }
 }
 
-// The first slot in which each link is cut; 65535 where it is not.
-pub fn cut_from(cuts: &[u16]) -> [u16; 64]
-    ensures { λ r. ⌜ Tells (now (cuts .entry)) 64 r ⌝ }
+// The links that a list takes down in a slot, one byte a link.
+pub fn down_in(cuts: &[u16], slot: usize) -> [u8; LINKS]
+    ensures { λ r. ⌜ DownIn (now (cuts .entry)) slot r ⌝ }
 {
-    let mut from = [65535u16; 64];
+    let mut down = [0u8; LINKS];
     let n = count(cuts);
     let mut j = 0;
     while j < n {
-        let slot = number(cuts, 2 * j);
+        let at = number(cuts, 2 * j);
         let link = number(cuts, 2 * j + 1);
-        put_pair(&mut from, slot, link);
+        put_pair(&mut down, at, link, slot);
         j += 1;
     }
-    from
+    down
 }
 
 // Pair i does not come after the one before it.

@@ -1,13 +1,14 @@
--- What is lent says what the plan and the cut list say: `from` when a link is cut, and `table` who holds it, for every link and every slot
--- of a cycle. So a cycle over the one is a cycle over the other.
+-- What is lent says what the plan and the cut list say: which links below the limit are cut, and who holds one, for every link and every
+-- slot of a cycle. So a cycle over the one is a cycle over the other.
 use Prim.Native.Nat.{ℕ, zero, suc, _+_, _*_, _≤_, _<_}
 use mathlib.Core.Path.{_≡_, refl, sym, _∙_, ap, fun-ext}
 use mathlib.Core.Bool.{Bool, true, false, not, cond, _&&_, _||_}
 use mathlib.Core.List.{List, _++_}
 use native.Mathlib.Omega.{arith}
-use lib.ListN.{length, List·getD-eq-default}
+use lib.ListN.{length}
 use lib.Dec.{ltb, leb, eqb}
-use borrow.Author.Tests.{lt-leb, ne-eqb, ltb-true, ltb-false, not-false}
+use borrow.Author.Tests.{ne-eqb, ltb-true, ltb-false, not-false}
+use Rattle.scope.specs.Limits.{mostLinks, mostSlots}
 use Rattle.scope.specs.Lowest.{lowest, some}
 use Rattle.scope.specs.Outcome.{gives, refused}
 use Rattle.scope.specs.Plan.{Plan, at, placesAt, placeSize, placeCount, afterPlaces, messageCount, planOf, pathOf}
@@ -18,15 +19,15 @@ use Rattle.scope.specs.Slot as S
 use Rattle.scope.specs.Cycle.{tableOf, slot, nexts, numbers, positions, events}
 use Rattle.view.specs.Lies.{PlanLies}
 use Rattle.view.proofs.Parts.{message-count, path-at}
-use Rattle.table.specs.Table.{Table}
-use Rattle.cuts.specs.From.{cutFrom, downOf, Tells}
+use Rattle.table.specs.Table.{Table, entryAt}
+use Rattle.table.proofs.Entries.{no-link}
+use Rattle.cuts.specs.Down.{cutBelow}
 use Rattle.cuts.specs.Pairs.{isTwice}
-use Rattle.cuts.proofs.From.{some-no, none-before}
-use Rattle.cycle.specs.Slot.{ownerOf}
+use Rattle.cuts.proofs.Some.{some-no, none-before}
 
 -- a cycle looks at a slot's links and entries only in that slot
 module _ (rank : ℕ → ℕ) (down down′ : ℕ → ℕ → Bool) (owner owner′ : ℕ → ℕ → ℕ) where
-  slot-same : (i : ℕ) (ps : List S.Position) → down i ≡ down′ i → owner i ≡ owner′ i → slot rank down owner i ps ≡ slot rank down′ owner′ i ps
+  pub slot-same : (i : ℕ) (ps : List S.Position) → down i ≡ down′ i → owner i ≡ owner′ i → slot rank down owner i ps ≡ slot rank down′ owner′ i ps
   unfolding slot
   slot-same i ps p q = rw (p, q)
 
@@ -84,15 +85,14 @@ module _ (plan : Plan) (cuts : List ℕ) (n : ℕ) (good : checkCuts plan cuts �
       let f : eqb (cutLink cuts j) e ≡ false = ne-eqb (cutLink cuts j) e (λ q. omega arith) in
       rw f)
 
-  pub down-same : (from : List ℕ) → Tells cuts 64 from → length (plan .links) ≤ 64 → (i : ℕ) → i < 65535 → downOf from i ≡ isCut plan cuts i
-  down-same from t k i h = fun-ext (λ e. by e (ltb e 64) refl)
+  pub down-same : length (plan .links) ≤ mostLinks → (i : ℕ) → cutBelow plan cuts i ≡ isCut plan cuts i
+  down-same k i = fun-ext (λ e. by e (ltb e mostLinks) refl)
     where
-      by : (e : ℕ) (b : Bool) → ltb e 64 ≡ b → downOf from i e ≡ isCut plan cuts i e
-      by e true b = t .is plan i e h (ltb-true e 64 b)
+      by : (e : ℕ) (b : Bool) → ltb e mostLinks ≡ b → (b && isCut plan cuts i e) ≡ isCut plan cuts i e
+      by e true b = refl
       by e false b =
-          let l : 64 ≤ e = ltb-false e 64 b in
-          let d : cutFrom from e ≡ 65535 = List·getD-eq-default from 65535 (omega (arith, t .long)) in
-          rw d (lt-leb 65535 i h) ∙ sym (cut-none i e (omega arith))
+          let l : mostLinks ≤ e = ltb-false e mostLinks b in
+          sym (cut-none i e (omega arith))
 
 -- nor does the table hold one
 module _ (row : List ℕ) (lies : PlanLies row) where
@@ -117,9 +117,9 @@ module _ (row : List ℕ) (lies : PlanLies row) where
           ap (holds e i) (path-at row m l)
           ∙ holds-none e i (messageIndex row m + 1) (placeCount row (messageIndex row m)) h (λ p g. lies .message m l .place p g .link)
 
-  pub owner-same : (table : List ℕ) → Table (tableOf (planOf row)) table → (i : ℕ) → i < 64 → ownerOf table i ≡ tableOf (planOf row) i
-  owner-same table t i h = fun-ext (λ e. by e (ltb e 64) refl)
+  pub owner-same : (table : List ℕ) → Table (tableOf (planOf row)) table → (i : ℕ) → i < mostSlots → entryAt table i ≡ tableOf (planOf row) i
+  owner-same table t i h = fun-ext (λ e. by e (ltb e mostLinks) refl)
     where
-      by : (e : ℕ) (b : Bool) → ltb e 64 ≡ b → ownerOf table i e ≡ tableOf (planOf row) i e
-      by e true b = rw b (t .is i e h (ltb-true e 64 b))
-      by e false b = rw b (sym (table-none i e (ltb-false e 64 b)))
+      by : (e : ℕ) (b : Bool) → ltb e mostLinks ≡ b → entryAt table i e ≡ tableOf (planOf row) i e
+      by e true b = t .is i e h (ltb-true e mostLinks b)
+      by e false b = no-link table i e (ltb-false e mostLinks b) ∙ sym (table-none i e (ltb-false e mostLinks b))

@@ -1,14 +1,4 @@
-pub mod Walk
-pub mod Going
-pub mod Tried
-pub mod Moves
-pub mod Acting
-pub mod Pass
-pub mod Passing
-pub mod Telling
-pub mod Moving
-pub mod Again
+pub mod Agree
 pub mod Start
 pub mod Slots
 pub mod Whole
-pub mod Agree

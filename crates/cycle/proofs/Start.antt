@@ -17,8 +17,9 @@ use Rattle.step.specs.Where.{positionOf, endOf}
 use Rattle.step.proofs.Left.{after-least}
 use Rattle.step.proofs.Steps.{home-is}
 use Rattle.view.proofs.Index.{messages-next}
-use Rattle.cycle.specs.Stand.{home, positionsOf, MayStart, Become}
-use Rattle.cycle.proofs.Tried.{map-snoc, positions-more}
+use Rattle.step.specs.Stand.{home, positionsOf, Become}
+use Rattle.step.proofs.Tried.{map-snoc, positions-more}
+use Rattle.cycle.specs.Play.{MayStart}
 
 -- at the beginning of a first path
 abbrev pub begins : ℕ → ℕ → Position

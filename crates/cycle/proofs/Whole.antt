@@ -1,44 +1,64 @@
 -- A whole cycle: from the first positions of a row's plan to its arrivals and its row of events.
 use Prim.Native.Nat.{ℕ, _*_, _≤_}
-use mathlib.Core.Path.{_≡_, refl, sym, _∙_, ap}
+use mathlib.Core.Path.{_≡_, refl, sym, _∙_, ap, fun-ext}
 use mathlib.Core.List.{List, _++_, map}
 use lib.ListN.{length, drop, length-map}
 use Rattle.scope.specs.Plan.{messageCount, timeoutOf, firstMessage, messagesAt, planOf}
 use Rattle.scope.specs.Slot as S
-use Rattle.scope.specs.Cycle.{byNumber, events, arrived, start}
+use Rattle.scope.specs.Cycle.{orderOf, numbers, nexts, arrived, start}
 use Rattle.view.proofs.Parts.{message-count}
-use Rattle.step.specs.declared.Position.{Position}
-use Rattle.cuts.specs.From.{downOf}
-use Rattle.cycle.specs.Stand.{positionsOf, Become}
-use Rattle.cycle.specs.Slot.{ownerOf}
-use Rattle.cycle.specs.Play.{endsWith, tells, MayRun, Ran, MayPlay, Played}
+use Rattle.table.specs.Table.{entryAt}
+use Rattle.cuts.specs.Down.{cutBelow, DownIn}
+use Rattle.step.specs.declared.Standing.{Standing}
+use Rattle.step.specs.Stand.{positionsOf, Become}
+use Rattle.step.specs.Slot.{downNow, inSlot, GoesOn}
+use Rattle.cycle.specs.Play.{doIn, endsWith, tells, Begins, Done, MayRun, Ran, MayPlay, Played}
+use Rattle.cycle.proofs.Agree.{slot-same}
 use Rattle.cycle.proofs.Slots.{events-length}
+
+-- what is lent as down in slot i is what the list takes down in it
+module _ (row table cuts down : List ℕ) (i : ℕ) (d : DownIn cuts i down) where
+  do-same : (ps : List S.Position) → inSlot row table down i ps ≡ doIn row table cuts i ps
+  do-same ps =
+      slot-same (orderOf (planOf row)) (downNow down) (cutBelow (planOf row) cuts) (entryAt table) (entryAt table) i ps
+      (fun-ext (λ e. d .is (planOf row) e)) refl
+
+  pub done-by : (n : ℕ) (s r : Standing) (buffer out : List ℕ) → GoesOn row table down n i s r →
+      out ≡ numbers (inSlot row table down i (positionsOf row n (s .positions))) ++ drop (2 * n) buffer →
+      Done row n i (doIn row table cuts i (positionsOf row n (s .positions))) buffer out r
+  done-by n s r buffer out g e =
+      let same = do-same (positionsOf row n (s .positions)) in
+      record {
+        time = g .time;
+        long = g .long;
+        next = record { is = g .moves .next .is ∙ ap nexts same; stand = g .moves .next .stand };
+        events = e ∙ ap (λ ms. numbers ms ++ drop (2 * n) buffer) same;
+      }
 
 pub start-is : (row : List ℕ) → map S.onFirst (messagesAt row (firstMessage row) (messageCount row)) ≡ start (planOf row)
 unfolding planOf
 start-is row = refl
 
-module _ (row table from : List ℕ) (n t : ℕ) (e : n ≡ messageCount row) (f : t ≡ timeoutOf row) (ps : List Position)
-    (b : Become row n (map S.onFirst (messagesAt row (firstMessage row) n)) ps) where
-  begins : positionsOf row n ps ≡ start (planOf row)
-  begins = b .is ∙ ap (λ k. map S.onFirst (messagesAt row (firstMessage row) k)) e ∙ start-is row
+module _ (row table cuts : List ℕ) (n t : ℕ) (e : n ≡ messageCount row) (f : t ≡ timeoutOf row) (s : Standing) (b : Begins row n s) where
+  begins : positionsOf row n (s .positions) ≡ start (planOf row)
+  begins = b .next .is ∙ ap (λ k. map S.onFirst (messagesAt row (firstMessage row) k)) e ∙ start-is row
 
-  many : length (positionsOf row n ps) ≡ n
+  many : length (positionsOf row n (s .positions)) ≡ n
   many = ap length begins ∙ length-map (planOf row .messages) S.onFirst ∙ message-count row ∙ sym e
 
-  pub may-run : (room : ℕ) → t ≤ 65536 → MayPlay row room → MayRun row ps n t (tells table from 0 t (positionsOf row n ps)) room
+  pub may-run : (room : ℕ) → t ≤ 65536 → MayPlay row room → MayRun row s n t (tells row table cuts 0 t (positionsOf row n (s .positions))) room
   may-run room h m =
-      let l : length (tells table from 0 t (positionsOf row n ps)) ≡ timeoutOf row * (2 * messageCount row) =
-      events-length byNumber (downOf from) (ownerOf table) t 0 (positionsOf row n ps)
+      let l : length (tells row table cuts 0 t (positionsOf row n (s .positions))) ≡ timeoutOf row * (2 * messageCount row) =
+      events-length (orderOf (planOf row)) (cutBelow (planOf row) cuts) (entryAt table) t 0 (positionsOf row n (s .positions))
       ∙ ap (λ k. t * (2 * k)) (many ∙ e) ∙ ap (λ k. k * (2 * messageCount row)) f in
-      record { stand = b .stand; short = h; enough = rw l (m .enough) }
+      record { first = b .time; stand = b .next .stand; long = b .long; short = h; enough = rw l (m .enough) }
 
-  pub played : (qs : List Position) (buffer out : List ℕ) (count : ℕ) →
-      Ran row n (endsWith table from 0 t (positionsOf row n ps)) (tells table from 0 t (positionsOf row n ps)) buffer out qs →
-      count ≡ arrived (positionsOf row n qs) → Played row table from buffer out count
-  played qs buffer out count r c =
-      let k : positionsOf row n qs ≡ endsWith table from 0 (timeoutOf row) (start (planOf row)) =
-      r .next .is ∙ ap (endsWith table from 0 t) begins ∙ ap (λ u. endsWith table from 0 u (start (planOf row))) f in
-      let w : tells table from 0 t (positionsOf row n ps) ≡ tells table from 0 (timeoutOf row) (start (planOf row)) =
-      ap (tells table from 0 t) begins ∙ ap (λ u. tells table from 0 u (start (planOf row))) f in
-      record { arrivals = c ∙ ap arrived k; events = r .events ∙ ap (λ u. u ++ drop (length u) buffer) w }
+  pub played : (r : Standing) (buffer out : List ℕ) (count : ℕ) →
+      Ran row n (endsWith row table cuts 0 t (positionsOf row n (s .positions))) (tells row table cuts 0 t (positionsOf row n (s .positions))) buffer out r →
+      count ≡ arrived (positionsOf row n (r .positions)) → Played row table cuts buffer out count
+  played r buffer out count ran c =
+      let k : positionsOf row n (r .positions) ≡ endsWith row table cuts 0 (timeoutOf row) (start (planOf row)) =
+      ran .next .is ∙ ap (endsWith row table cuts 0 t) begins ∙ ap (λ u. endsWith row table cuts 0 u (start (planOf row))) f in
+      let w : tells row table cuts 0 t (positionsOf row n (s .positions)) ≡ tells row table cuts 0 (timeoutOf row) (start (planOf row)) =
+      ap (tells row table cuts 0 t) begins ∙ ap (λ u. tells row table cuts 0 u (start (planOf row))) f in
+      record { arrivals = c ∙ ap arrived k; events = ran .events ∙ ap (λ u. u ++ drop (length u) buffer) w }

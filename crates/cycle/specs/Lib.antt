@@ -1,4 +1,1 @@
-pub mod Stand
-pub mod Slot
 pub mod Play
-pub mod Pass

@@ -9,6 +9,7 @@ use borrow.Author.Tests.{lt-ltb, le-ltb, eq-eqb, ne-eqb, eqb-true, eqb-false}
 use lib.ListN.{length, length-set, replicate, length-replicate, getD-replicate, getD, set, drop, drop-of-length-le}
 use lib.Seq.{drop-cons, getD-set-same, getD-set-other}
 use lib.Dec.{ltb, eqb}
+use Rattle.scope.specs.Limits.{mostVertices}
 use Rattle.scope.specs.Plan.{Plan, linkOf}
 use Rattle.scope.specs.Good.{areLinks, joins, visited, has, different, isPathFrom}
 use Rattle.paths.specs.declared.Fault.{Fault}
@@ -16,32 +17,32 @@ use Rattle.paths.specs.Path.{faultAt, firstFault}
 
 -- one mark a vertex: 1 where it is met, 0 where it is not
 pub record Marks (met marks : List ℕ) : Type 0 where
-  pub long : length marks ≡ 64
-  pub are : (w : ℕ) → w < 64 → getD marks w 0 ≡ cond (has w met) 1 0
+  pub long : length marks ≡ mostVertices
+  pub are : (w : ℕ) → w < mostVertices → getD marks w 0 ≡ cond (has w met) 1 0
 
-pub marks-none : (n : ℕ) → n ≡ 64 → Marks [] (replicate n 0)
+pub marks-none : (n : ℕ) → n ≡ mostVertices → Marks [] (replicate n 0)
 unfolding has
 marks-none n h = record { long = length-replicate n 0 ∙ h; are = λ w l. getD-replicate n w 0 0 (omega arith) }
 
-pub marks-more : (met marks : List ℕ) (v : ℕ) → Marks met marks → v < 64 → Marks (v ∷ met) (set marks v 1)
+pub marks-more : (met marks : List ℕ) (v : ℕ) → Marks met marks → v < mostVertices → Marks (v ∷ met) (set marks v 1)
 unfolding has
 marks-more met marks v m h = record { long = length-set marks v 1 ∙ m .long; are = λ w l. by w l (eqb w v) refl }
   where
-    by : (w : ℕ) → w < 64 → (t : Bool) → eqb w v ≡ t → getD (set marks v 1) w 0 ≡ cond (t || has w met) 1 0
+    by : (w : ℕ) → w < mostVertices → (t : Bool) → eqb w v ≡ t → getD (set marks v 1) w 0 ≡ cond (t || has w met) 1 0
     by w l true e =
         let same : w ≡ v = eqb-true w v e in
         ap (λ x. getD (set marks v 1) x 0) same ∙ getD-set-same marks v 1 0 (omega (arith, m .long))
     by w l false e =
         getD-set-other marks v w 1 0 (eqb-false w v e) ∙ m .are w l
 
-pub marks-met : (met marks : List ℕ) (w : ℕ) → Marks met marks → w < 64 → (getD marks w 0 ≡ 0 → ⊥) → has w met ≡ true
+pub marks-met : (met marks : List ℕ) (w : ℕ) → Marks met marks → w < mostVertices → (getD marks w 0 ≡ 0 → ⊥) → has w met ≡ true
 marks-met met marks w m h n = by (has w met) refl
   where
     by : (t : Bool) → has w met ≡ t → t ≡ true
     by true e = refl
     by false e = absurd (n (m .are w h ∙ rw e))
 
-pub marks-new : (met marks : List ℕ) (w : ℕ) → Marks met marks → w < 64 → getD marks w 0 ≡ 0 → has w met ≡ false
+pub marks-new : (met marks : List ℕ) (w : ℕ) → Marks met marks → w < mostVertices → getD marks w 0 ≡ 0 → has w met ≡ false
 marks-new met marks w m h n = by (has w met) refl
   where
     by : (t : Bool) → has w met ≡ t → t ≡ false
@@ -60,7 +61,7 @@ left-more : (l : List ℕ) (k : ℕ) → k < length l → drop k l ≡ getD l k 
 left-more l k h = drop-cons l k 0 h ∙ ap (λ n. getD l k 0 ∷ drop n l) (sym (add-one k))
 
 module _ (plan : Plan) (path : List ℕ) (v : ℕ) where
-  pub walking-first : (marks : List ℕ) → v < 64 → Marks [] marks → Walking plan path v v 0 (set marks v 1)
+  pub walking-first : (marks : List ℕ) → v < mostVertices → Marks [] marks → Walking plan path v v 0 (set marks v 1)
   walking-first marks h m = record { met = v ∷ []; marked = marks-more [] marks v m h; same = refl }
 
   module _ (u k : ℕ) (marks : List ℕ) (w : Walking plan path v u k marks) where
@@ -92,7 +93,7 @@ module _ (plan : Plan) (path : List ℕ) (v : ℕ) where
             let t : eqb (linkOf plan e .from) u ≡ false = ne-eqb _ _ d in
             fault 2 (rw (is-link, t)) refl
 
-        module _ (j : linkOf plan e .from ≡ u) (a : ℕ) (fa : a ≡ linkOf plan e .to) (small : a < 64) where
+        module _ (j : linkOf plan e .from ≡ u) (a : ℕ) (fa : a ≡ linkOf plan e .to) (small : a < mostVertices) where
           joined : eqb (linkOf plan e .from) u ≡ true
           joined = eq-eqb _ _ j
 

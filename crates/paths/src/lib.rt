@@ -1,10 +1,12 @@
 // Paths as lists of links: the first link of a path that breaks a rule, if any, and where the path ends, as specs/ of `scope` (Good)
 // says of the plan of a row; it leans on `view`. A path is a slice of links, so that the second paths, which are parts of the row, and
 // the first paths, which are copied out of it, go by the same rule.
+use scope::limits::VERTICES;
 ghost use mathlib.Core.Path.{_≡_};
 ghost use mathlib.Core.List.{[], _∷_};
 ghost use Prim.Native.Nat.{_<_, _≤_, _^_};
 ghost use lib.ListN.{length};
+ghost use Rattle.scope.specs.Limits.{mostVertices};
 ghost use Rattle.scope.specs.Plan.{planOf, linkOf, placeCount};
 ghost use Rattle.scope.specs.Good.{isPathFrom, endOf};
 ghost use Rattle.view.specs.Lies.{PlanLies};
@@ -41,11 +43,11 @@ pub struct Fault {
 
 // The first fault of links that begin at vertex v. The path is walked once, with a mark for each vertex that is met.
 pub fn first_fault(row: &[u16], v: usize, path: &[u16]) -> Fault
-    requires { ⌜ PlanLies (now row) × (v < 64) ⌝ }
+    requires { ⌜ PlanLies (now row) × (v < mostVertices) ⌝ }
     ensures { λ r. ⌜ r ≡ firstFault (planOf (now (row .entry))) (v ∷ []) v 0 (now (path .entry)) ⌝ }
 {
     let links = view::links(row);
-    let mut met = [0u8; 64];
+    let mut met = [0u8; VERTICES];
     met[v] = 1;
     let mut at = v;
     let mut k = 0;
@@ -68,7 +70,7 @@ pub fn first_fault(row: &[u16], v: usize, path: &[u16]) -> Fault
 }
 
 pub fn is_path(row: &[u16], v: usize, path: &[u16]) -> bool
-    requires { ⌜ PlanLies (now row) × (v < 64) ⌝ }
+    requires { ⌜ PlanLies (now row) × (v < mostVertices) ⌝ }
     ensures { λ r. ⌜ r ≡ isPathFrom (planOf (now (row .entry))) v (now (path .entry)) ⌝ }
 {
     let fault = first_fault(row, v, path);

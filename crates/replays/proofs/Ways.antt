@@ -9,34 +9,38 @@ use borrow.Author.Tests.{le-leb, lt-leb}
 use Rattle.scope.specs.declared.Answer.{Answer}
 use Rattle.scope.specs.declared.Answer.the-variants.{Gives, Refused}
 use Rattle.scope.specs.declared.Refusal.{Refusal}
+use Rattle.scope.specs.Limits.{mostSlots, mostMessages, longestRow}
 use Rattle.scope.specs.Outcome.{gives, refused}
 use Rattle.scope.specs.Plan.{Plan, messageCount, timeoutOf, planOf}
 use Rattle.scope.specs.Cuts.{checkCuts, isCut}
 use Rattle.scope.specs.Slot as S
-use Rattle.scope.specs.Cycle.{byNumber, orderOf, tableOf, positions, events, arrived, start, arrivals, eventRow}
+use Rattle.scope.specs.Cycle.{orderOf, tableOf, positions, events, arrived, start, arrivals, eventRow}
 use Rattle.scope.specs.Questions.{judge, replay}
 use Rattle.view.specs.Lies.{PlanLies}
 use Rattle.view.proofs.Parts.{message-count, link-count, timeout-is}
 use Rattle.view.proofs.Walked.{walked}
-use Rattle.table.specs.Table.{Table}
+use Rattle.table.specs.Table.{Table, entryAt}
 use Rattle.flow.proofs.Theorems.{row-most}
 use Rattle.plan.proofs.Outcomes.{only-one, after-refused, after-gives}
-use Rattle.plan.proofs.Ways.{good-row}
-use Rattle.cuts.specs.From.{downOf, Tells}
-use Rattle.cycle.specs.Slot.{ownerOf}
+use Rattle.plan.specs.Answers.{GoodRow}
+use Rattle.cuts.specs.Down.{cutBelow}
 use Rattle.cycle.specs.Play.{MayPlay, Played}
 use Rattle.cycle.proofs.Slots.{events-length}
 use Rattle.cycle.proofs.Agree.{positions-same, events-same, down-same, owner-same}
-use Rattle.replays.specs.Replay.{Judged, Checked, Replays}
+use Rattle.replays.specs.Replay.{Checked, Replays}
 
--- the parts of a good row lie in it, and it may be played
-pub judged-lies : (row : List ℕ) → Judged row → PlanLies row
-judged-lies row j = walked row (good-row row (j .count) (j .good) .form)
+-- a good row is judged so, its parts lie in it, and it may be played
+judged : (row : List ℕ) → GoodRow row → judge row ≡ gives (length row)
+unfolding judge
+judged row j = rw (j .form, j .keeps)
 
-pub judged-may : (row : List ℕ) (room : ℕ) → Judged row → timeoutOf row * (2 * messageCount row) ≤ room → MayPlay row room
-judged-may row room j h =
-    let l = judged-lies row j in
-    let m : length row ≤ 10405 = row-most row (length row) (good-row row (j .count) (j .good) .form) in
+pub good-lies : (row : List ℕ) → GoodRow row → PlanLies row
+good-lies row j = walked row (j .form)
+
+pub good-may : (row : List ℕ) (room : ℕ) → GoodRow row → timeoutOf row * (2 * messageCount row) ≤ room → MayPlay row room
+good-may row room j h =
+    let l = good-lies row j in
+    let m : length row ≤ longestRow = row-most row (length row) (j .form) in
     record { may = record { few = l .messages; fit = omega (arith, l .ends) }; enough = h }
 
 -- "2 × t × M numbers"
@@ -55,11 +59,11 @@ row-length row cuts =
     ∙ ap (λ k. planOf row .timeout * (2 * k)) (length-map (planOf row .messages) S.onFirst ∙ message-count row)
     ∙ ap (λ k. k * (2 * messageCount row)) (timeout-is row)
 
-pub few-numbers : (row : List ℕ) → Judged row → (t n : ℕ) → t ≡ timeoutOf row → n ≡ messageCount row → t * (2 * n) ≤ 64 * 64
+pub few-numbers : (row : List ℕ) → GoodRow row → (t n : ℕ) → t ≡ timeoutOf row → n ≡ messageCount row → t * (2 * n) ≤ mostSlots * (2 * mostMessages)
 few-numbers row j t n e f =
-    let l = judged-lies row j in
-    let a : t ≤ 64 = omega (arith, l .timeout) in
-    let b : 2 * n ≤ 64 = omega (arith, l .messages) in
+    let l = good-lies row j in
+    let a : t ≤ mostSlots = omega (arith, l .timeout) in
+    let b : 2 * n ≤ 2 * mostMessages = omega (arith, l .messages) in
     mul-le-mul a b
 
 -- refusals 1 to 10, and 12
@@ -69,11 +73,11 @@ replay-bad row cuts entry r e =
     let o : replay row cuts (length entry) ≡ refused (r .no) (r .place) = rw e in
     record { answer = sym o; buffer = after-refused _ _ _ _ entry o }
 
-pub replay-cuts : (row cuts entry : List ℕ) (r : Refusal) → Judged row → checkCuts (planOf row) cuts ≡ refused (r .no) (r .place) →
+pub replay-cuts : (row cuts entry : List ℕ) (r : Refusal) → GoodRow row → checkCuts (planOf row) cuts ≡ refused (r .no) (r .place) →
     Replays row cuts entry entry (Refused r)
 unfolding replay
 replay-cuts row cuts entry r j e =
-    let o : replay row cuts (length entry) ≡ refused (r .no) (r .place) = rw (j .good, e) in
+    let o : replay row cuts (length entry) ≡ refused (r .no) (r .place) = rw (judged row j, e) in
     record { answer = sym o; buffer = after-refused _ _ _ _ entry o }
 
 module _ (row cuts entry : List ℕ) (good : Checked row cuts) (needed : ℕ) (n : needed ≡ timeoutOf row * (2 * messageCount row)) where
@@ -82,17 +86,17 @@ module _ (row cuts entry : List ℕ) (good : Checked row cuts) (needed : ℕ) (n
   unfolding replay
   replay-short h =
       let l : length (eventRow (planOf row) cuts) ≡ needed = row-length row cuts ∙ sym n in
-      let o : replay row cuts (length entry) ≡ refused 13 needed = rw (good .judged .good, good .good, l, lt-leb needed (length entry) h) in
+      let o : replay row cuts (length entry) ≡ refused 13 needed = rw (judged row (good .row), good .good, l, lt-leb needed (length entry) h) in
       record { answer = sym o; buffer = after-refused _ _ _ _ entry o }
 
   -- the arrivals, with the row of events
-  module _ (h : needed ≤ length entry) (table from exit : List ℕ) (count : ℕ) (t : Table (tableOf (planOf row)) table) (f : Tells cuts 64 from)
-      (p : Played row table from entry exit count) where
-    same : (j : ℕ) → j < 0 + timeoutOf row → (downOf from j ≡ isCut (planOf row) cuts j) × (ownerOf table j ≡ tableOf (planOf row) j)
+  module _ (h : needed ≤ length entry) (table exit : List ℕ) (count : ℕ) (t : Table (tableOf (planOf row)) table)
+      (p : Played row table cuts entry exit count) where
+    same : (j : ℕ) → j < 0 + timeoutOf row → (cutBelow (planOf row) cuts j ≡ isCut (planOf row) cuts j) × (entryAt table j ≡ tableOf (planOf row) j)
     same j g =
-        let l = judged-lies row (good .judged) in
-        let k : j < 64 = omega (arith, l .timeout) in (
-          down-same (planOf row) cuts (good .count) (good .good) from f (omega (arith, link-count row, l .links)) j (omega arith),
+        let l = good-lies row (good .row) in
+        let k : j < mostSlots = omega (arith, l .timeout) in (
+          down-same (planOf row) cuts (good .count) (good .good) (omega (arith, link-count row, l .links)) j,
           owner-same row l table t j k,
         )
 
@@ -100,13 +104,13 @@ module _ (row cuts entry : List ℕ) (good : Checked row cuts) (needed : ℕ) (n
     unfolding arrivals
     ends =
         p .arrivals
-        ∙ ap arrived (positions-same byNumber (downOf from) (isCut (planOf row) cuts) (ownerOf table) (tableOf (planOf row)) (timeoutOf row) 0 (start (planOf row)) same)
+        ∙ ap arrived (positions-same (orderOf (planOf row)) (cutBelow (planOf row) cuts) (isCut (planOf row) cuts) (entryAt table) (tableOf (planOf row)) (timeoutOf row) 0 (start (planOf row)) same)
         ∙ ap (λ u. arrived (positions (orderOf (planOf row)) (isCut (planOf row) cuts) (tableOf (planOf row)) 0 u (start (planOf row)))) (sym (timeout-is row))
 
-    tells-row : events byNumber (downOf from) (ownerOf table) 0 (timeoutOf row) (start (planOf row)) ≡ eventRow (planOf row) cuts
+    tells-row : events (orderOf (planOf row)) (cutBelow (planOf row) cuts) (entryAt table) 0 (timeoutOf row) (start (planOf row)) ≡ eventRow (planOf row) cuts
     unfolding eventRow
     tells-row =
-        events-same byNumber (downOf from) (isCut (planOf row) cuts) (ownerOf table) (tableOf (planOf row)) (timeoutOf row) 0 (start (planOf row)) same
+        events-same (orderOf (planOf row)) (cutBelow (planOf row) cuts) (isCut (planOf row) cuts) (entryAt table) (tableOf (planOf row)) (timeoutOf row) 0 (start (planOf row)) same
         ∙ ap (λ u. events (orderOf (planOf row)) (isCut (planOf row) cuts) (tableOf (planOf row)) 0 u (start (planOf row))) (sym (timeout-is row))
 
     pub replay-gives : Replays row cuts entry exit (Gives count)
@@ -114,7 +118,7 @@ module _ (row cuts entry : List ℕ) (good : Checked row cuts) (needed : ℕ) (n
     replay-gives =
         let l : length (eventRow (planOf row) cuts) ≡ needed = row-length row cuts ∙ sym n in
         let o : replay row cuts (length entry) ≡ gives (arrivals (planOf row) cuts) =
-        rw (good .judged .good, good .good, l, le-leb needed (length entry) h) in
+        rw (judged row (good .row), good .good, l, le-leb needed (length entry) h) in
         record {
           answer = ap gives ends ∙ sym o;
           buffer = p .events ∙ ap (λ u. u ++ drop (length u) entry) tells-row ∙ after-gives _ _ (eventRow (planOf row) cuts) entry o;

@@ -8,17 +8,12 @@ use Rattle.scope.specs.Outcome.{gives}
 use Rattle.scope.specs.Plan.{planOf}
 use Rattle.scope.specs.Cuts.{checkCuts}
 use Rattle.scope.specs.Cycle.{eventRow}
-use Rattle.scope.specs.Questions.{judge, replay}
-use Rattle.plan.specs.Answers.{Answers}
+use Rattle.scope.specs.Questions.{replay}
+use Rattle.plan.specs.Answers.{Answers, GoodRow}
 
--- a row without refusals 1 to 10
-pub record Judged (row : List ℕ) : Type 0 where
-  pub count : ℕ
-  pub good : judge row ≡ gives count
-
--- and a cut list without refusal 12
+-- a good row, and a cut list without refusal 12
 pub record Checked (row cuts : List ℕ) : Type 0 where
-  pub judged : Judged row
+  pub row : GoodRow row
   pub count : ℕ
   pub good : checkCuts (planOf row) cuts ≡ gives count
 

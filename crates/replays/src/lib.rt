@@ -1,16 +1,18 @@
 // The replay of one cycle under a cut list: document 01's refusals 1 to 10, 12 and 13, or the number of arrivals with the row of
 // events. It takes anything and asks nothing. It leans on `plan` for refusals 1 to 10, on `cuts` for 12, on `table` for who holds a
 // link, and on `cycle`, which plays.
+use scope::limits::TABLE;
 use scope::Answer;
 use scope::Refusal;
 ghost use Prim.Native.Nat.{_*_};
 ghost use mathlib.Core.Path.{_≡_};
 ghost use Rattle.scope.specs.Plan.{messageCount, timeoutOf};
-ghost use Rattle.replays.specs.Replay.{Judged, Checked, Replays};
+ghost use Rattle.plan.specs.Answers.{GoodRow};
+ghost use Rattle.replays.specs.Replay.{Checked, Replays};
 
 // How many numbers the row of events takes.
 fn event_numbers(row: &[u16]) -> usize
-    requires { ⌜ Judged (now row) ⌝ }
+    requires { ⌜ GoodRow (now row) ⌝ }
     ensures { λ r. ⌜ r ≡ timeoutOf (now (row .entry)) * (2 * messageCount (now (row .entry))) ⌝ }
 {
     view::timeout(row) * (2 * view::messages(row))
@@ -28,16 +30,15 @@ fn replay_cut(row: &[u16], cuts: &[u16], events: &mut [u16]) -> Answer
             place: needed,
         });
     }
-    let mut table = [0u8; 4096];
+    let mut table = [0u8; TABLE];
     table::fill_table(row, &mut table);
-    let from = cuts::cut_from(cuts);
-    let count = cycle::play(row, &table, &from, events);
+    let count = cycle::play(row, &table, cuts, events);
     Answer::Gives(count)
 }
 
-// The replay of a good row: refusal 12, or what `replay_cut` gives.
-fn replay_good(row: &[u16], cuts: &[u16], events: &mut [u16]) -> Answer
-    requires { ⌜ Judged (now row) ⌝ }
+// The replay of a row that is known to be good: refusal 12, or what `replay_cut` gives.
+pub fn replay_good(row: &[u16], cuts: &[u16], events: &mut [u16]) -> Answer
+    requires { ⌜ GoodRow (now row) ⌝ }
     ensures { λ r. ⌜ Replays (now (row .entry)) (now (cuts .entry)) (now (events .entry)) (now (events .exit)) r ⌝ }
 {
     let checked = cuts::check(row, cuts);

@@ -5,6 +5,7 @@ use mathlib.Core.Bool.{Bool, cond}
 use mathlib.Core.List.{List}
 use lib.ListN.{length, getD}
 use lib.Dec.{ltb, eqb}
+use Rattle.scope.specs.Limits.{mostMessages}
 use Rattle.scope.specs.Outcome.{Outcome, gives, unlessSome}
 use Rattle.scope.specs.Plan.{Plan, messageCount, planOf}
 use Rattle.scope.specs.Good.{badEnds, repeats, badFirstPath, badSlots, badTable, badSecondPath}
@@ -34,9 +35,9 @@ rulesFrom plan (suc k) n = unlessSome n (breaks plan n) (countFor plan n) (rules
 
 -- where each of the first n messages stands, 0 for the others
 pub record Starts (row : List ℕ) (n : ℕ) (starts : List ℕ) : Type 0 where
-  pub long : length starts ≡ 32
-  pub are : (m : ℕ) → m < 32 → getD starts m 0 ≡ cond (ltb m n) (messageIndex row m) 0
-  pub small : (m : ℕ) → m < 32 → getD starts m 0 ≤ 131077 + m * 4295229441
+  pub long : length starts ≡ mostMessages
+  pub are : (m : ℕ) → m < mostMessages → getD starts m 0 ≡ cond (ltb m n) (messageIndex row m) 0
+  pub small : (m : ℕ) → m < mostMessages → getD starts m 0 ≤ 131077 + m * 4295229441
 
 pub record Judging (row starts table : List ℕ) : Type 0 where
   pub lies : PlanLies row

@@ -3,9 +3,12 @@
 // goes through the rules. It leans on `broken` for the test of one link or message, and on `view` and `table`.
 use scope::Answer;
 use scope::Refusal;
+use scope::limits::MESSAGES;
+use scope::limits::TABLE;
 ghost use mathlib.Core.Path.{_≡_};
 ghost use Prim.Native.Nat.{_<_, _≤_};
 ghost use lib.ListN.{length};
+ghost use Rattle.scope.specs.Limits.{mostMessages};
 ghost use Rattle.scope.specs.Lowest.{lowest};
 ghost use Rattle.scope.specs.Outcome.{gives, refused, outcomeOf};
 ghost use Rattle.scope.specs.Row.{walkRow};
@@ -14,11 +17,11 @@ ghost use Rattle.scope.specs.Good.{rules};
 ghost use Rattle.rules.specs.Rules.{Starts, Judging, breaks, countFor};
 
 // Where each message stands, 0 for those that the row does not have.
-fn message_starts(row: &[u16]) -> [usize; 32]
-    requires { ⌜ messageCount (now row) ≤ 32 ⌝ }
+fn message_starts(row: &[u16]) -> [usize; MESSAGES]
+    requires { ⌜ messageCount (now row) ≤ mostMessages ⌝ }
     ensures { λ r. ⌜ Starts (now (row .entry)) (messageCount (now (row .entry))) r ⌝ }
 {
-    let mut starts = [0usize; 32];
+    let mut starts = [0usize; MESSAGES];
     let n = view::messages(row);
     let mut at = view::message_index(row, 0);
     let mut m = 0;
@@ -31,7 +34,7 @@ fn message_starts(row: &[u16]) -> [usize; 32]
 }
 
 // Whether link m, and from rule 7 on message m, breaks rule n.
-fn breaks(row: &[u16], starts: &[usize; 32], table: &[u8], n: usize, m: usize) -> bool
+fn breaks(row: &[u16], starts: &[usize; MESSAGES], table: &[u8], n: usize, m: usize) -> bool
     requires { ⌜ Judging (now row) (now starts) (now table) × (5 ≤ n) × (m < countFor (planOf (now row)) n) ⌝ }
     ensures { λ r. ⌜ r ≡ breaks (planOf (now (row .entry))) n m ⌝ }
 {
@@ -57,7 +60,7 @@ fn count_for(row: &[u16], n: usize) -> usize
 }
 
 // The lowest link or message that breaks rule n, or how many there are.
-fn lowest_breaking(row: &[u16], starts: &[usize; 32], table: &[u8], n: usize, count: usize) -> usize
+fn lowest_breaking(row: &[u16], starts: &[usize; MESSAGES], table: &[u8], n: usize, count: usize) -> usize
     requires { ⌜ Judging (now row) (now starts) (now table) × (5 ≤ n) × (count ≡ countFor (planOf (now row)) n) ⌝ }
     ensures { λ r. ⌜ r ≡ lowest (breaks (planOf (now (row .entry))) n) count ⌝ }
 {
@@ -81,7 +84,7 @@ fn refuse(no: usize, place: usize) -> Answer
 }
 
 // The rules in their order.
-fn check_all(row: &[u16], starts: &[usize; 32], table: &[u8]) -> Answer
+fn check_all(row: &[u16], starts: &[usize; MESSAGES], table: &[u8]) -> Answer
     requires { ⌜ Judging (now row) (now starts) (now table) ⌝ }
     ensures { λ r. ⌜ outcomeOf r ≡ rules (planOf (now (row .entry))) ⌝ }
 {
@@ -103,7 +106,7 @@ pub fn check(row: &[u16]) -> Answer
     ensures { λ r. ⌜ outcomeOf r ≡ rules (planOf (now (row .entry))) ⌝ }
 {
     let starts = message_starts(row);
-    let mut table = [0u8; 4096];
+    let mut table = [0u8; TABLE];
     table::fill_table(row, &mut table);
     check_all(row, &starts, &table)
 }

@@ -4,3 +4,4 @@ pub mod Cuts
 pub mod Order
 pub mod First
 pub mod Cases
+pub mod Seek

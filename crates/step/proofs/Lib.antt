@@ -1,3 +1,13 @@
 pub mod Left
-pub mod Turns
 pub mod Steps
+pub mod Turns
+pub mod Walk
+pub mod Going
+pub mod Tried
+pub mod Moves
+pub mod Pass
+pub mod Acting
+pub mod Passing
+pub mod Telling
+pub mod Moving
+pub mod Again

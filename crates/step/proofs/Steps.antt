@@ -1,13 +1,13 @@
 -- Laws of what a message tries and does once it has turned, one for each way.
 use Prim.Native.Nat.{ℕ, _+_, _-_, _≤_, _<_}
 use mathlib.Core.Path.{_≡_, refl, sym, _∙_, ap}
-use mathlib.Core.Bool.{Bool, true, false}
+use mathlib.Core.Bool.{Bool, true, false, not}
 use mathlib.Core.List.{List}
 use native.Mathlib.Omega.{arith}
 use lib.Dec.{ltb, eqb}
 use borrow.Author.Tests.{eq-eqb, ne-eqb, lt-ltb, le-ltb, eqb-true, eqb-false}
 use Rattle.scope.specs.Plan.{at, numbersAt, placesAt, placeAt, placeSize}
-use Rattle.scope.specs.Slot.{Position, onFirst, onSecond, moved, atTarget, tries, nextSecond, onFirstPath, onSecondPath, act}
+use Rattle.scope.specs.Slot.{Position, onFirst, onSecond, moved, atTarget, turn, tries, nextSecond, onFirstPath, onSecondPath, act}
 use Rattle.step.specs.Where.{leftAt, endAt}
 use Rattle.step.proofs.Left.{numbers-none, numbers-next, places-none, places-next, after-next, after-size}
 
@@ -75,20 +75,20 @@ module _ (row : List ℕ) (i n : ℕ) where
     second-within = rw f (omega arith)
 
     module _ (entry first m e : ℕ) (p : e ≡ at row i) (d : Bool) where
-      pub second-stays : d ≡ true → moved (leftAt row b i n) 7 e ≡ onSecondPath d entry (ltb first m) first (at row i) (numbersAt row (i + 1) (n - 1))
+      pub second-stays : d ≡ true → moved (leftAt row b i n) 7 e ≡ onSecondPath d entry (not (eqb first m)) first (at row i) (numbersAt row (i + 1) (n - 1))
       second-stays h = rw (f, numbers-next row i n l, h, p)
 
       pub second-table : d ≡ false → 0 < entry →
-          moved (leftAt row b i n) 4 (entry - 1) ≡ onSecondPath d entry (ltb first m) first (at row i) (numbersAt row (i + 1) (n - 1))
+          moved (leftAt row b i n) 4 (entry - 1) ≡ onSecondPath d entry (not (eqb first m)) first (at row i) (numbersAt row (i + 1) (n - 1))
       second-table h g = rw (f, numbers-next row i n l, h, lt-ltb 0 entry g)
 
-      pub second-held : d ≡ false → entry ≤ 0 → first < m →
-          moved (leftAt row b i n) 5 first ≡ onSecondPath d entry (ltb first m) first (at row i) (numbersAt row (i + 1) (n - 1))
-      second-held h g k = rw (f, numbers-next row i n l, h, le-ltb 0 entry g, lt-ltb first m k)
+      pub second-held : d ≡ false → entry ≤ 0 → (first ≡ m → ⊥) →
+          moved (leftAt row b i n) 5 first ≡ onSecondPath d entry (not (eqb first m)) first (at row i) (numbersAt row (i + 1) (n - 1))
+      second-held h g k = rw (f, numbers-next row i n l, h, le-ltb 0 entry g, ne-eqb first m k)
 
-      pub second-crosses : d ≡ false → entry ≤ 0 → m ≤ first →
-          moved (onSecond (numbersAt row (i + 1) (n - 1))) 3 e ≡ onSecondPath d entry (ltb first m) first (at row i) (numbersAt row (i + 1) (n - 1))
-      second-crosses h g k = rw (h, le-ltb 0 entry g, le-ltb first m k, p)
+      pub second-crosses : d ≡ false → entry ≤ 0 → first ≡ m →
+          moved (onSecond (numbersAt row (i + 1) (n - 1))) 3 e ≡ onSecondPath d entry (not (eqb first m)) first (at row i) (numbersAt row (i + 1) (n - 1))
+      second-crosses h g k = rw (h, le-ltb 0 entry g, eq-eqb first m k, p)
 
   -- what it does, by where it stands
   module _ (down : ℕ → Bool) (slot entry : ℕ) (held : Bool) (first : ℕ) where
@@ -100,3 +100,19 @@ module _ (row : List ℕ) (i n : ℕ) where
       pub act-second : b ≡ true →
           onSecondPath d entry held first (at row i) (numbersAt row (i + 1) (n - 1)) ≡ act down slot entry held first (leftAt row b i n)
       act-second f = rw (f, numbers-next row i n (some n l), q, p)
+
+  -- at its target: it turns, tries and does nothing
+  module _ (b : Bool) (h : n ≡ 0) (down : ℕ → Bool) where
+    pub home-tries : 0 ≡ tries down (turn down (leftAt row b i n))
+    home-tries = by b
+      where
+        by : (b : Bool) → 0 ≡ tries down (turn down (leftAt row b i n))
+        by true = rw (numbers-none row i n h)
+        by false = rw (places-none row i n h)
+
+    pub home-acts : (slot entry : ℕ) (held : Bool) (first : ℕ) → moved (leftAt row b i n) 0 0 ≡ act down slot entry held first (turn down (leftAt row b i n))
+    home-acts slot entry held first = by b
+      where
+        by : (b : Bool) → moved (leftAt row b i n) 0 0 ≡ act down slot entry held first (turn down (leftAt row b i n))
+        by true = rw (numbers-none row i n h)
+        by false = rw (places-none row i n h)

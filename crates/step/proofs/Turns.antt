@@ -1,16 +1,18 @@
--- Laws of a message's turn, one for each way.
-use Prim.Native.Nat.{ℕ, _+_, _≤_, _<_}
+-- Laws of a message's turn, one for each way, and of what follows it.
+use Prim.Native.Nat.{ℕ, _+_, _-_, _≤_, _<_}
 use mathlib.Core.Path.{_≡_, sym, _∙_, ap}
 use mathlib.Core.Bool.{Bool, true, false}
 use mathlib.Core.List.{List}
 use native.Mathlib.Omega.{arith}
 use borrow.Author.Tests.{eq-eqb, ne-eqb}
-use Rattle.scope.specs.Plan.{at, numbersAt}
-use Rattle.scope.specs.Slot.{onSecond, turn}
+use Rattle.scope.specs.Plan.{at, numbersAt, placeAt, placeSize, placesAt}
+use Rattle.scope.specs.Slot.{onSecond, turn, tries, onFirstPath, onSecondPath, act}
 use Rattle.step.specs.declared.Position.{Position}
 use Rattle.step.specs.declared.Met.{Met}
-use Rattle.step.specs.Where.{leftAt, positionOf, endAt, Leads, Faces, Meets}
+use Rattle.step.specs.declared.Moved.{Moved}
+use Rattle.step.specs.Where.{leftAt, positionOf, endAt, endOf, Leads, Acts, Faces, Meets}
 use Rattle.step.proofs.Left.{numbers-next, places-next, after-size, size-second}
+use Rattle.step.proofs.Steps.{tries-first, tries-cut, tries-whole, act-first, act-second}
 
 module _ (row : List ℕ) (down : ℕ → Bool) (i n : ℕ) where
   pub turn-turned : (b : Bool) → b ≡ true → leftAt row b i n ≡ turn down (leftAt row b i n)
@@ -49,3 +51,46 @@ meets-by row down p q r t l f =
       link = rw (f .same) (f .link);
       cut = f .cut;
     }
+
+-- what it tries and does after its turn, by where it stands then
+module _ (row : List ℕ) (down : ℕ → Bool) (p : Position) (t : Met) (h : Meets row down p t) where
+  abbrev q : Position
+  q = t .position
+
+  far : q .left ≡ 0 → ⊥
+  far z = omega (arith, h .left)
+
+  pub met-none : q .turned ≡ false → 0 ≡ tries down (turn down (positionOf row p))
+  met-none f = tries-first row (q .at) (q .left) down (q .turned) f ∙ ap (tries down) (h .turned .is)
+
+  pub met-cut : q .turned ≡ true → t .down ≡ true → 0 ≡ tries down (turn down (positionOf row p))
+  met-cut f d = tries-cut row (q .at) (q .left) down (q .turned) f far (t .link) (h .link) (t .down) (h .cut) d ∙ ap (tries down) (h .turned .is)
+
+  pub met-whole : q .turned ≡ true → t .down ≡ false → t .link + 1 ≡ tries down (turn down (positionOf row p))
+  met-whole f d = tries-whole row (q .at) (q .left) down (q .turned) f far (t .link) (h .link) (t .down) (h .cut) d ∙ ap (tries down) (h .turned .is)
+
+  module _ (slot entry : ℕ) (held : Bool) (first : ℕ) (r : Moved) where
+    within : endOf row (r .next) ≤ endOf row q → endOf row (r .next) ≤ endOf row p
+    within l = omega (arith, l, h .turned .within)
+
+    pub met-first : q .turned ≡ false →
+        Acts row q (onFirstPath (t .down) slot (placeAt row (q .at)) (placesAt row (q .at + placeSize row (q .at)) (q .left - 1))) r →
+        Acts row p (act down slot entry held first (turn down (positionOf row p))) r
+    met-first f a =
+        record {
+          is =
+              a .is ∙ act-first row (q .at) (q .left) down slot entry held first (q .turned) far (t .link) (h .link) (t .down) (h .cut) f
+              ∙ ap (act down slot entry held first) (h .turned .is);
+          within = within (a .within);
+        }
+
+    pub met-second : q .turned ≡ true →
+        Acts row q (onSecondPath (t .down) entry held first (at row (q .at)) (numbersAt row (q .at + 1) (q .left - 1))) r →
+        Acts row p (act down slot entry held first (turn down (positionOf row p))) r
+    met-second f a =
+        record {
+          is =
+              a .is ∙ act-second row (q .at) (q .left) down slot entry held first (q .turned) far (t .link) (h .link) (t .down) (h .cut) f
+              ∙ ap (act down slot entry held first) (h .turned .is);
+          within = within (a .within);
+        }

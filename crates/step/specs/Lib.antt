@@ -1,2 +1,5 @@
 pub mod Events
 pub mod Where
+pub mod Stand
+pub mod Slot
+pub mod Pass

@@ -1,28 +1,47 @@
-// One message in one slot: a position goes in, and the next position and the event come out. Each promise is an equation with
-// `turn`, `onFirstPath` and `onSecondPath` of document 01's section "One slot" (specs/Slot of `scope`), for any row of numbers, any cut
-// list and any table. All that is asked is that a position ends below index 65536, which no function here undoes.
+// One slot: what each message does in it, and how it leads from a time to the next. Each promise is an equation with `act` of `turn` and
+// with `slot` of document 01's section "One slot" (specs/Slot and specs/Cycle of `scope`), for any row of numbers, anything that is down in
+// the slot and any table. All that is asked is that a position ends below index 65536, which no function here undoes.
+//
+// A slot is one pass over the messages, in their order, in records that are lent: `move_all` and `lend` alone hold a slice of records,
+// and their proofs are walks by hand.
 use cuts::is_down;
+use scope::limits::MESSAGES;
 use view::number;
-ghost use Prim.Native.Nat.{_+_, _-_, _<_, _^_};
+ghost use Prim.Native.Nat.{_+_, _-_, _*_, _<_, _≤_};
 ghost use mathlib.Core.Path.{_≡_};
-ghost use mathlib.Core.Bool.{true, false};
-ghost use lib.Dec.{ltb, eqb};
+ghost use mathlib.Core.Bool.{true, false, not};
+ghost use mathlib.Core.List.{_++_};
+ghost use lib.ListN.{length, drop, set};
+ghost use lib.Dec.{eqb};
 ghost use Rattle.scope.specs.Plan.{at, numbersAt, placeAt, placeSize, placesAt};
-ghost use Rattle.scope.specs.Slot.{onFirst, onFirstPath, onSecondPath};
-ghost use Rattle.cuts.specs.From.{downOf};
+ghost use Rattle.scope.specs.Slot.{onFirst, onFirstPath, onSecondPath, turn, tries, act};
+ghost use Rattle.scope.specs.Cycle.{numbers};
+ghost use Rattle.cuts.specs.Down.{isDown};
+ghost use Rattle.table.specs.Table.{entryAt};
 ghost use Rattle.step.specs.Events.{eventOf};
-ghost use Rattle.step.specs.Where.{endOf, Leads, Acts, Faces, Meets};
+ghost use Rattle.step.specs.Where.{positionOf, endOf, Leads, Acts, Faces, Meets};
+ghost use Rattle.step.specs.Stand.{positionsOf, Stand, Moves, MayTellAll};
+ghost use Rattle.step.specs.Slot.{downNow, inSlot, MayGo, GoesOn, MayTell};
+ghost use Rattle.step.specs.Pass.{firstTrier, noted, Noting, MayAct, ActsIn, MovesIn, MayMoveAll, MovesAll};
 
-// "Slot numbers run from 0 to t − 1; times run from 0 to t. What happens in slot i leads from time i to time i + 1."
-pub struct Slot(pub usize);
+// "Slot numbers run from 0 to t − 1; times run from 0 to t. What happens in slot i leads from time i to time i + 1." A time is made
+// as the first one and by the slot step (`Standing::after`) alone, and a slot is made from a time before the timeout alone.
+pub struct Slot(usize);
 
-pub struct Time(pub usize);
+pub struct Time(usize);
 
 impl Time {
     pub fn first() -> Self
         ensures { λ r. ⌜ r .0 ≡ 0 ⌝ }
     {
         Time(0)
+    }
+
+    // The number, to write it or to compare it.
+    pub fn number(self) -> usize
+        ensures { λ r. ⌜ r ≡ self .0 ⌝ }
+    {
+        self.0
     }
 
     // The slot that begins at this time, which is not yet the timeout.
@@ -35,12 +54,11 @@ impl Time {
 }
 
 impl Slot {
-    // The time to which this slot leads.
-    pub fn after(self) -> Time
-        requires { ⌜ self .0 < 2 ^ 63 ⌝ }
-        ensures { λ r. ⌜ r .0 ≡ self .0 + 1 ⌝ }
+    // The number, to write it or to compare it.
+    pub fn number(self) -> usize
+        ensures { λ r. ⌜ r ≡ self .0 ⌝ }
     {
-        Time(self.0 + 1)
+        self.0
     }
 }
 
@@ -117,25 +135,25 @@ impl Position {
     }
 
     // The link before it, and whether that link is down.
-    fn faces(self, row: &[u16], from: &[u16], slot: Slot) -> Met
+    fn faces(self, row: &[u16], down: &[u8]) -> Met
         requires { ⌜ 0 < self .left ⌝ }
-        ensures { λ r. ⌜ Faces (now (row .entry)) (downOf (now (from .entry)) (slot .0)) self r ⌝ }
+        ensures { λ r. ⌜ Faces (now (row .entry)) (isDown (now (down .entry))) self r ⌝ }
     {
         let link = number(row, self.at as usize);
-        let down = is_down(from, slot.0, link);
+        let cut = is_down(down, link);
         Met {
             position: self,
             link: link as u16,
-            down,
+            down: cut,
         }
     }
 
     // The position after its turn, if the next link of its first path is cut and it has a second path there, with the link before it.
-    pub fn meets(self, row: &[u16], from: &[u16], slot: Slot) -> Met
+    pub fn meets(self, row: &[u16], down: &[u8]) -> Met
         requires { ⌜ (0 < self .left) × (endOf (now row) self < 65536) ⌝ }
-        ensures { λ r. ⌜ Meets (now (row .entry)) (downOf (now (from .entry)) (slot .0)) self r ⌝ }
+        ensures { λ r. ⌜ Meets (now (row .entry)) (isDown (now (down .entry))) self r ⌝ }
     {
-        let here = self.faces(row, from, slot);
+        let here = self.faces(row, down);
         if self.turned {
             return here;
         }
@@ -147,12 +165,29 @@ impl Position {
                     left: (number(row, at + 3) + 1) as u16,
                     turned: true,
                 };
-                turned.faces(row, from, slot)
+                turned.faces(row, down)
             } else {
                 here
             }
         } else {
             here
+        }
+    }
+
+    // The link that it tries after its turn, plus one; 0 where it tries none.
+    fn tries(self, row: &[u16], down: &[u8]) -> usize
+        requires { ⌜ endOf (now row) self < 65536 ⌝ }
+        ensures { λ r. ⌜ (r ≡ tries (isDown (now (down .entry))) (turn (isDown (now (down .entry))) (positionOf (now (row .entry)) self))) × (r ≤ 65536) ⌝ }
+    {
+        if self.is_home() {
+            return 0;
+        }
+        let met = self.meets(row, down);
+        let q = met.position;
+        if q.turned {
+            if met.down { 0 } else { met.link as usize + 1 }
+        } else {
+            0
         }
     }
 
@@ -170,7 +205,7 @@ impl Position {
     }
 
     // What it does on its first path, with its next link cut or whole: kinds 6, 2 and 1.
-    pub fn act_first(self, row: &[u16], slot: Slot, link: u16, down: bool) -> Moved
+    fn act_first(self, row: &[u16], slot: Slot, link: u16, down: bool) -> Moved
         requires { ⌜ (self .turned ≡ false) × (0 < self .left) × (endOf (now row) self < 65536) × (link ≡ at (now row) (self .at)) ⌝ }
         ensures { λ r. ⌜ Acts (now (row .entry)) self (onFirstPath down (slot .0) (placeAt (now (row .entry)) (self .at)) (placesAt (now (row .entry)) (self .at + placeSize (now (row .entry)) (self .at)) (self .left - 1))) r ⌝ }
     {
@@ -189,18 +224,10 @@ impl Position {
     }
 
     // What it does on its second path, with its next link cut or whole: the tests "go in the order 7, 4, 5, 3". `entry` is what the
-    // table has for that link and slot, `first` the lowest message that tries the link, and `m` this message.
-    pub fn act_second(
-        self,
-        row: &[u16],
-        link: u16,
-        down: bool,
-        entry: u8,
-        first: u16,
-        m: u16,
-    ) -> Moved
+    // table has for that link and slot, `first` who goes first of those that try the link, and `m` this message.
+    fn act_second(self, row: &[u16], link: u16, down: bool, entry: u8, first: u16, m: u16) -> Moved
         requires { ⌜ (self .turned ≡ true) × (0 < self .left) × (endOf (now row) self < 65536) × (link ≡ at (now row) (self .at)) ⌝ }
-        ensures { λ r. ⌜ Acts (now (row .entry)) self (onSecondPath down entry (ltb first m) first (at (now (row .entry)) (self .at)) (numbersAt (now (row .entry)) (self .at + 1) (self .left - 1))) r ⌝ }
+        ensures { λ r. ⌜ Acts (now (row .entry)) self (onSecondPath down entry (not (eqb first m)) first (at (now (row .entry)) (self .at)) (numbersAt (now (row .entry)) (self .at + 1) (self .left - 1))) r ⌝ }
     {
         if down {
             let event = Event::StaysSecond(link);
@@ -208,7 +235,7 @@ impl Position {
         } else if 0 < entry {
             let event = Event::HeldByTable((entry - 1) as u16);
             Moved { next: self, event }
-        } else if first < m {
+        } else if first != m {
             let event = Event::HeldByLower(first);
             Moved { next: self, event }
         } else {
@@ -220,5 +247,235 @@ impl Position {
             let event = Event::CrossesSecond(link);
             Moved { next, event }
         }
+    }
+
+    // What message m does in a slot: it turns if it must, and acts. `entry` is what the table has for the link that it meets, and `first`
+    // who goes first of those that try that link, m itself where nobody is before it.
+    pub fn acts(self, row: &[u16], down: &[u8], slot: Slot, entry: u8, first: u16, m: u16) -> Moved
+        requires { ⌜ endOf (now row) self < 65536 ⌝ }
+        ensures { λ r. ⌜ Acts (now (row .entry)) self (act (isDown (now (down .entry))) (slot .0) entry (not (eqb first m)) first (turn (isDown (now (down .entry))) (positionOf (now (row .entry)) self))) r ⌝ }
+    {
+        if self.is_home() {
+            let event = Event::Arrived;
+            return Moved { next: self, event };
+        }
+        let met = self.meets(row, down);
+        let p = met.position;
+        if p.turned {
+            p.act_second(row, met.link, met.down, entry, first, m)
+        } else {
+            p.act_first(row, slot, met.link, met.down)
+        }
+    }
+}
+
+// The first of those who have tried a link in this slot, or m where nobody has.
+fn first_trier(tried: &[u16], link: u16, m: usize) -> usize
+    requires { ⌜ Noting (now tried) m ⌝ }
+    ensures { λ r. ⌜ (r ≡ firstTrier (now (tried .entry)) link m) × (r ≤ m) ⌝ }
+{
+    let n = tried[0] as usize;
+    let mut j = 0;
+    while j < n {
+        if tried[2 * j + 1] == link {
+            return tried[2 * j + 2] as usize;
+        }
+        j += 1;
+    }
+    m
+}
+
+// Message m tries a link too.
+fn note(tried: &mut [u16], link: u16, m: usize)
+    requires { ⌜ Noting (now tried) m ⌝ }
+    ensures { λ _. ⌜ now (tried .exit) ≡ noted (now (tried .entry)) link m ⌝ }
+{
+    let n = tried[0] as usize;
+    tried[2 * n + 1] = link;
+    tried[2 * n + 2] = m as u16;
+    tried[0] = (n + 1) as u16;
+}
+
+// What message m does in a slot, in a pass over the messages: `tried` has what those before it try.
+fn act_one(
+    p: Position,
+    m: usize,
+    row: &[u16],
+    table: &[u8],
+    down: &[u8],
+    slot: Slot,
+    tried: &mut [u16],
+) -> Moved
+    requires { ⌜ MayAct (now row) p m (slot .0) (now tried) ⌝ }
+    ensures { λ r. ⌜ ActsIn (now (row .entry)) (isDown (now (down .entry))) (entryAt (now (table .entry)) (slot .0)) (slot .0) p m (now (tried .entry)) (now (tried .exit)) r ⌝ }
+{
+    let link = p.tries(row, down);
+    if link == 0 {
+        return p.acts(row, down, slot, 0, m as u16, m as u16);
+    }
+    let e = (link - 1) as u16;
+    let entry = table::entry(table, slot.0, link - 1);
+    let first = first_trier(tried, e, m);
+    note(tried, e, m);
+    p.acts(row, down, slot, entry, first as u16, m as u16)
+}
+
+// The next position of message m.
+fn move_one(
+    p: Position,
+    m: usize,
+    row: &[u16],
+    table: &[u8],
+    down: &[u8],
+    slot: Slot,
+    tried: &mut [u16],
+) -> Position
+    requires { ⌜ MayAct (now row) p m (slot .0) (now tried) ⌝ }
+    ensures { λ r. ⌜ MovesIn (now (row .entry)) (isDown (now (down .entry))) (entryAt (now (table .entry)) (slot .0)) (slot .0) p m (now (tried .entry)) (now (tried .exit)) r ⌝ }
+{
+    let moved = act_one(p, m, row, table, down, slot, tried);
+    moved.next
+}
+
+// One slot of all messages, in the records that are lent: each moves, in their order. One at its target stays as it is.
+fn move_all(
+    ps: &mut [Position],
+    n: usize,
+    row: &[u16],
+    table: &[u8],
+    down: &[u8],
+    i: Slot,
+    tried: &mut [u16],
+)
+    requires { ⌜ MayMoveAll (now row) (now ps) n (i .0) (now tried) ⌝ }
+    ensures { λ _. ⌜ MovesAll (now (row .entry)) n (downNow (now (down .entry))) (entryAt (now (table .entry))) (i .0) (now (ps .entry)) (now (ps .exit)) (now (tried .entry)) (now (tried .exit)) ⌝ }
+{
+    let mut m = 0;
+    while m < n {
+        let p = ps[m];
+        if p.left != 0 {
+            let q = move_one(p, m, row, table, down, i, tried);
+            ps[m] = q;
+        }
+        m += 1;
+    }
+}
+
+// The same slot for positions of one's own, which are lent to it.
+fn lend(
+    ps: [Position; MESSAGES],
+    n: usize,
+    row: &[u16],
+    table: &[u8],
+    down: &[u8],
+    i: Slot,
+    tried: &mut [u16],
+) -> [Position; MESSAGES]
+    requires { ⌜ MayMoveAll (now row) ps n (i .0) (now tried) ⌝ }
+    ensures { λ r. ⌜ MovesAll (now (row .entry)) n (downNow (now (down .entry))) (entryAt (now (table .entry))) (i .0) ps r (now (tried .entry)) (now (tried .exit)) ⌝ }
+{
+    let mut qs = ps;
+    move_all(&mut qs, n, row, table, down, i, tried);
+    qs
+}
+
+// The same, from the beginning of the slot on: nobody has tried anything.
+fn after_slot(
+    ps: [Position; MESSAGES],
+    n: usize,
+    row: &[u16],
+    table: &[u8],
+    down: &[u8],
+    i: Slot,
+) -> [Position; MESSAGES]
+    requires { ⌜ Stand (now row) n ps × (i .0 < 65536) ⌝ }
+    ensures { λ r. ⌜ Moves (now (row .entry)) n (inSlot (now (row .entry)) (now (table .entry)) (now (down .entry)) (i .0) (positionsOf (now (row .entry)) n ps)) ps r ⌝ }
+{
+    let mut tried = [0u16; 65];
+    lend(ps, n, row, table, down, i, &mut tried)
+}
+
+// An event in the row of events: "kind then number".
+fn put_event(out: &mut [u16], k: usize, event: Event)
+    requires { ⌜ k + 1 < length (now out) ⌝ }
+    ensures { λ _. ⌜ now (out .exit) ≡ set (set (now (out .entry)) k (eventOf event .kind)) (k + 1) (eventOf event .number) ⌝ }
+{
+    out[k] = event.kind();
+    out[k + 1] = event.number();
+}
+
+// The events of one slot, at the front of `out`.
+fn tell_all(
+    ps: [Position; MESSAGES],
+    n: usize,
+    row: &[u16],
+    table: &[u8],
+    down: &[u8],
+    i: Slot,
+    out: &mut [u16],
+)
+    requires { ⌜ MayTellAll (now row) ps n (i .0) (length (now out)) ⌝ }
+    ensures { λ _. ⌜ now (out .exit) ≡ numbers (inSlot (now (row .entry)) (now (table .entry)) (now (down .entry)) (i .0) (positionsOf (now (row .entry)) n ps)) ++ drop (2 * n) (now (out .entry)) ⌝ }
+{
+    let mut tried = [0u16; 65];
+    let mut m = 0;
+    while m < n {
+        let p = ps[m];
+        let moved = act_one(p, m, row, table, down, i, &mut tried);
+        let event = moved.event;
+        put_event(out, 2 * m, event);
+        m += 1;
+    }
+}
+
+// Where all messages stand at a time, one record a message.
+pub struct Standing {
+    time: Time,
+    positions: [Position; MESSAGES],
+}
+
+impl Standing {
+    // At the first time, in records of one's own.
+    pub fn first(positions: [Position; MESSAGES]) -> Self
+        ensures { λ r. ⌜ (r .time .0 ≡ 0) × (r .positions ≡ positions) ⌝ }
+    {
+        Standing {
+            time: Time(0),
+            positions,
+        }
+    }
+
+    pub fn time(self) -> Time
+        ensures { λ r. ⌜ r ≡ self .time ⌝ }
+    {
+        self.time
+    }
+
+    pub fn positions(self) -> [Position; MESSAGES]
+        ensures { λ r. ⌜ r ≡ self .positions ⌝ }
+    {
+        self.positions
+    }
+
+    // The slot step: n messages go through the slot that begins at this time, which leads to the next.
+    pub fn after(self, i: Slot, n: usize, row: &[u16], table: &[u8], down: &[u8]) -> Standing
+        requires { ⌜ MayGo (now row) n self (i .0) ⌝ }
+        ensures { λ r. ⌜ GoesOn (now (row .entry)) (now (table .entry)) (now (down .entry)) n (i .0) self r ⌝ }
+    {
+        let ps = self.positions;
+        let qs = after_slot(ps, n, row, table, down, i);
+        Standing {
+            time: Time(i.0 + 1),
+            positions: qs,
+        }
+    }
+
+    // The events of the slot that begins at this time, at the front of `out`.
+    pub fn tell(self, i: Slot, n: usize, row: &[u16], table: &[u8], down: &[u8], out: &mut [u16])
+        requires { ⌜ MayTell (now row) n self (i .0) (length (now out)) ⌝ }
+        ensures { λ _. ⌜ now (out .exit) ≡ numbers (inSlot (now (row .entry)) (now (table .entry)) (now (down .entry)) (i .0) (positionsOf (now (row .entry)) n (self .positions))) ++ drop (2 * n) (now (out .entry)) ⌝ }
+    {
+        let ps = self.positions;
+        tell_all(ps, n, row, table, down, i, out);
     }
 }

@@ -1,5 +1,4 @@
 -- Laws of the table: one place put, the places of a message put one by one, and the entries of one message more.
--- an entry that nobody enters stays
 use Prim.Native.Nat.{ℕ, zero, suc, _+_, _-_, _*_, _≤_, _<_}
 use mathlib.Core.Path.{_≡_, refl, sym, _∙_, ap}
 use mathlib.Core.Bool.{Bool, true, false, cond, _&&_, _||_}
@@ -12,6 +11,7 @@ use borrow.Author.Count.{below-more}
 use lib.ListN.{length, getD, set, length-set}
 use lib.Seq.{getD-set-same, getD-set-other}
 use lib.Dec.{ltb, eqb}
+use Rattle.scope.specs.Limits.{mostSlots, mostLinks, tableSize}
 use Rattle.scope.specs.Lowest.{seek, lowest}
 use Rattle.scope.specs.Plan.{Place, at, placeAt, placeSize, placesAt, afterPlaces, placeCount, messageAt, afterMessage, messageCount, firstMessage, planOf, pathOf}
 use Rattle.scope.specs.SecondPath.{messageIndex}
@@ -20,8 +20,10 @@ use Rattle.scope.specs.Cycle.{entryOf, tableOf}
 use Rattle.view.specs.View.{Is}
 use Rattle.view.proofs.Index.{places-first, places-next, places-done, messages-suc}
 use Rattle.view.proofs.Parts.{places-all, places-more, places-none, message-count, path-at}
-use Rattle.table.specs.Table.{Table, Entered, Below, entryAt, marked, entered, ownerBelow}
+use Rattle.table.specs.Table.{Table, Entered, Below, indexOf, entryAt, marked, entered, ownerBelow}
+use Rattle.table.proofs.Entries.{entry-in}
 
+-- an entry that nobody enters stays
 stays : (old : ℕ) → cond (ltb 0 old) old 0 ≡ old
 stays old = by (ltb 0 old) refl
   where
@@ -29,9 +31,9 @@ stays old = by (ltb 0 old) refl
     by true h = refl
     by false h = let l : old ≤ 0 = ltb-false 0 old h in omega arith
 
-module _ (table : List ℕ) (w link slot : ℕ) (long : length table ≡ 4096) where
+module _ (table : List ℕ) (w link slot : ℕ) (long : length table ≡ tableSize) where
   -- nothing is put where the slot and the link are held already
-  kept : ((i e : ℕ) → i < 64 → e < 64 → link ≡ e → slot ≡ i → 0 < entryAt table i e) → Table (λ i e. marked w link slot i e (entryAt table i e)) table
+  kept : ((i e : ℕ) → i < mostSlots → e < mostLinks → link ≡ e → slot ≡ i → 0 < entryAt table i e) → Table (λ i e. marked w link slot i e (entryAt table i e)) table
   kept held = record { long = long; is = λ i e hi he. by (entryAt table i e) (eqb link e) (eqb slot i) refl refl (held i e hi he) }
     where
       by : {i e : ℕ} (old : ℕ) (s t : Bool) → eqb link e ≡ s → eqb slot i ≡ t → (link ≡ e → slot ≡ i → 0 < old) → old ≡ cond (ltb 0 old) old (cond (s && t) w 0)
@@ -42,47 +44,49 @@ module _ (table : List ℕ) (w link slot : ℕ) (long : length table ≡ 4096) w
       by old false t p q held = sym (stays old)
 
   -- the table has no such link, no such slot; or they are held
-  pub mark-no-link : 64 ≤ link → Table (λ i e. marked w link slot i e (entryAt table i e)) table
+  pub mark-no-link : mostLinks ≤ link → Table (λ i e. marked w link slot i e (entryAt table i e)) table
   mark-no-link h = kept (λ i e hi he p q. omega arith)
 
-  pub mark-no-slot : 64 ≤ slot → Table (λ i e. marked w link slot i e (entryAt table i e)) table
+  pub mark-no-slot : mostSlots ≤ slot → Table (λ i e. marked w link slot i e (entryAt table i e)) table
   mark-no-slot h = kept (λ i e hi he p q. omega arith)
 
-  pub mark-held : (entryAt table slot link ≡ 0 → ⊥) → Table (λ i e. marked w link slot i e (entryAt table i e)) table
-  mark-held h = kept (λ i e hi he p q. held i e p q)
+  pub mark-held : (x : ℕ) → x ≡ entryAt table slot link → (x ≡ 0 → ⊥) → Table (λ i e. marked w link slot i e (entryAt table i e)) table
+  mark-held x z h = kept (λ i e hi he p q. held i e p q)
     where
       some : (x : ℕ) → (x ≡ 0 → ⊥) → 0 < x
       some zero n = absurd (n refl)
       some (suc x) n = omega arith
 
       held : (i e : ℕ) → link ≡ e → slot ≡ i → 0 < entryAt table i e
-      held i e p q = rw (← p, ← q) (some (entryAt table slot link) h)
+      held i e p q = rw (← p, ← q, ← z) (some x h)
 
   -- they are free
-  pub mark-free : link < 64 → slot < 64 → entryAt table slot link ≡ 0 →
-      Table (λ i e. marked w link slot i e (entryAt table i e)) (set table (slot * 64 + link) w)
-  mark-free hl hs h =
-      record { long = length-set table (slot * 64 + link) w ∙ long; is = λ i e hi he. by i e hi he (eqb link e) (eqb slot i) refl refl }
+  pub mark-free : (k : ℕ) → k ≡ indexOf slot link → link < mostLinks → slot < mostSlots → (x : ℕ) → x ≡ entryAt table slot link → x ≡ 0 →
+      Table (λ i e. marked w link slot i e (entryAt table i e)) (set table k w)
+  mark-free k z hl hs x y h =
+      record { long = length-set table k w ∙ long; is = λ i e hi he. entry-in (set table k w) i e hi he ∙ by i e hi he (eqb link e) (eqb slot i) refl refl }
     where
       free : (i e : ℕ) → link ≡ e → slot ≡ i → entryAt table i e ≡ 0
-      free i e p q = rw (← p, ← q) h
+      free i e p q = rw (← p, ← q, ← y) h
 
-      by : (i e : ℕ) → i < 64 → e < 64 → (s t : Bool) → eqb link e ≡ s → eqb slot i ≡ t →
-          entryAt (set table (slot * 64 + link) w) i e ≡ cond (ltb 0 (entryAt table i e)) (entryAt table i e) (cond (s && t) w 0)
+      -- another entry stays as it was
+      other : (i e : ℕ) → i < mostSlots → e < mostLinks → (indexOf i e ≡ k → ⊥) → getD (set table k w) (indexOf i e) 0 ≡ cond (ltb 0 (entryAt table i e)) (entryAt table i e) 0
+      other i e hi he n = getD-set-other table k (indexOf i e) w 0 n ∙ sym (entry-in table i e hi he) ∙ sym (stays (entryAt table i e))
+
+      by : (i e : ℕ) → i < mostSlots → e < mostLinks → (s t : Bool) → eqb link e ≡ s → eqb slot i ≡ t →
+          getD (set table k w) (indexOf i e) 0 ≡ cond (ltb 0 (entryAt table i e)) (entryAt table i e) (cond (s && t) w 0)
       by i e hi he true true p q =
           let a : link ≡ e = eqb-true link e p in
           let b : slot ≡ i = eqb-true slot i q in
-          let k : i * 64 + e ≡ slot * 64 + link = omega arith in
-          let z : entryAt table i e ≡ 0 = free i e a b in
-          let f : ltb 0 0 ≡ false = refl in
-          let g : getD (set table (slot * 64 + link) w) (slot * 64 + link) 0 ≡ w = getD-set-same table (slot * 64 + link) w 0 (omega arith) in
-          ap (λ n. getD (set table (slot * 64 + link) w) n 0) k ∙ g ∙ sym (ap (λ x. cond (ltb 0 x) x w) z)
+          let same : indexOf i e ≡ k = omega arith in
+          let l : k < length table = omega arith in
+          ap (λ n. getD (set table k w) n 0) same ∙ getD-set-same table k w 0 l ∙ sym (ap (λ x. cond (ltb 0 x) x w) (free i e a b))
       by i e hi he true false p q =
           let b : slot ≡ i → ⊥ = eqb-false slot i q in
-          getD-set-other table (slot * 64 + link) (i * 64 + e) w 0 (λ g. b (omega arith)) ∙ sym (stays (entryAt table i e))
+          other i e hi he (λ g. b (omega arith))
       by i e hi he false t p q =
           let b : link ≡ e → ⊥ = eqb-false link e p in
-          getD-set-other table (slot * 64 + link) (i * 64 + e) w 0 (λ g. b (omega arith)) ∙ sym (stays (entryAt table i e))
+          other i e hi he (λ g. b (omega arith))
 
 -- one place of a message put, and then the others
 pub enter-place : (w : ℕ) (p : Place) (ps : List Place) (i e old : ℕ) → 0 < w →
@@ -105,12 +109,12 @@ pub record Entering (row : List ℕ) (i w : ℕ) (old : List ℕ) (n j k : ℕ) 
   pub next : afterPlaces row j (n - k) ≡ afterMessage row i
   pub small : j ≤ i + 1 + k * 65540
   pub most : k ≤ n
-  pub long : length table ≡ 4096
-  pub is : (s e : ℕ) → s < 64 → e < 64 →
+  pub long : length table ≡ tableSize
+  pub is : (s e : ℕ) → s < mostSlots → e < mostLinks →
       entered w (placesAt row j (n - k)) s e (entryAt table s e) ≡ entered w (messageAt row i) s e (entryAt old s e)
 
 module _ (row : List ℕ) (i w : ℕ) (old : List ℕ) (n : ℕ) where
-  pub entering-first : n ≡ placeCount row i → length old ≡ 4096 → Entering row i w old n (i + 1) 0 old
+  pub entering-first : n ≡ placeCount row i → length old ≡ tableSize → Entering row i w old n (i + 1) 0 old
   entering-first e long =
       record {
         next = places-first row (i + 1) n ∙ ap (afterPlaces row (i + 1)) e;
@@ -132,7 +136,7 @@ module _ (row : List ℕ) (i w : ℕ) (old : List ℕ) (n : ℕ) where
         is = λ s e hs he. step s e hs he ∙ g .is s e hs he;
       }
     where
-      step : (s e : ℕ) → s < 64 → e < 64 →
+      step : (s e : ℕ) → s < mostSlots → e < mostLinks →
           entered w (placesAt row (j + size) (n - (k + 1))) s e (entryAt new s e) ≡ entered w (placesAt row j (n - k)) s e (entryAt table s e)
       step s e hs he = rw (m .is s e hs he, places-more row j n k h, fz, fl, fs) (enter-place w (placeAt row j) (placesAt row (j + placeSize row j) (n - (k + 1))) s e (entryAt table s e) hw)
 
@@ -152,8 +156,8 @@ module _ (row : List ℕ) (i w : ℕ) (old : List ℕ) (n : ℕ) where
 pub zeros-next : (table : List ℕ) (k : ℕ) → k < length table → ((j : ℕ) → j < k → getD table j 0 ≡ 0) → (j : ℕ) → j < k + 1 → getD (set table k 0) j 0 ≡ 0
 zeros-next table k h z = below-more (λ j. getD (set table k 0) j 0 ≡ 0) k (λ j l. getD-set-other table k j 0 0 (λ e. omega arith) ∙ z j l) (getD-set-same table k 0 0 h)
 
-pub zeros-done : (table : List ℕ) (k : ℕ) → length table ≡ 4096 → 4096 ≤ k → ((j : ℕ) → j < k → getD table j 0 ≡ 0) → Table (λ i e. 0) table
-zeros-done table k long h z = record { long = long; is = λ i e hi he. z (i * 64 + e) (omega arith) }
+pub zeros-done : (table : List ℕ) (k : ℕ) → length table ≡ tableSize → tableSize ≤ k → ((j : ℕ) → j < k → getD table j 0 ≡ 0) → Table (λ i e. 0) table
+zeros-done table k long h z = record { long = long; is = λ i e hi he. entry-in table i e hi he ∙ z (indexOf i e) (omega arith) }
 
 -- the lowest of one number more
 lowest-next : (test : ℕ → Bool) (m : ℕ) → lowest test (m + 1) ≡ cond (ltb (lowest test m) m) (lowest test m) (cond (test m) m (m + 1))
@@ -205,7 +209,7 @@ module _ (row : List ℕ) where
         table = record { long = n .table .long; is = λ i e hi he. n .table .is i e hi he ∙ step i e hi he };
       }
     where
-      step : (i e : ℕ) → i < 64 → e < 64 → entered (m + 1) (messageAt row j) i e (entryAt table i e) ≡ ownerBelow (planOf row) (m + 1) i e
+      step : (i e : ℕ) → i < mostSlots → e < mostLinks → entered (m + 1) (messageAt row j) i e (entryAt table i e) ≡ ownerBelow (planOf row) (m + 1) i e
       step i e hi he =
           rw (b .table .is i e hi he, b .index, ← path-at row m h) (entry-next (λ k. holds e i (pathOf (planOf row) k)) m)
 

@@ -1,18 +1,23 @@
--- The table as a list of bytes: the entry of a slot and a link stands at slot × 64 + link, the message that holds them plus one, or 0.
+-- The table as a list of bytes, slot by slot: the message that holds a slot and a link plus one, or 0.
 use Prim.Native.Nat.{ℕ, _+_, _*_, _<_, _≤_}
 use mathlib.Core.Path.{_≡_}
 use mathlib.Core.Bool.{Bool, cond, _&&_}
 use mathlib.Core.List.{List}
 use lib.ListN.{length, getD}
 use lib.Dec.{ltb, eqb}
+use Rattle.scope.specs.Limits.{mostSlots, mostLinks, tableSize}
 use Rattle.scope.specs.Lowest.{lowest}
 use Rattle.scope.specs.Plan.{Plan, Place, planOf, messageAt, afterMessage, pathOf}
 use Rattle.scope.specs.Good.{holds}
 use Rattle.scope.specs.Cycle.{entryOf}
 use Rattle.scope.specs.SecondPath.{messageIndex}
 
+abbrev pub indexOf : ℕ → ℕ → ℕ
+indexOf i e = i * mostLinks + e
+
+-- who has link e in slot i: nobody where the table has no such slot or link
 abbrev pub entryAt : List ℕ → ℕ → ℕ → ℕ
-entryAt table i e = getD table (i * 64 + e) 0
+entryAt table i e = cond (ltb i mostSlots && ltb e mostLinks) (getD table (indexOf i e) 0) 0
 
 -- an entry after a place was put: who holds it already keeps it
 abbrev pub marked : ℕ → ℕ → ℕ → ℕ → ℕ → ℕ → ℕ
@@ -26,10 +31,10 @@ entered w ps i e old = cond (ltb 0 old) old (cond (holds e i ps) w 0)
 abbrev pub ownerBelow : Plan → ℕ → ℕ → ℕ → ℕ
 ownerBelow plan m i e = entryOf m (lowest (λ j. holds e i (pathOf plan j)) m)
 
--- a table of 64 slots and 64 links, each entry as a function says
+-- a table of all slots and links, each entry as a function says
 pub record Table (entry : ℕ → ℕ → ℕ) (table : List ℕ) : Type 0 where
-  pub long : length table ≡ 4096
-  pub is : (i e : ℕ) → i < 64 → e < 64 → entryAt table i e ≡ entry i e
+  pub long : length table ≡ tableSize
+  pub is : (i e : ℕ) → i < mostSlots → e < mostLinks → entryAt table i e ≡ entry i e
 
 -- the message at index i was put as w, and r is the index after it
 pub record Entered (row : List ℕ) (i w : ℕ) (old new : List ℕ) (r : ℕ) : Type 0 where

@@ -1,47 +1,59 @@
-// The table of a plan as 4096 bytes: which message holds a link in a slot. `fill_table` makes the whole of it, as `tableOf` of
+// The table of a plan, a byte for each slot and link: which message holds a link in a slot. `fill_table` makes the whole of it, as `tableOf` of
 // document 01 says; `enter` puts one message. It leans on `view` and on specs/ of `scope` (Plan, Good, Cycle).
+use scope::limits::LINKS;
+use scope::limits::SLOTS;
+use scope::limits::TABLE;
 ghost use mathlib.Core.Path.{_≡_};
 ghost use Prim.Native.Nat.{_<_, _≤_, _^_};
 ghost use lib.ListN.{length};
+ghost use Rattle.scope.specs.Limits.{mostSlots, mostLinks, mostMessages, tableSize};
 ghost use Rattle.scope.specs.Plan.{planOf, messageCount};
 ghost use Rattle.scope.specs.Cycle.{tableOf};
-ghost use Rattle.view.specs.View.{Is};
-ghost use Rattle.table.specs.Table.{Table, Entered, entryAt, marked};
+ghost use Rattle.table.specs.Table.{Table, Entered, indexOf, entryAt, marked};
 
-// The entry of a slot and a link: the message that holds them plus one, or 0.
-pub fn entry(table: &[u8], slot: usize, link: usize) -> usize
-    requires { ⌜ (slot < 65536) × (link < 65536) ⌝ }
-    ensures { λ r. ⌜ Is (entryAt (now (table .entry)) slot link) 255 r ⌝ }
+// Where the table has a slot and a link.
+fn index(slot: usize, link: usize) -> usize
+    requires { ⌜ (slot < mostSlots) × (link < mostLinks) ⌝ }
+    ensures { λ r. ⌜ r ≡ indexOf slot link ⌝ }
 {
-    let at = slot * 64 + link;
-    if at < table.len() {
-        table[at] as usize
-    } else {
-        0
+    slot * LINKS + link
+}
+
+// Who has a link in a slot: the message that holds them plus one, or 0 where nobody does or the table has no such slot or link.
+pub fn entry(table: &[u8], slot: usize, link: usize) -> u8
+    ensures { λ r. ⌜ r ≡ entryAt (now (table .entry)) slot link ⌝ }
+{
+    if SLOTS <= slot {
+        return 0;
     }
+    if LINKS <= link {
+        return 0;
+    }
+    let k = index(slot, link);
+    if k < table.len() { table[k] } else { 0 }
 }
 
 // Puts w at a slot and a link, unless they are held already or the table has no such slot or link.
 fn mark(table: &mut [u8], link: usize, slot: usize, w: u8)
-    requires { ⌜ length (now table) ≡ 4096 ⌝ }
+    requires { ⌜ length (now table) ≡ tableSize ⌝ }
     ensures { λ r. ⌜ Table (λ i e. marked w link slot i e (entryAt (now (table .entry)) i e)) (now (table .exit)) ⌝ }
 {
-    if 64 <= link {
+    if LINKS <= link {
         return;
     }
-    if 64 <= slot {
+    if SLOTS <= slot {
         return;
     }
-    let k = slot * 64 + link;
-    if table[k] != 0 {
+    if entry(table, slot, link) != 0 {
         return;
     }
+    let k = index(slot, link);
     table[k] = w;
 }
 
 // Puts the message at an index as w, and gives the index after it.
 pub fn enter(row: &[u16], i: usize, w: u8, table: &mut [u8]) -> usize
-    requires { ⌜ (i < 2 ^ 60) × (length (now table) ≡ 4096) × (0 < w) ⌝ }
+    requires { ⌜ (i < 2 ^ 60) × (length (now table) ≡ tableSize) × (0 < w) ⌝ }
     ensures { λ r. ⌜ Entered (now (row .entry)) i w (now (table .entry)) (now (table .exit)) r ⌝ }
 {
     let n = view::place_count(row, i);
@@ -59,11 +71,11 @@ pub fn enter(row: &[u16], i: usize, w: u8, table: &mut [u8]) -> usize
 
 // The table of no message.
 pub fn clear(table: &mut [u8])
-    requires { ⌜ length (now table) ≡ 4096 ⌝ }
+    requires { ⌜ length (now table) ≡ tableSize ⌝ }
     ensures { λ r. ⌜ Table (λ i e. 0) (now (table .exit)) ⌝ }
 {
     let mut k = 0;
-    while k < 4096 {
+    while k < TABLE {
         table[k] = 0;
         k += 1;
     }
@@ -71,7 +83,7 @@ pub fn clear(table: &mut [u8])
 
 // The whole table of a row.
 pub fn fill_table(row: &[u16], table: &mut [u8])
-    requires { ⌜ (length (now table) ≡ 4096) × (messageCount (now row) ≤ 32) ⌝ }
+    requires { ⌜ (length (now table) ≡ tableSize) × (messageCount (now row) ≤ mostMessages) ⌝ }
     ensures { λ r. ⌜ Table (tableOf (planOf (now (row .entry)))) (now (table .exit)) ⌝ }
 {
     clear(table);

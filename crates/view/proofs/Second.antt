@@ -1,5 +1,5 @@
 -- Laws of the second path of a message from a place: as a part of the row, and as the plan has it.
-use Prim.Native.Nat.{ℕ, _+_, _*_, _≤_, _<_}
+use Prim.Native.Nat.{ℕ, _+_, _-_, _≤_, _<_}
 use mathlib.Core.Path.{_≡_, refl, sym, _∙_, ap}
 use mathlib.Core.Bool.{Bool, true, false}
 use mathlib.Core.List.{List, []}
@@ -10,8 +10,9 @@ use lib.Dec.{ltb}
 use Rattle.scope.specs.Plan.{Place, flagged, secondStart, secondCount, secondAt, placeAt, placeCount, messageAt, messageCount, planOf, pathOf}
 use Rattle.scope.specs.Spare.{placeOf}
 use Rattle.scope.specs.SecondPath.{messageIndex, placeIndex, hasSecond}
-use Rattle.view.specs.View.{IsPlace, PartAt, secondPart, secondIndex}
+use Rattle.view.specs.View.{IsPlace, IsSpan, secondPart, secondIndex, secondEnd}
 use Rattle.view.specs.declared.RowPlace.{RowPlace}
+use Rattle.view.specs.declared.Span.{Span}
 use Rattle.view.specs.Lies.{SecondLies, PlanLies}
 use Rattle.view.proofs.Parts.{numbers-part, places-length, places-at, message-count, path-at}
 
@@ -65,32 +66,42 @@ module _ (row : List ℕ) (m p : ℕ) where
       take (secondCount row (placeIndex row m p)) (drop (secondStart (placeIndex row m p)) row) ≡ secondPart row m p
   part-there e = rw e
 
-  -- an empty part of the row; and the part of the row that begins where the second path does
-  none-at : (ptr : ℕ × ℕ) → hasSecond row m p ≡ false → PartAt (secondPart row m p) (secondIndex row m p) ptr [] ptr
-  none-at ptr e =
-      let i : secondIndex row m p ≡ 0 = rw e in
-      record { shows = part-none e; same = refl; begins = omega (arith, i) }
+  -- where it stands: nowhere, for each reason; or from the index that the place says
+  none-at : (r : Span) → r .from ≡ 0 → r .to ≡ 0 → hasSecond row m p ≡ false → IsSpan (secondIndex row m p) (secondEnd row m p) r
+  none-at r f t e = record { begins = rw e f; ends = rw e t }
 
-  module _ (ptr : ℕ × ℕ) where
-    pub shown-no-message : messageCount row ≤ m → PartAt (secondPart row m p) (secondIndex row m p) ptr [] ptr
-    shown-no-message h = none-at ptr (has-no-message h)
+  module _ (r : Span) (f : r .from ≡ 0) (t : r .to ≡ 0) where
+    pub span-no-message : messageCount row ≤ m → IsSpan (secondIndex row m p) (secondEnd row m p) r
+    span-no-message h = none-at r f t (has-no-message h)
 
-    pub shown-no-place : m < messageCount row → placeCount row (messageIndex row m) ≤ p →
-        PartAt (secondPart row m p) (secondIndex row m p) ptr [] ptr
-    shown-no-place g h = none-at ptr (has-no-place g h)
+    pub span-no-place : m < messageCount row → placeCount row (messageIndex row m) ≤ p → IsSpan (secondIndex row m p) (secondEnd row m p) r
+    span-no-place g h = none-at r f t (has-no-place g h)
 
-    pub shown-no-second : m < messageCount row → p < placeCount row (messageIndex row m) → flagged row (placeIndex row m p) ≡ false →
-        PartAt (secondPart row m p) (secondIndex row m p) ptr [] ptr
-    shown-no-second g h u = none-at ptr (has-flag g h ∙ u)
+    pub span-no-second : m < messageCount row → p < placeCount row (messageIndex row m) → flagged row (placeIndex row m p) ≡ false →
+        IsSpan (secondIndex row m p) (secondEnd row m p) r
+    span-no-second g h u = none-at r f t (has-flag g h ∙ u)
 
-    pub shown-there : m < messageCount row → p < placeCount row (messageIndex row m) → flagged row (placeIndex row m p) ≡ true →
-        (a n : ℕ) → a ≡ secondStart (placeIndex row m p) → n ≡ secondCount row (placeIndex row m p) →
-        {now : List ℕ} {part : ℕ × ℕ} → PartAt (take n (drop a row)) a ptr now part → PartAt (secondPart row m p) (secondIndex row m p)
-        ptr now part
-    shown-there g h u a n ea en q =
-        let e : hasSecond row m p ≡ true = has-flag g h ∙ u in
-        let i : secondIndex row m p ≡ secondStart (placeIndex row m p) = rw e in
-        record { shows = q .shows ∙ rw (ea, en) (part-there e); same = q .same; begins = omega (arith, q .begins, i, ea) }
+  pub span-there : (r : Span) → m < messageCount row → p < placeCount row (messageIndex row m) → flagged row (placeIndex row m p) ≡ true →
+      r .from ≡ secondStart (placeIndex row m p) → r .to ≡ placeIndex row m p + (4 + secondCount row (placeIndex row m p)) →
+      IsSpan (secondIndex row m p) (secondEnd row m p) r
+  span-there r g h u f t =
+      let e : hasSecond row m p ≡ true = has-flag g h ∙ u in
+      record { begins = rw e f; ends = rw e (omega (arith, t)) }
+
+  -- the part of the row there is the second path
+  pub part-between : (r : Span) → IsSpan (secondIndex row m p) (secondEnd row m p) r → take (r .to - r .from) (drop (r .from) row) ≡ secondPart row m p
+  part-between r s = by (hasSecond row m p) refl
+    where
+      by : (t : Bool) → hasSecond row m p ≡ t → take (r .to - r .from) (drop (r .from) row) ≡ secondPart row m p
+      by true e =
+          let f : r .from ≡ secondStart (placeIndex row m p) = s .begins ∙ rw e in
+          let t : r .to ≡ secondStart (placeIndex row m p) + secondCount row (placeIndex row m p) = s .ends ∙ rw e in
+          let n : r .to - r .from ≡ secondCount row (placeIndex row m p) = omega arith in
+          rw (n, f) (part-there e)
+      by false e =
+          let t : r .to ≡ 0 = s .ends ∙ rw e in
+          let n : r .to - r .from ≡ 0 = omega arith in
+          rw n (part-none e)
 
   -- it lies in the row
   pub part-lies : PlanLies row → m < messageCount row → p < placeCount row (messageIndex row m) → flagged row (placeIndex row m p) ≡ true
@@ -133,3 +144,25 @@ module _ (row : List ℕ) (m p : ℕ) where
           let h : messageCount row ≤ m = ltb-false m (messageCount row) s in
           let b : length (planOf row .messages) ≤ m = rw (message-count row) h in
           sym (part-none (has-no-message h)) ∙ sym (ap (λ q. q .second) (path [] (List·getD-eq-default (planOf row .messages) [] b)))
+
+  -- and it lies within the row
+  pub span-within : PlanLies row → (r : Span) → IsSpan (secondIndex row m p) (secondEnd row m p) r → (r .from ≤ r .to) × (r .to ≤ length row)
+  span-within l r s = by (ltb m (messageCount row)) (ltb p (placeCount row (messageIndex row m))) (flagged row (placeIndex row m p)) refl refl refl
+    where
+      nowhere : hasSecond row m p ≡ false → (r .from ≤ r .to) × (r .to ≤ length row)
+      nowhere e =
+          let f : r .from ≡ 0 = s .begins ∙ rw e in
+          let t : r .to ≡ 0 = s .ends ∙ rw e in
+          (omega arith, omega arith)
+
+      by : (x y z : Bool) → ltb m (messageCount row) ≡ x → ltb p (placeCount row (messageIndex row m)) ≡ y → flagged row (placeIndex row m p) ≡ z →
+          (r .from ≤ r .to) × (r .to ≤ length row)
+      by true true true a b c =
+          let e : hasSecond row m p ≡ true = rw (a, b, c) in
+          let f : r .from ≡ secondStart (placeIndex row m p) = s .begins ∙ rw e in
+          let t : r .to ≡ secondStart (placeIndex row m p) + secondCount row (placeIndex row m p) = s .ends ∙ rw e in
+          let w = part-lies l (ltb-true m (messageCount row) a) (ltb-true p (placeCount row (messageIndex row m)) b) c .lies in
+          (omega arith, omega (arith, w, t))
+      by true true false a b c = nowhere (rw (a, b, c))
+      by true false z a b c = nowhere (rw (a, b))
+      by false y z a b c = nowhere (rw a)

@@ -7,6 +7,7 @@ use lib.ListN.{take, drop}
 use Rattle.scope.specs.Plan.{at, flagged, secondStart, secondCount, placeSize}
 use Rattle.scope.specs.SecondPath.{placeIndex, hasSecond}
 use Rattle.view.specs.declared.RowPlace.{RowPlace}
+use Rattle.view.specs.declared.Span.{Span}
 
 -- r is the number at index i of a row, which has 16 bits
 pub record Number (row : List ℕ) (i r : ℕ) : Type 0 where
@@ -29,6 +30,11 @@ pub record IsPlace (row : List ℕ) (i : ℕ) (r : RowPlace) : Type 0 where
   pub next : r .next ≡ i + placeSize row i
   pub near : r .next ≤ i + 65540
 
+-- r reaches from one index of a row to another
+pub record IsSpan (from to : ℕ) (r : Span) : Type 0 where
+  pub begins : r .from ≡ from
+  pub ends : r .to ≡ to
+
 -- a part of a row, or an empty one: what it holds, and that it begins at this index of the row itself, whose numbers take 2 bytes each
 pub record PartAt (holds : List ℕ) (index : ℕ) (row : ℕ × ℕ) (now : List ℕ) (part : ℕ × ℕ) : Type 0 where
   pub shows : now ≡ holds
@@ -45,3 +51,7 @@ secondPart row m p =
 -- where that part begins, at the row's first number where it is empty
 abbrev pub secondIndex : List ℕ → ℕ → ℕ → ℕ
 secondIndex row m p = cond (hasSecond row m p) (secondStart (placeIndex row m p)) 0
+
+-- and where it ends
+abbrev pub secondEnd : List ℕ → ℕ → ℕ → ℕ
+secondEnd row m p = cond (hasSecond row m p) (secondStart (placeIndex row m p) + secondCount row (placeIndex row m p)) 0

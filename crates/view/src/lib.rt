@@ -10,7 +10,7 @@ ghost use Rattle.scope.specs.Outcome.{gives};
 ghost use Rattle.scope.specs.Row.{walkRow};
 ghost use Rattle.scope.specs.Plan.{placeSize, afterPlaces, afterMessage, vertexCount, linkCount, messageCount, timeoutOf, placeCount};
 ghost use Rattle.scope.specs.SecondPath.{messageIndex, placeIndex};
-ghost use Rattle.view.specs.View.{Number, Is, IsPlace, PartAt, secondPart, secondIndex};
+ghost use Rattle.view.specs.View.{Number, Is, IsPlace, IsSpan, PartAt, secondPart, secondIndex, secondEnd};
 
 // The number at an index of a row, 0 past its end.
 pub fn number(row: &[u16], i: usize) -> usize
@@ -141,6 +141,33 @@ pub fn place_index(row: &[u16], m: usize, p: usize) -> usize
     after_places(row, message_index(row, m) + 1, p)
 }
 
+// Where the second path of message m from place p stands in a row: from one index to another, both 0 where there is none.
+pub struct Span {
+    pub from: usize,
+    pub to: usize,
+}
+
+pub fn second_span(row: &[u16], m: usize, p: usize) -> Span
+    ensures { λ r. ⌜ IsSpan (secondIndex (now (row .entry)) m p) (secondEnd (now (row .entry)) m p) r ⌝ }
+{
+    if messages(row) <= m {
+        return Span { from: 0, to: 0 };
+    }
+    let i = message_index(row, m);
+    if place_count(row, i) <= p {
+        return Span { from: 0, to: 0 };
+    }
+    let at = after_places(row, i + 1, p);
+    let here = place_at(row, at);
+    if here.count == 0 {
+        return Span { from: 0, to: 0 };
+    }
+    Span {
+        from: here.second,
+        to: here.next,
+    }
+}
+
 // The numbers of a row from index a to index b, as a part of the row.
 fn part(row: &[u16], a: usize, b: usize) -> &[u16]
     requires { ⌜ (a ≤ b) × (b ≤ length (now row)) ⌝ }
@@ -154,17 +181,6 @@ pub fn second_path_part(row: &[u16], m: usize, p: usize) -> &[u16]
     requires { ⌜ walkRow (now row) ≡ gives (length (now row)) ⌝ }
     ensures { λ r. ⌜ PartAt (secondPart (now (row .entry)) m p) (secondIndex (now (row .entry)) m p) (row .entry .ptr) (now r) (r .ptr) ⌝ }
 {
-    if messages(row) <= m {
-        return &row[..0];
-    }
-    let i = message_index(row, m);
-    if place_count(row, i) <= p {
-        return &row[..0];
-    }
-    let at = after_places(row, i + 1, p);
-    let here = place_at(row, at);
-    if here.count == 0 {
-        return &row[..0];
-    }
-    part(row, here.second, here.next)
+    let span = second_span(row, m, p);
+    part(row, span.from, span.to)
 }

@@ -4,7 +4,7 @@ use mathlib.Core.Path.{_∙_, sym}
 use borrow.Author.Needs.{needs}
 use Rattle.scope.specs.Plan.{planOf, linkOf}
 use Rattle.scope.specs.Good.{sameEnds}
-use Rattle.broken.proofs.Seek.{Seeking, seeking-first, seeking-next, some-found, some-none}
+use Rattle.scope.proofs.Seek.{Seeking, seeking-first, seeking-next, some-found, some-none}
 use Rattle.broken.proofs.repeats_earlier.Statement.{statement}
 use Rattle.broken.proofs.repeats_earlier.Tie as tie
 

@@ -1,15 +1,18 @@
--- `cuts::is_down` meets its contract: it compares what `first_cut` gives. Assumes nothing.
-use mathlib.Core.Path.{ap}
-use lib.Dec.{leb}
+-- `cuts::is_down` meets its contract: within the list its byte, past the end nothing is down. Assumes nothing.
+use mathlib.Core.Path.{sym}
 use borrow.Author.Needs.{needs}
+use Rattle.cuts.proofs.Downs.{down-past}
 use Rattle.cuts.proofs.is_down.Statement.{statement}
 use Rattle.cuts.proofs.is_down.Tie as tie
 
-first-cut-requires : tie.Need-first-cut-requires
-first-cut-requires c κs = search needs
+shared-slice-read-result : tie.Need-shared-slice-read-result
+shared-slice-read-result c = search needs
 
 returns : tie.Need-returns
-returns c = ap (λ s. leb s (c .before .before .args .slot)) (c .first-cut .ensures)
+returns c = search needs
+
+returns-2 : tie.Need-returns-2
+returns-2 c = let a = c .before .args in sym (down-past (a .down .now) (a .link) (c .if1 .left))
 
 pub is-down-spec : {M : Type 1} → statement M
-is-down-spec = tie.close (tie.spec first-cut-requires returns)
+is-down-spec = tie.close (tie.spec shared-slice-read-result returns returns-2)

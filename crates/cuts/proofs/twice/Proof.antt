@@ -6,7 +6,7 @@ use mathlib.Core.Bool.{false}
 use lib.Dec.{eqb}
 use borrow.Author.Count.{below-more, below-none}
 use Rattle.scope.specs.Cuts.{cutLink}
-use Rattle.cuts.proofs.From.{some-yes, some-no}
+use Rattle.cuts.proofs.Some.{some-yes, some-no}
 use Rattle.cuts.proofs.Pairs.{names, names-not}
 use borrow.Author.Needs.{needs}
 use Rattle.cuts.proofs.twice.Statement.{statement}

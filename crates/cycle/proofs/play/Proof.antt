@@ -15,19 +15,19 @@ start-all-requires c κs = rw (c .before .messages .ensures .is) (c .before .bef
 
 run-requires : tie.Need-run-requires
 run-requires c κs =
-    may-run (c .before .before .before .before .before .before .before .before .args .row .now) (c .before .before .before .before .before .before .before .before .args .table .now) (c .before .before .before .before .before .before .before .before .args .from .now) _ _ (c .before .before .before .messages .ensures .is) (c .before .before .timeout .ensures .is) _ (c .before .start-all .ensures) _
-    (c .before .before .timeout .ensures .small) (c .before .before .before .before .before .before .before .before .pre)
+    let a = c .before .before .before .before .before .before .before .before .args in
+    may-run (a .row .now) (a .table .now) (a .cuts .now) _ _ (c .before .before .before .messages .ensures .is) (c .before .before .timeout .ensures .is) _ (c .before .start-all .ensures) _ (c .before .before .timeout .ensures .small) (c .before .before .before .before .before .before .before .before .pre)
 
 count-home-requires : tie.Need-count-home-requires
-count-home-requires c κs = search needs
+count-home-requires c κs = c .before .before .before .before .start-all .ensures .next .stand .few
 
 same-length : tie.Need-same-length
 same-length c = search needs
 
 returns : tie.Need-returns
 returns c =
-    played (c .before .before .before .before .before .before .before .before .before .before .before .before .args .row .now) (c .before .before .before .before .before .before .before .before .before .before .before .before .args .table .now) (c .before .before .before .before .before .before .before .before .before .before .before .before .args .from .now) _ _ (c .before .before .before .before .before .before .before .messages .ensures .is) (c .before .before .before .before .before .before .timeout .ensures .is) _ (c .before .before .before .before .before .start-all .ensures) _ _ _ _
-    (c .before .before .before .run .ensures) (c .count-home .ensures (c .before .before .before .before .before .before .before .before .before .before .before .before .args .row .now))
+    let a = c .before .before .before .before .before .before .before .before .before .before .before .before .args in
+    played (a .row .now) (a .table .now) (a .cuts .now) _ _ (c .before .before .before .before .before .before .before .messages .ensures .is) (c .before .before .before .before .before .before .timeout .ensures .is) _ (c .before .before .before .before .before .start-all .ensures) _ _ _ _ (c .before .before .before .run .ensures) (c .count-home .ensures (a .row .now))
 
 pub play-spec : {M : Type 1} → statement M
 play-spec =

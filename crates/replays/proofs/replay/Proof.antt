@@ -1,5 +1,5 @@
 -- `replays::replay` meets its contract: refusals 1 to 10, or what `replay_good` gives. Assumes nothing.
-use Rattle.plan.proofs.Ways.{gave, refused-as}
+use Rattle.plan.proofs.Ways.{gave, refused-as, good-row}
 use Rattle.replays.proofs.Ways.{replay-bad}
 use borrow.Author.Needs.{needs}
 use Rattle.replays.proofs.replay.Statement.{statement}
@@ -15,7 +15,7 @@ enum-told : tie.Need-enum-told
 enum-told c = search needs
 
 replay-good-requires : tie.Need-replay-good-requires
-replay-good-requires c κs = record { count = _; good = gave _ (c .before .enum-told .given .1) (c .before .before .before .judge .ensures) }
+replay-good-requires c κs = good-row _ _ (gave _ (c .before .enum-told .given .1) (c .before .before .before .judge .ensures))
 
 returns : tie.Need-returns
 returns c =

@@ -4,7 +4,7 @@ use mathlib.Core.Path.{_∙_, sym}
 use native.Mathlib.Omega.{arith}
 use borrow.Author.Needs.{needs}
 use Rattle.scope.specs.Plan.{planOf}
-use Rattle.broken.proofs.Seek.{Seeking, seeking-first, seeking-next, lowest-found, lowest-done}
+use Rattle.scope.proofs.Seek.{Seeking, seeking-first, seeking-next, lowest-found, lowest-done}
 use Rattle.rules.specs.Rules.{breaks}
 use Rattle.rules.proofs.lowest_breaking.Statement.{statement}
 use Rattle.rules.proofs.lowest_breaking.Tie as tie

@@ -4,15 +4,16 @@ use mathlib.Core.Path.{_≡_}
 use native.Mathlib.Omega.{arith}
 use borrow.Author.Needs.{needs}
 use lib.ListN.{length, getD, length-set}
+use Rattle.scope.specs.Limits.{tableSize}
 use Rattle.table.proofs.Laws as law
 use Rattle.table.proofs.clear.Statement.{statement}
 use Rattle.table.proofs.clear.Tie as tie
 
 abbrev Inv-loop : tie.InvT-loop
-Inv-loop table₀ k₀ table k = (length table ≡ 4096) × ((j : ℕ) → j < k → getD table j 0 ≡ 0)
+Inv-loop table₀ k₀ table k = (length table ≡ tableSize) × ((j : ℕ) → j < k → getD table j 0 ≡ 0)
 
 abbrev μ-loop : tie.MeasureT-loop
-μ-loop table₀ k₀ table k = 4096 - k
+μ-loop table₀ k₀ table k = tableSize - k
 
 loop-holds : tie.Need-loop-holds Inv-loop μ-loop
 loop-holds c = (omega arith, λ j h. omega arith)

@@ -1,31 +1,31 @@
--- `table::entry` meets its contract: within the table its 8 bits bound it, and past the end `getD` gives 0. Assumes nothing.
-use Prim.Native.Nat.{_+_, _*_}
+-- `table::entry` meets its contract: one law of proofs/Entries for each way out. Assumes nothing.
 use mathlib.Core.Path.{sym}
-use native.Mathlib.Omega.{arith}
 use borrow.Author.Needs.{needs}
-use lib.ListN.{List·getD-eq-default}
+use Rattle.table.proofs.Entries.{no-slot, no-link, entry-is, entry-end}
 use Rattle.table.proofs.entry.Statement.{statement}
 use Rattle.table.proofs.entry.Tie as tie
 
-mul-at : tie.Need-mul-at
-mul-at c = search needs
+returns : tie.Need-returns
+returns c = let a = c .before .before .args in sym (no-slot (a .table .now) (a .slot) (a .link) (c .if1 .taken))
 
-add-at : tie.Need-add-at
-add-at c = search needs
+returns-2 : tie.Need-returns-2
+returns-2 c = let a = c .before .before .before .args in sym (no-link (a .table .now) (a .slot) (a .link) (c .if2 .taken))
+
+index-requires : tie.Need-index-requires
+index-requires c κs = search needs
 
 shared-slice-read-result : tie.Need-shared-slice-read-result
 shared-slice-read-result c = search needs
 
-cast-result : tie.Need-cast-result
-cast-result c = let a = c .before .before .args in omega (arith, c .shared-slice-known .given (a .slot * 64 + a .link))
+returns-3 : tie.Need-returns-3
+returns-3 c = let a = c .before .before .before .before .before .before .args in entry-is (a .table .now) (a .slot) (a .link) (c .before .before .before .before .if1 .left) (c .before .before .before .if2 .left) (c .before .before .index .result) (c .before .before .index .ensures)
 
-returns : tie.Need-returns
-returns c = let a = c .before .before .args in
-    record { is = search needs; small = omega (arith, c .shared-slice-known .given (a .slot * 64 + a .link)) }
-
-returns-2 : tie.Need-returns-2
-returns-2 c = record { is = sym (List·getD-eq-default (c .before .args .table .now) 0 (c .if1 .left)); small = omega arith }
+returns-4 : tie.Need-returns-4
+returns-4 c =
+    let a = c .before .before .before .before .before .args in
+    entry-end (a .table .now) (a .slot) (a .link) (c .before .before .before .if1 .left) (c .before .before .if2 .left) (c .before .index .result) (c .before .index .ensures) (c .if3 .left)
 
 pub entry-spec : {M : Type 1} → statement M
 entry-spec =
-    tie.close (tie.spec mul-at add-at shared-slice-read-result cast-result returns returns-2)
+    tie.close
+    (tie.spec returns returns-2 index-requires shared-slice-read-result returns-3 returns-4)

@@ -1,0 +1,16 @@
+-- `Standing::tell` meets its contract: what `tell_all` tells of the records. Assumes nothing.
+use borrow.Author.Needs.{needs}
+use Rattle.step.proofs.Standing.tell.Statement.{statement}
+use Rattle.step.proofs.Standing.tell.Tie as tie
+
+tell-all-requires : tie.Need-tell-all-requires
+tell-all-requires c κs = record { stand = c .before .before .before .before .before .before .pre .go .stand; early = c .before .before .before .before .before .before .pre .go .early; enough = c .before .before .before .before .before .before .pre .enough }
+
+same-length : tie.Need-same-length
+same-length c = search needs
+
+returns : tie.Need-returns
+returns c = c .before .before .tell-all .ensures
+
+pub tell-spec : {M : Type 1} → statement M
+tell-spec = tie.close (tie.spec tell-all-requires same-length returns)
