@@ -1,9 +1,9 @@
 // The replay of one cycle under a cut list: document 01's refusals 1 to 10, 12 and 13, or the number of arrivals with the row of
 // events. It takes anything and asks nothing. It leans on `plan` for refusals 1 to 10, on `cuts` for 12, on `table` for who holds a
 // link, and on `cycle`, which plays.
-use scope::limits::TABLE;
 use scope::Answer;
 use scope::Refusal;
+use scope::limits::TABLE;
 ghost use Prim.Native.Nat.{_*_};
 ghost use mathlib.Core.Path.{_≡_};
 ghost use Rattle.scope.specs.Plan.{messageCount, timeoutOf};

@@ -60,7 +60,13 @@ fn count_for(row: &[u16], n: usize) -> usize
 }
 
 // The lowest link or message that breaks rule n, or how many there are.
-fn lowest_breaking(row: &[u16], starts: &[usize; MESSAGES], table: &[u8], n: usize, count: usize) -> usize
+fn lowest_breaking(
+    row: &[u16],
+    starts: &[usize; MESSAGES],
+    table: &[u8],
+    n: usize,
+    count: usize,
+) -> usize
     requires { ⌜ Judging (now row) (now starts) (now table) × (5 ≤ n) × (count ≡ countFor (planOf (now row)) n) ⌝ }
     ensures { λ r. ⌜ r ≡ lowest (breaks (planOf (now (row .entry))) n) count ⌝ }
 {

@@ -29,8 +29,13 @@ loop-holds c = let a = c .before .before .before .args in
     (law.passing-first (a .row .now) (a .i) (c .place-count .result), rw e)
 
 place-at-requires : tie.Need-place-at-requires Inv-loop μ-loop
-place-at-requires c κs = omega (arith, c .before .loop .inv .0 .small, c .before .loop .inv .0 .most, c .before .before .place-count
-    .ensures .small)
+place-at-requires c κs = omega (
+  arith,
+  c .before .loop .inv .0 .small,
+  c .before .loop .inv .0 .most,
+  c .before .before .place-count
+      .ensures .small,
+)
 
 entry-requires : tie.Need-entry-requires Inv-loop μ-loop
 entry-requires c κs = search needs
@@ -42,8 +47,8 @@ returns : tie.Need-returns Inv-loop μ-loop
 returns c = let a = c .before .before .before .before .before .before .before .before .args in
     let l = c .before .before .before .before .loop in
     sym (law.held-there (a .row .now) (c .before .before .before .before .before .place-count .result) (l .at) (l .k)
-        (c .before .before .place-at .result) (c .before .before .place-at .ensures) (c .before .before .before .loop-test .taken)
-        (a .table .now) (a .m) (c .before .entry .result) (c .before .entry .ensures) (c .if1 .taken)) ∙ l .inv .1
+    (c .before .before .place-at .result) (c .before .before .place-at .ensures) (c .before .before .before .loop-test .taken)
+    (a .table .now) (a .m) (c .before .entry .result) (c .before .entry .ensures) (c .if1 .taken)) ∙ l .inv .1
 
 add-k : tie.Need-add-k Inv-loop μ-loop
 add-k c = search needs
@@ -53,19 +58,20 @@ loop-less c = search needs
 
 loop-again : tie.Need-loop-again Inv-loop μ-loop
 loop-again c = let a = c .before .before .before .before .before .before .before .before .args in
-    let l = c .before .before .before .before .loop in
-    (law.passing-next (a .row .now) (a .i) (c .before .before .before .before .before .place-count .result) (l .at) (l .k)
-        (c .before .before .place-at .result) (l .inv .0) (c .before .before .before .loop-test .taken)
-        (c .before .before .place-at .ensures),
-    law.held-next (a .row .now) (c .before .before .before .before .before .place-count .result) (l .at) (l .k)
-        (c .before .before .place-at .result) (c .before .before .place-at .ensures) (c .before .before .before .loop-test .taken)
-        (a .table .now) (a .m) (c .before .entry .result) (c .before .entry .ensures) (c .if1 .left) ∙ l .inv .1)
+    let l = c .before .before .before .before .loop in (
+      law.passing-next (a .row .now) (a .i) (c .before .before .before .before .before .place-count .result) (l .at) (l .k)
+          (c .before .before .place-at .result) (l .inv .0) (c .before .before .before .loop-test .taken)
+          (c .before .before .place-at .ensures),
+      law.held-next (a .row .now) (c .before .before .before .before .before .place-count .result) (l .at) (l .k)
+          (c .before .before .place-at .result) (c .before .before .place-at .ensures) (c .before .before .before .loop-test .taken)
+          (a .table .now) (a .m) (c .before .entry .result) (c .before .entry .ensures) (c .if1 .left) ∙ l .inv .1,
+    )
 
 returns-2 : tie.Need-returns-2 Inv-loop μ-loop
 returns-2 c = let a = c .before .before .before .before .before .args in
     let l = c .before .loop in
     sym (law.held-done (a .row .now) (c .before .before .place-count .result) (l .at) (l .k) (a .table .now) (a .m) (c .loop-test .left))
-        ∙ l .inv .1
+    ∙ l .inv .1
 
 pub held-below-spec : {M : Type 1} → statement M
 held-below-spec =

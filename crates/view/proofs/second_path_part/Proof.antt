@@ -13,7 +13,7 @@ second-span-requires c κs = search needs
 part-requires : tie.Need-part-requires
 part-requires c κs = let a = c .before .before .args in
     law.span-within (a .row .now) (a .m) (a .p) (walked (a .row .now) (c .before .before .pre)) (c .second-span .result)
-        (c .second-span .ensures)
+    (c .second-span .ensures)
 
 returns : tie.Need-returns
 returns c = let a = c .before .before .before .args in
