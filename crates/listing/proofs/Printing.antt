@@ -7,7 +7,8 @@ use lib.ListN.{length}
 use borrow.Author.Tests.{le-leb, lt-leb}
 use Rattle.scope.specs.declared.Answer.{Answer}
 use Rattle.scope.specs.declared.Answer.the-variants.{Gives, Refused}
-use Rattle.scope.specs.Outcome.{Outcome, outcomeOf}
+use Rattle.scope.proofs.Outcomes.{not-both}
+use Rattle.scope.specs.Outcome.{Outcome, outcomeOf, refuse}
 use Rattle.scope.specs.Questions.{after}
 use Rattle.text.specs.Text.{Puts, laid}
 use Rattle.text.proofs.Laid.{laid-none, laid-front}
@@ -24,13 +25,13 @@ module _ {text b : List ℕ} {n : ℕ} (p : Puts text [] b 0 n) where
   same : (entry : List ℕ) → length (b ++ entry) ≡ length entry
   same entry = rw counted
 
-  pub prints-short : (entry : List ℕ) → length (b ++ entry) < n → Prints text entry (b ++ entry) (Refused (record { no = 13; place = n }))
+  pub prints-short : (entry : List ℕ) (a : Answer) → length (b ++ entry) < n → outcomeOf a ≡ refuse 13 n → Prints text entry (b ++ entry) a
   unfolding after
-  prints-short entry h =
+  prints-short entry a h is =
       let short : length entry < length text = omega (arith, needed, same entry) in
       record {
-        answer = rw (needed, lt-leb (length text) (length entry) short);
-        buffer = rw counted;
+        answer = is ∙ rw (needed, lt-leb (length text) (length entry) short);
+        buffer = rw (is, counted);
       }
 
   pub prints-whole : (entry : List ℕ) {c : List ℕ} {m : ℕ} → n ≤ length (b ++ entry) → Puts text (b ++ entry) c 0 m → Prints text entry c (Gives n)
@@ -49,12 +50,9 @@ prints-as e p = rw e at p
 -- two outcomes that the statement allows are equal
 same-answer : (r s : Answer) → outcomeOf r ≡ outcomeOf s → r ≡ s
 same-answer (Gives n) (Gives m) e = cc
-same-answer (Gives n) (Refused y) e = absurd (let z : _≡_ {A = ℕ} 0 1 = cc in omega arith)
-same-answer (Refused x) (Gives m) e = absurd (let z : _≡_ {A = ℕ} 0 1 = cc in omega arith)
-same-answer (Refused x) (Refused y) e =
-    let p : x .no ≡ y .no = cc in
-    let q : x .place ≡ y .place = cc in
-    λ i. Refused (record { no = p i; place = q i })
+same-answer (Gives n) (Refused y) e = not-both (sym e)
+same-answer (Refused x) (Gives m) e = not-both e
+same-answer (Refused x) (Refused y) e = ap Refused (let f : x ≡ y = cc in f)
 
 pub prints-only : {text entry exit exit′ : List ℕ} {r r′ : Answer} → Prints text entry exit r → Prints text entry exit′ r′ → (r ≡ r′) × (exit ≡ exit′)
 prints-only {text} {entry} {exit} {exit′} {r} {r′} p q =

@@ -11,6 +11,7 @@ ghost use Rattle.scope.specs.Outcome.{gives, outcomeOf};
 ghost use Rattle.scope.specs.Plan.{planOf};
 use scope::Answer;
 use scope::Refusal;
+use scope::refuse;
 use text::put_decimal;
 use text::put_number;
 use text::put_word;
@@ -70,11 +71,11 @@ fn arrived_line(out: &mut [u8], at: usize, n: usize, messages: usize) -> usize
 }
 
 // A refusal: its number and its place.
-fn refused_line(out: &mut [u8], at: usize, no: usize, place: usize) -> usize
-    requires { ⌜ Told at (refusedLine no place) ⌝ }
-    ensures { λ r. ⌜ Puts (refusedLine no place) (now (out .entry)) (now (out .exit)) at r ⌝ }
+fn refused_line(out: &mut [u8], at: usize, refusal: Refusal) -> usize
+    requires { ⌜ Told at (refusedLine refusal) ⌝ }
+    ensures { λ r. ⌜ Puts (refusedLine refusal) (now (out .entry)) (now (out .exit)) at r ⌝ }
 {
-    phrase_line(out, at, b"refused ", no, b" place ", place)
+    phrase_line(out, at, b"refused ", refusal.no, b" place ", refusal.place)
 }
 
 // The listing of a replay with n arrivals: the header, its events and the arrivals.
@@ -94,7 +95,7 @@ fn answered(out: &mut [u8], answer: Answer, row: &[u16], events: &[u16]) -> usiz
 {
     match answer {
         Answer::Gives(n) => replayed(out, n, row, events),
-        Answer::Refused(r) => refused_line(out, 0, r.no, r.place),
+        Answer::Refused(r) => refused_line(out, 0, r),
     }
 }
 
@@ -108,10 +109,7 @@ pub fn listing(answer: Answer, row: &[u16], events: &[u16], out: &mut [u8]) -> A
 {
     let needed = answered(&mut out[..0], answer, row, events);
     if out.len() < needed {
-        return Answer::Refused(Refusal {
-            no: 13,
-            place: needed,
-        });
+        return refuse(13, needed);
     }
     answered(out, answer, row, events);
     Answer::Gives(needed)

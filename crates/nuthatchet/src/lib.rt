@@ -17,7 +17,7 @@ ghost use Rattle.nuthatchet.specs.Ruled.{ruled, TellsRuling};
 
 // A refusal: its number is returned, its place written, and zero for the result.
 fn refuse(refusal: Refusal, place: &mut usize, result: &mut usize) -> usize
-    ensures { λ r. ⌜ Told (refused (refusal .no) (refusal .place)) r (now (place .exit)) (now (result .exit)) ⌝ }
+    ensures { λ r. ⌜ Told (refused refusal) r (now (place .exit)) (now (result .exit)) ⌝ }
 {
     *place = refusal.place;
     *result = 0;

@@ -8,6 +8,7 @@ use native.Mathlib.Nat.{mul-assoc}
 use lib.ListN.{length, getD, take, drop, length-append, List·getD-append}
 use lib.Seq.{take-all, take-at}
 use Rattle.scope.specs.declared.Answer.{Answer}
+use Rattle.scope.specs.declared.Refusal.{Refusal}
 use Rattle.scope.specs.Outcome.{Outcome, outcomeOf, gives, refused}
 use Rattle.scope.specs.Plan.{Plan, planOf}
 use Rattle.scope.specs.File.{rowOf}
@@ -39,7 +40,7 @@ listed (gives n) plan events buffer l =
     let t = plan .timeout in
     let fits : 2 * (0 + t * m) ≤ length events = omega (arith, mul-assoc 2 t m) in
     rw (lines-front m events (drop (length events) buffer) 0 (t * m) fits)
-listed (refused k p) plan events buffer l = refl
+listed (refused r) plan events buffer l = refl
 
 pub played-text : (row cuts entry exit : List ℕ) (r : Answer) → length entry ≡ longestEvents → Replays row cuts entry exit r →
     listing (outcomeOf r) (planOf row) exit ≡ textOf row cuts
@@ -64,9 +65,9 @@ input-text row input =
     ap (λ (t : List ℕ). textOf row (cutsFrom 65 t 0)) (sym whole) ∙ replay-enough row input longestEvents (650 + length input) (omega arith)
 
 -- the text by what reading the file gives
-pub text-refused : (file input : List ℕ) (k p : ℕ) → readFile file longestRow ≡ refused k p → replayText file input ≡ refusedLine k p
+pub text-refused : (file input : List ℕ) (r : Refusal) → readFile file longestRow ≡ refused r → replayText file input ≡ refusedLine r
 unfolding replayText
-text-refused file input k p e = rw e
+text-refused file input r e = rw e
 
 pub text-given : (file input : List ℕ) (n : ℕ) → readFile file longestRow ≡ gives n → replayText file input ≡ textOf (rowOf file) (cutsOf input)
 unfolding replayText

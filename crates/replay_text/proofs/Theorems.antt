@@ -5,11 +5,12 @@ use mathlib.Core.Path.{_≡_, refl, sym, _∙_, ap}
 use mathlib.Core.Bool.{Bool, true, false}
 use mathlib.Core.List.{List}
 use native.Mathlib.Omega.{arith}
-use lib.ListN.{length, getD, take, length-append}
+use lib.ListN.{length, getD, take}
 use lib.Seq.{take-all, take-take}
 use lib.Dec.{ltb}
 use borrow.Author.Tests.{ltb-true, ltb-false, le-leb}
 use Rattle.scope.specs.declared.Answer.{Answer}
+use Rattle.scope.specs.declared.Refusal.{Refusal}
 use Rattle.scope.specs.Outcome.{Outcome, gives, refused, outcomeOf}
 use Rattle.scope.specs.File.{walkFile, rowOf}
 use Rattle.scope.specs.Plan.{planOf}
@@ -22,7 +23,7 @@ use Rattle.view.proofs.Walked.{walked}
 use Rattle.view.proofs.Parts.{message-count, timeout-is}
 use Rattle.plan.proofs.Ways.{good-row}
 use Rattle.plan.proofs.Reading.{read-judged}
-use Rattle.text.proofs.Decimal.{decimal-all}
+use Rattle.listing.proofs.Lines.{refused-size}
 use Rattle.listing.proofs.Room.{listing-room}
 use Rattle.listing.specs.Prints.{Prints}
 use Rattle.listing.proofs.Printing.{prints-only}
@@ -32,16 +33,16 @@ use Rattle.replay_text.proofs.Text.{text-refused, text-given}
 use Rattle.replay_text.proofs.Low.{event-numbers}
 
 -- a file that is longer than the longest has a form that is refused
-long-refused : (file : List ℕ) → longestFile < length file → (k : ℕ) × (p : ℕ) × (walkFile file ≡ refused k p)
+long-refused : (file : List ℕ) → longestFile < length file → (r : Refusal) × (walkFile file ≡ refused r)
 long-refused file l = by (walkFile file) refl
   where
-    by : (o : Outcome) → walkFile file ≡ o → (k : ℕ) × (p : ℕ) × (walkFile file ≡ refused k p)
+    by : (o : Outcome) → walkFile file ≡ o → (r : Refusal) × (walkFile file ≡ refused r)
     by (gives end) e = absurd (let m = file-most file end e in omega arith)
-    by (refused k p) e = (k, p, e)
+    by (refused r) e = (r, e)
 
-form-refused : (file : List ℕ) (lent k p : ℕ) → walkFile file ≡ refused k p → readFile file lent ≡ refused k p
+form-refused : (file : List ℕ) (lent : ℕ) (r : Refusal) → walkFile file ≡ refused r → readFile file lent ≡ refused r
 unfolding readFile
-form-refused file lent k p e = rw e
+form-refused file lent r e = rw e
 
 file-front : (file input : List ℕ) → replayText (take 7349 file) input ≡ replayText file input
 file-front file input = by (ltb longestFile (length file)) refl
@@ -50,8 +51,8 @@ file-front file input = by (ltb longestFile (length file)) refl
     by true e =
         let l = ltb-true longestFile (length file) e in
         let r = long-refused file l in
-        text-refused (take 7349 file) input (r .0) (r .1) (form-refused (take 7349 file) longestRow (r .0) (r .1) (front-decides file l ∙ r .2))
-        ∙ sym (text-refused file input (r .0) (r .1) (form-refused file longestRow (r .0) (r .1) (r .2)))
+        text-refused (take 7349 file) input (r .0) (form-refused (take 7349 file) longestRow (r .0) (front-decides file l ∙ r .1))
+        ∙ sym (text-refused file input (r .0) (form-refused file longestRow (r .0) (r .1)))
     by false e =
         let l = ltb-false longestFile (length file) e in
         ap (λ (f : List ℕ). replayText f input) (take-all 7349 file (omega arith))
@@ -66,7 +67,7 @@ input-front file input = by (readFile file longestRow) refl
         ∙ ap (λ (t : List ℕ). textOf (rowOf file) (cutsFrom 65 t 0)) (take-take 651 651 input (omega arith))
         ∙ replay-enough (rowOf file) input longestEvents 651 (omega arith)
         ∙ sym (text-given file input n e)
-    by (refused k p) e = text-refused file (take 651 input) k p e ∙ sym (text-refused file input k p e)
+    by (refused r) e = text-refused file (take 651 input) r e ∙ sym (text-refused file input r e)
 
 -- so many bytes of the file and of the input print what the whole prints, however long they are
 pub front-prints : (file input : List ℕ) → replayText (take 7349 file) (take 651 input) ≡ replayText file input
@@ -77,11 +78,7 @@ pub text-room : (file input : List ℕ) → length (replayText file input) ≤ 3
 text-room file input = by (readFile file longestRow) refl
   where
     by : (o : Outcome) → readFile file longestRow ≡ o → length (replayText file input) ≤ 36942
-    by (refused k p) e =
-        let a = decimal-all k in
-        let b = decimal-all p in
-        let size : length (refusedLine k p) ≤ 56 = simp length-append (omega arith) in
-        omega (arith, ap length (text-refused file input k p e))
+    by (refused r) e = omega (arith, refused-size r, ap length (text-refused file input r e))
     by (gives n) e =
         let row = rowOf file in
         let cuts = cutsOf input in

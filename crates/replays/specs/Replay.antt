@@ -13,7 +13,7 @@ use Rattle.plan.specs.Answers.{Answers, GoodRow}
 
 -- a good row, and a cut list without refusal 12
 pub record Checked (row cuts : List ℕ) : Type 0 where
-  pub row : GoodRow row
+  pub judged : GoodRow row
   pub count : ℕ
   pub good : checkCuts (planOf row) cuts ≡ gives count
 

@@ -14,7 +14,8 @@ use Rattle.scope.specs.File.{rowOf}
 use Rattle.scope.specs.Questions.{readFile}
 use Rattle.scope.specs.Limits.{longestRow}
 use Rattle.scope.specs.Lines.{decimal, refusedLine}
-use Rattle.text.proofs.Decimal.{decimal-small, decimal-large, decimal-most, decimal-all}
+use Rattle.text.proofs.Decimal.{decimal-small, decimal-large, decimal-most}
+use Rattle.listing.proofs.Lines.{refused-size}
 use Rattle.listing.specs.Prints.{Prints}
 use Rattle.listing.proofs.Printing.{prints-only}
 use Rattle.flow.proofs.Theorems.{row-small}
@@ -99,10 +100,7 @@ text-room file = by (readFile file longestRow) refl
         let few = read-room file longestRow n e .1 in
         let l = line-room (rowOf file) (row-small (rowOf file) (length (rowOf file)) (g .form)) in
         omega (arith, ap length (text-given file (rowOf file) n e refl))
-    by (refused k p) e =
-        let a = decimal-all k in
-        let b = decimal-all p in
-        rw (text-refused file k p e) (simp length-append (omega arith))
+    by (refused r) e = omega (arith, refused-size r, ap length (text-refused file r e))
 
 -- two outcomes that a promise of this crate allows are equal
 pub one-text : (file entry exit exit′ : List ℕ) (r r′ : Answer) → Prints (rowText file) entry exit r → Prints (rowText file) entry exit′ r′ → (r ≡ r′) × (exit ≡ exit′)

@@ -9,7 +9,7 @@ use lib.ListN.{length, getD, set, length-set, replicate, length-replicate, getD-
 use lib.Seq.{getD-set-same, getD-set-other}
 use lib.Dec.{ltb, eqb}
 use Rattle.scope.specs.Lowest.{lowest}
-use Rattle.scope.specs.Outcome.{gives, refused}
+use Rattle.scope.specs.Outcome.{gives, refuse}
 use Rattle.scope.specs.Plan.{Plan, Place, messageAt, afterMessage, firstMessage, messageCount, linkCount, planOf, pathOf}
 use Rattle.scope.specs.Good.{badEnds, repeats, badFirstPath, badSlots, badTable, badSecondPath, rules}
 use Rattle.scope.specs.SecondPath.{messageIndex}
@@ -179,7 +179,7 @@ module _ (plan : Plan) where
         let t : ltb (lowest (breaks plan n) (countFor plan n)) (countFor plan n) ≡ false = rw (← fc, ← fm) (le-ltb m count b) in
         rw (left n h, t)
 
-    pub rules-broken : m < count → refused n m ≡ rulesFrom plan (11 - n) n
+    pub rules-broken : m < count → refuse n m ≡ rulesFrom plan (11 - n) n
     unfolding rulesFrom
     rules-broken b =
         let t : ltb (lowest (breaks plan n) (countFor plan n)) (countFor plan n) ≡ true = rw (← fc, ← fm) (lt-ltb m count b) in

@@ -2,15 +2,15 @@
 // `rules` of document 01 says. The rules are numbered by their refusals: one loop looks for the lowest link or message that breaks rule n, and one
 // goes through the rules. It leans on `broken` for the test of one link or message, and on `view` and `table`.
 use scope::Answer;
-use scope::Refusal;
 use scope::limits::MESSAGES;
 use scope::limits::TABLE;
+use scope::refuse;
 ghost use mathlib.Core.Path.{_≡_};
 ghost use Prim.Native.Nat.{_<_, _≤_};
 ghost use lib.ListN.{length};
 ghost use Rattle.scope.specs.Limits.{mostMessages};
 ghost use Rattle.scope.specs.Lowest.{lowest};
-ghost use Rattle.scope.specs.Outcome.{gives, refused, outcomeOf};
+ghost use Rattle.scope.specs.Outcome.{gives, outcomeOf};
 ghost use Rattle.scope.specs.Row.{walkRow};
 ghost use Rattle.scope.specs.Plan.{planOf, messageCount};
 ghost use Rattle.scope.specs.Good.{rules};
@@ -78,15 +78,6 @@ fn lowest_breaking(
         m += 1;
     }
     m
-}
-
-fn refuse(no: usize, place: usize) -> Answer
-    ensures { λ r. ⌜ outcomeOf r ≡ refused no place ⌝ }
-{
-    Answer::Refused(Refusal {
-        no: no,
-        place: place,
-    })
 }
 
 // The rules in their order.

@@ -1,4 +1,4 @@
--- Laws of what a message tries and does once it has turned, one for each way.
+-- Laws of what a message does once it has turned, one for each way.
 use Prim.Native.Nat.{ℕ, _+_, _-_, _≤_, _<_}
 use mathlib.Core.Path.{_≡_, refl, sym, _∙_, ap}
 use mathlib.Core.Bool.{Bool, true, false, not}
@@ -7,7 +7,7 @@ use native.Mathlib.Omega.{arith}
 use lib.Dec.{ltb, eqb}
 use borrow.Author.Tests.{eq-eqb, ne-eqb, lt-ltb, le-ltb, eqb-true, eqb-false}
 use Rattle.scope.specs.Plan.{at, numbersAt, placesAt, placeAt, placeSize}
-use Rattle.scope.specs.Slot.{Position, onFirst, onSecond, moved, atTarget, turn, tries, nextSecond, onFirstPath, onSecondPath, act}
+use Rattle.scope.specs.Slot.{Position, onFirst, onSecond, moved, atTarget, turn, tries, onFirstPath, onSecondPath, act}
 use Rattle.step.specs.Where.{leftAt, endAt}
 use Rattle.step.proofs.Left.{numbers-none, numbers-next, places-none, places-next, after-next, after-size}
 
@@ -29,24 +29,6 @@ module _ (row : List ℕ) (i n : ℕ) where
       by : (b t : Bool) → eqb n 0 ≡ t → t ≡ atTarget (leftAt row b i n)
       by b true e = yes b (eqb-true n 0 e)
       by b false e = no b (eqb-false n 0 e)
-
-  -- what it tries, and the next link of its second path
-  module _ (down : ℕ → Bool) where
-    pub tries-first : (b : Bool) → b ≡ false → 0 ≡ tries down (leftAt row b i n)
-    tries-first b f = rw f
-
-    module _ (b : Bool) (f : b ≡ true) (l : n ≡ 0 → ⊥) (e : ℕ) (p : e ≡ at row i) (d : Bool) (q : d ≡ down e) where
-      cut : down (at row i) ≡ d
-      cut = sym (q ∙ ap down p)
-
-      pub tries-cut : d ≡ true → 0 ≡ tries down (leftAt row b i n)
-      tries-cut h = rw (f, numbers-next row i n (some n l), cut, h)
-
-      pub tries-whole : d ≡ false → e + 1 ≡ tries down (leftAt row b i n)
-      tries-whole h = rw (f, numbers-next row i n (some n l), cut, h, p)
-
-  pub second-next : (b : Bool) → b ≡ true → (n ≡ 0 → ⊥) → (e : ℕ) → e ≡ at row i → e ≡ nextSecond (leftAt row b i n)
-  second-next b f l e p = rw (f, numbers-next row i n (some n l), p)
 
   -- on the first path
   module _ (b : Bool) (f : b ≡ false) (l : 0 < n) where

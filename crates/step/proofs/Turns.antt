@@ -6,13 +6,13 @@ use mathlib.Core.List.{List}
 use native.Mathlib.Omega.{arith}
 use borrow.Author.Tests.{eq-eqb, ne-eqb}
 use Rattle.scope.specs.Plan.{at, numbersAt, placeAt, placeSize, placesAt}
-use Rattle.scope.specs.Slot.{onSecond, turn, tries, onFirstPath, onSecondPath, act}
+use Rattle.scope.specs.Slot.{onSecond, turn, onFirstPath, onSecondPath, act}
 use Rattle.step.specs.declared.Position.{Position}
 use Rattle.step.specs.declared.Met.{Met}
 use Rattle.step.specs.declared.Moved.{Moved}
 use Rattle.step.specs.Where.{leftAt, positionOf, endAt, endOf, Leads, Acts, Faces, Meets}
 use Rattle.step.proofs.Left.{numbers-next, places-next, after-size, size-second}
-use Rattle.step.proofs.Steps.{tries-first, tries-cut, tries-whole, act-first, act-second}
+use Rattle.step.proofs.Steps.{act-first, act-second}
 
 module _ (row : List ℕ) (down : ℕ → Bool) (i n : ℕ) where
   pub turn-turned : (b : Bool) → b ≡ true → leftAt row b i n ≡ turn down (leftAt row b i n)
@@ -52,22 +52,13 @@ meets-by row down p q r t l f =
       cut = f .cut;
     }
 
--- what it tries and does after its turn, by where it stands then
+-- what it does after its turn, by where it stands then
 module _ (row : List ℕ) (down : ℕ → Bool) (p : Position) (t : Met) (h : Meets row down p t) where
   abbrev q : Position
   q = t .position
 
   far : q .left ≡ 0 → ⊥
   far z = omega (arith, h .left)
-
-  pub met-none : q .turned ≡ false → 0 ≡ tries down (turn down (positionOf row p))
-  met-none f = tries-first row (q .at) (q .left) down (q .turned) f ∙ ap (tries down) (h .turned .is)
-
-  pub met-cut : q .turned ≡ true → t .down ≡ true → 0 ≡ tries down (turn down (positionOf row p))
-  met-cut f d = tries-cut row (q .at) (q .left) down (q .turned) f far (t .link) (h .link) (t .down) (h .cut) d ∙ ap (tries down) (h .turned .is)
-
-  pub met-whole : q .turned ≡ true → t .down ≡ false → t .link + 1 ≡ tries down (turn down (positionOf row p))
-  met-whole f d = tries-whole row (q .at) (q .left) down (q .turned) f far (t .link) (h .link) (t .down) (h .cut) d ∙ ap (tries down) (h .turned .is)
 
   module _ (slot entry : ℕ) (held : Bool) (first : ℕ) (r : Moved) where
     within : endOf row (r .next) ≤ endOf row q → endOf row (r .next) ≤ endOf row p

@@ -14,7 +14,7 @@ ghost use mathlib.Core.List.{_++_};
 ghost use lib.ListN.{length, drop, set};
 ghost use lib.Dec.{eqb};
 ghost use Rattle.scope.specs.Plan.{at, numbersAt, placeAt, placeSize, placesAt};
-ghost use Rattle.scope.specs.Slot.{onFirst, onFirstPath, onSecondPath, turn, tries, act};
+ghost use Rattle.scope.specs.Slot.{onFirst, onFirstPath, onSecondPath, turn, act};
 ghost use Rattle.scope.specs.Cycle.{numbers};
 ghost use Rattle.cuts.specs.Down.{isDown};
 ghost use Rattle.table.specs.Table.{entryAt};
@@ -174,23 +174,6 @@ impl Position {
         }
     }
 
-    // The link that it tries after its turn, plus one; 0 where it tries none.
-    fn tries(self, row: &[u16], down: &[u8]) -> usize
-        requires { ⌜ endOf (now row) self < 65536 ⌝ }
-        ensures { λ r. ⌜ (r ≡ tries (isDown (now (down .entry))) (turn (isDown (now (down .entry))) (positionOf (now (row .entry)) self))) × (r ≤ 65536) ⌝ }
-    {
-        if self.is_home() {
-            return 0;
-        }
-        let met = self.meets(row, down);
-        let q = met.position;
-        if q.turned {
-            if met.down { 0 } else { met.link as usize + 1 }
-        } else {
-            0
-        }
-    }
-
     // On its first path, past the next place.
     fn past_place(self, row: &[u16]) -> Position
         requires { ⌜ (self .turned ≡ false) × (0 < self .left) × (endOf (now row) self < 65536) ⌝ }
@@ -296,7 +279,8 @@ fn note(tried: &mut [u16], link: u16, m: usize)
     tried[0] = (n + 1) as u16;
 }
 
-// What message m does in a slot, in a pass over the messages: `tried` has what those before it try.
+// What message m does in a slot, in a pass over the messages: `tried` has what those before it try. If it crosses a link of its second
+// path where nothing holds it, that link is what it tries.
 fn act_one(
     p: Position,
     m: usize,
@@ -309,14 +293,15 @@ fn act_one(
     requires { ⌜ MayAct (now row) p m (slot .0) (now tried) ⌝ }
     ensures { λ r. ⌜ ActsIn (now (row .entry)) (isDown (now (down .entry))) (entryAt (now (table .entry)) (slot .0)) (slot .0) p m (now (tried .entry)) (now (tried .exit)) r ⌝ }
 {
-    let link = p.tries(row, down);
-    if link == 0 {
-        return p.acts(row, down, slot, 0, m as u16, m as u16);
+    let free = p.acts(row, down, slot, 0, m as u16, m as u16);
+    let event = free.event;
+    if event.kind() != 3 {
+        return free;
     }
-    let e = (link - 1) as u16;
-    let entry = table::entry(table, slot.0, link - 1);
-    let first = first_trier(tried, e, m);
-    note(tried, e, m);
+    let link = event.number();
+    let entry = table::entry(table, slot.0, link as usize);
+    let first = first_trier(tried, link, m);
+    note(tried, link, m);
     p.acts(row, down, slot, entry, first as u16, m as u16)
 }
 

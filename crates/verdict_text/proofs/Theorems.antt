@@ -11,6 +11,7 @@ use lib.Dec.{ltb}
 use borrow.Author.Tests.{ltb-true, ltb-false, le-leb}
 use Rattle.scope.specs.declared.Answer.{Answer}
 use Rattle.scope.specs.declared.Answer.the-variants.{Gives}
+use Rattle.scope.specs.declared.Refusal.{Refusal}
 use Rattle.scope.specs.Outcome.{Outcome, gives, refused, outcomeOf}
 use Rattle.scope.specs.File.{walkFile, rowOf}
 use Rattle.scope.specs.Plan.{Plan, planOf}
@@ -20,7 +21,7 @@ use Rattle.scope.proofs.Order.{first-once, resistant-or-failing}
 use Rattle.scope.specs.Limits.{longestFile, longestRow}
 use Rattle.flow.proofs.Theorems.{file-most, front-decides}
 use Rattle.text.specs.Text.{laid}
-use Rattle.text.proofs.Decimal.{decimal-all}
+use Rattle.listing.proofs.Lines.{refused-size}
 use Rattle.listing.specs.Prints.{Prints}
 use Rattle.listing.proofs.Printing.{prints-only, prints-as}
 use Rattle.plan.specs.Answers.{GoodRow}
@@ -62,9 +63,9 @@ one-lines plan k most at next next′ entry exit exit′ p q =
     )
 
 -- the text by what reading the file gives
-pub text-refused : (file text : List ℕ) (k p : ℕ) → readFile file longestRow ≡ refused k p → text ≡ refusedLine k p → VerdictText file text
+pub text-refused : (file text : List ℕ) (r : Refusal) → readFile file longestRow ≡ refused r → text ≡ refusedLine r → VerdictText file text
 unfolding VerdictText
-text-refused file text k p e is = rw e is
+text-refused file text r e is = rw e is
 
 pub text-given : (file row text : List ℕ) (n : ℕ) → readFile file longestRow ≡ gives n → row ≡ rowOf file →
     VerdictLines (planOf row) 0 (1 + highestK (planOf row)) text → VerdictText file text
@@ -72,9 +73,9 @@ unfolding VerdictText
 text-given file row text n e is lines =
     rw e (subst (λ (r : List ℕ). VerdictLines (planOf r) 0 (1 + highestK (planOf r)) text) is lines)
 
-back-refused : (file text : List ℕ) (k p : ℕ) → readFile file longestRow ≡ refused k p → VerdictText file text → text ≡ refusedLine k p
+back-refused : (file text : List ℕ) (r : Refusal) → readFile file longestRow ≡ refused r → VerdictText file text → text ≡ refusedLine r
 unfolding VerdictText
-back-refused file text k p e v = rw e at v
+back-refused file text r e v = rw e at v
 
 back-given : (file text : List ℕ) (n : ℕ) → readFile file longestRow ≡ gives n → VerdictText file text →
     VerdictLines (planOf (rowOf file)) 0 (1 + highestK (planOf (rowOf file))) text
@@ -82,9 +83,9 @@ unfolding VerdictText
 back-given file text n e v = rw e at v
 
 -- what is printed for a file
-pub prints-refused : (file entry exit : List ℕ) (r : Answer) (k p : ℕ) → readFile file longestRow ≡ refused k p → Prints (refusedLine k p) entry exit r →
-    PrintsOne (VerdictText file) entry exit r
-prints-refused file entry exit r k p e prints = record { text = refusedLine k p; kind = text-refused file (refusedLine k p) k p e refl; prints = prints }
+pub prints-refused : (file entry exit : List ℕ) (a : Answer) (r : Refusal) → readFile file longestRow ≡ refused r → Prints (refusedLine r) entry exit a →
+    PrintsOne (VerdictText file) entry exit a
+prints-refused file entry exit a r e prints = record { text = refusedLine r; kind = text-refused file (refusedLine r) r e refl; prints = prints }
 
 pub prints-given : (file row entry exit : List ℕ) (n count : ℕ) → readFile file longestRow ≡ gives n → row ≡ rowOf file → 34700 ≤ length entry →
     Lays (VerdictLines (planOf row) 0 (1 + highestK (planOf row))) 34700 entry exit 0 count → PrintsOne (VerdictText file) entry exit (Gives count)
@@ -101,7 +102,7 @@ pub text-once : (file a b : List ℕ) → VerdictText file a → VerdictText fil
 text-once file a b u v = by (readFile file longestRow) refl
   where
     by : (o : Outcome) → readFile file longestRow ≡ o → a ≡ b
-    by (refused k p) e = back-refused file a k p e u ∙ sym (back-refused file b k p e v)
+    by (refused r) e = back-refused file a r e u ∙ sym (back-refused file b r e v)
     by (gives n) e =
         lines-once (planOf (rowOf file)) 0 (1 + highestK (planOf (rowOf file))) a b (back-given file a n e u) (back-given file b n e v)
 
@@ -140,11 +141,7 @@ pub text-room : (file text : List ℕ) → VerdictText file text → length text
 text-room file text v = by (readFile file longestRow) refl
   where
     by : (o : Outcome) → readFile file longestRow ≡ o → length text ≤ 34700
-    by (refused k p) e =
-        let a = decimal-all k in
-        let b = decimal-all p in
-        let size : length (refusedLine k p) ≤ 56 = simp length-append (omega arith) in
-        omega (arith, ap length (back-refused file text k p e v))
+    by (refused r) e = omega (arith, refused-size r, ap length (back-refused file text r e v))
     by (gives n) e =
         let g = read-good file (rowOf file) n e refl in
         let plan = planOf (rowOf file) in
@@ -160,18 +157,18 @@ never-short file entry exit r room p =
     p .prints .answer ∙ rw (le-leb (length (p .text)) (length entry) fits)
 
 -- a file that is longer than the longest has a form that is refused, and so have its first bytes
-form-refused : (file : List ℕ) (k p : ℕ) → walkFile file ≡ refused k p → readFile file longestRow ≡ refused k p
+form-refused : (file : List ℕ) (r : Refusal) → walkFile file ≡ refused r → readFile file longestRow ≡ refused r
 unfolding readFile
-form-refused file k p e = rw e
+form-refused file r e = rw e
 
 pub front-prints : (file text : List ℕ) → VerdictText (take 7349 file) text → VerdictText file text
 front-prints file text v = by (ltb longestFile (length file)) refl
   where
     long : longestFile < length file → (o : Outcome) → walkFile file ≡ o → VerdictText file text
     long l (gives end) e = absurd (let m = file-most file end e in omega arith)
-    long l (refused k p) e =
-        text-refused file text k p (form-refused file k p e)
-        (back-refused (take 7349 file) text k p (form-refused (take 7349 file) k p (front-decides file l ∙ e)) v)
+    long l (refused r) e =
+        text-refused file text r (form-refused file r e)
+        (back-refused (take 7349 file) text r (form-refused (take 7349 file) r (front-decides file l ∙ e)) v)
 
     by : (t : Bool) → ltb longestFile (length file) ≡ t → VerdictText file text
     by true e = long (ltb-true longestFile (length file) e) (walkFile file) refl

@@ -14,7 +14,7 @@ enum-known-answer-2 : tie.Need-enum-known-answer-2
 enum-known-answer-2 c = search needs
 
 refused-line-requires : tie.Need-refused-line-requires
-refused-line-requires c κs = refused-told _ _
+refused-line-requires c κs = refused-told _
 
 same-length : tie.Need-same-length
 same-length c = search needs

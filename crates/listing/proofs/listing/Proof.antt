@@ -13,11 +13,14 @@ slice-aggregate-answered c = search needs
 answered-requires : tie.Need-answered-requires
 answered-requires c κs = search needs
 
+refuse-requires : tie.Need-refuse-requires
+refuse-requires c κs = search needs
+
 same-length : tie.Need-same-length
 same-length c = search needs
 
 returns : tie.Need-returns
-returns c = prints-short (c .before .before .before .answered .ensures) _ (c .if1 .taken)
+returns c = prints-short (c .before .before .before .before .answered .ensures) _ _ (c .before .if1 .taken) (c .refuse .ensures)
 
 answered-requires-2 : tie.Need-answered-requires-2
 answered-requires-2 c κs = search needs
@@ -35,6 +38,7 @@ listing-spec =
     slice-relend-prefix-answered
     slice-aggregate-answered
     answered-requires
+    refuse-requires
     same-length
     returns
     answered-requires-2

@@ -21,7 +21,7 @@ returns : tie.Need-returns
 returns c = c .second-span .ensures .begins ∙ law.index-shown _ _ _ _ (law.gave _ (c .before .enum-told .given .1) (c .before .before .before .judge .ensures))
 
 returns-2 : tie.Need-returns-2
-returns-2 c = law.index-hidden _ _ _ _ _ (law.refused-as _ (c .enum-told2 .given .1) (c .before .before .judge .ensures))
+returns-2 c = law.index-hidden _ _ _ _ (law.refused-as _ (c .enum-told2 .given .1) (c .before .before .judge .ensures))
 
 pub second-index-spec : {M : Type 1} → statement M
 second-index-spec =

@@ -15,7 +15,7 @@ enum-told : tie.Need-enum-told
 enum-told c = search needs
 
 replay-cut-requires : tie.Need-replay-cut-requires
-replay-cut-requires c κs = record { row = c .before .before .before .before .before .before .before .pre; count = _; good = gave _ (c .before .enum-told .given .1) (c .before .before .before .check .ensures) }
+replay-cut-requires c κs = record { judged = c .before .before .before .before .before .before .before .pre; count = _; good = gave _ (c .before .enum-told .given .1) (c .before .before .before .check .ensures) }
 
 returns : tie.Need-returns
 returns c =

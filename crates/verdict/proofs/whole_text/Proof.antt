@@ -49,7 +49,7 @@ same-length-2 : tie.Need-same-length-2
 same-length-2 c = search needs
 
 returns-2 : tie.Need-returns-2
-returns-2 c = prints-refused _ _ _ _ _ _ (read-refused _ _ _ _ (c .before .before .before .before .before .before .before .before .before .before .read-file .ensures) _ _ (search needs) (c .before .before .before .before .before .before .before .read2 .given .1)) (prints-as (refused-parts _ _ _ _) (c .before .before .listing .ensures))
+returns-2 c = prints-refused _ _ _ _ _ (read-refused _ _ _ _ (c .before .before .before .before .before .before .before .before .before .before .read-file .ensures) _ _ (search needs) (c .before .before .before .before .before .before .before .read2 .given .1)) (prints-as (refused-parts _ _ _) (c .before .before .listing .ensures))
 
 pub whole-text-spec : {M : Type 1} → statement M
 whole-text-spec =
