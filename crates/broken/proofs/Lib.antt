@@ -1,2 +1,1 @@
-pub mod Seek
 pub mod Laws

@@ -3,7 +3,7 @@
 use Prim.Native.Nat.{ℕ}
 use mathlib.Core.Bool.{Bool, true, false, not, _&&_, _||_}
 use mathlib.Core.List.{List, [], _∷_}
-use lib.Dec.{ltb, eqb}
+use lib.Dec.{leb, eqb}
 use Rattle.scope.specs.Plan.{Plan, Place, linkOf}
 use Rattle.scope.specs.Good.{isPathFrom, linksOf, headOf, endOf, slotsRise, goodSeconds}
 use Rattle.table.specs.Table.{entryAt}
@@ -17,10 +17,10 @@ brokenSlots plan ps = not (slotsRise (plan .timeout) 0 ps)
 abbrev pub brokenSeconds : Plan → List Place → Bool
 brokenSeconds plan ps = not (goodSeconds plan (endOf plan (linksOf ps)) ps)
 
--- the table has an entry for the link and slot of some place
-unfoldable pub inTable : List ℕ → List Place → Bool
-inTable table [] = false
-inTable table (p ∷ ps) = ltb 0 (entryAt table (p .slot) (p .link)) || inTable table ps
+-- a table gives the link and slot of some place to a message below m: an entry is the lowest holder plus one
+unfoldable pub heldBelow : List ℕ → ℕ → List Place → Bool
+heldBelow table m [] = false
+heldBelow table m (p ∷ ps) = leb (entryAt table (p .slot) (p .link)) m || heldBelow table m ps
 
 -- a second path that replaces a link of a first path that ends at a vertex
 abbrev pub secondHolds : Plan → ℕ → ℕ → List ℕ → Bool

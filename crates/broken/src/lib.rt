@@ -1,13 +1,14 @@
 // Whether one link or one message breaks a rule of document 01: the tests of refusals 5 to 10. Each is its namesake in specs/ of
 // `scope` (Good) on the plan of a row; a message is told by its index. It leans on `view`, `paths` and `table`.
+use scope::limits::PLACES;
 ghost use mathlib.Core.Path.{_≡_};
 ghost use Prim.Native.Nat.{_+_, _<_, _≤_, _^_};
 ghost use lib.ListN.{length};
-ghost use Rattle.scope.specs.Lowest.{some};
+ghost use Rattle.scope.specs.Limits.{mostPlaces};
 ghost use Rattle.scope.specs.Plan.{planOf, linkOf, placeAt, messageAt, placeSize, placeCount};
 ghost use Rattle.scope.specs.Good.{badEnds, sameEnds, repeats, goodPlace, goodSeconds};
-ghost use Rattle.view.specs.Lies.{PlaceLies, MessageLies};
-ghost use Rattle.broken.specs.Broken.{brokenPath, brokenSlots, brokenSeconds, inTable, secondHolds};
+ghost use Rattle.view.specs.Lies.{MessageLies, PlanLies};
+ghost use Rattle.broken.specs.Broken.{brokenPath, brokenSlots, brokenSeconds, heldBelow, secondHolds};
 
 // Refusal 5: an end of link e is not below V, or both are equal.
 pub fn bad_ends(row: &[u16], e: usize) -> bool
@@ -53,10 +54,10 @@ pub fn repeats_earlier(row: &[u16], e: usize) -> bool
 
 // Refusal 7: the first path of the message at an index breaks a rule other than that of slots.
 pub fn bad_path(row: &[u16], i: usize) -> bool
-    requires { ⌜ (i < 2 ^ 60) × (placeCount (now row) i ≤ 16) ⌝ }
+    requires { ⌜ PlanLies (now row) × (i < 2 ^ 60) × (placeCount (now row) i ≤ mostPlaces) ⌝ }
     ensures { λ r. ⌜ r ≡ brokenPath (planOf (now (row .entry))) (messageAt (now (row .entry)) i) ⌝ }
 {
-    let mut path = [0u16; 16];
+    let mut path = [0u16; PLACES];
     let n = paths::first_links(row, i, &mut path);
     let v = paths::link_from(row, view::number(&path, 0));
     !paths::is_path(row, v, &path[..n])
@@ -73,35 +74,35 @@ pub fn bad_slots(row: &[u16], i: usize) -> bool
     let mut least = 0;
     let mut k = 0;
     while k < n {
-        let slot = view::number(row, at + 1);
-        if slot < least {
+        let here = view::place_at(row, at);
+        if here.slot < least {
             return true;
         }
-        if t <= slot {
+        if t <= here.slot {
             return true;
         }
-        least = slot + 1;
-        at = at + view::place_size(row, at);
+        least = here.slot + 1;
+        at = here.next;
         k += 1;
     }
     false
 }
 
-// Refusal 9: a table has an entry for some place of the message at an index.
-pub fn in_table(row: &[u16], i: usize, table: &[u8]) -> bool
+// Refusal 9: in a table, some place of the message at an index, message m, is given to a lower message.
+pub fn held_below(row: &[u16], i: usize, m: usize, table: &[u8]) -> bool
     requires { ⌜ i < 2 ^ 60 ⌝ }
-    ensures { λ r. ⌜ r ≡ inTable (now (table .entry)) (messageAt (now (row .entry)) i) ⌝ }
+    ensures { λ r. ⌜ r ≡ heldBelow (now (table .entry)) m (messageAt (now (row .entry)) i) ⌝ }
 {
     let n = view::place_count(row, i);
     let mut at = i + 1;
     let mut k = 0;
     while k < n {
-        let link = view::number(row, at);
-        let slot = view::number(row, at + 1);
-        if 0 < table::entry(table, slot, link) {
+        let here = view::place_at(row, at);
+        let holder = table::entry(table, here.slot, here.link) as usize;
+        if holder <= m {
             return true;
         }
-        at = at + view::place_size(row, at);
+        at = here.next;
         k += 1;
     }
     false
@@ -109,7 +110,7 @@ pub fn in_table(row: &[u16], i: usize, table: &[u8]) -> bool
 
 // A second path in place of a link, where the first path ends at a vertex.
 fn second_holds(row: &[u16], end: usize, link: usize, second: &[u16]) -> bool
-    requires { ⌜ link < 65536 ⌝ }
+    requires { ⌜ PlanLies (now row) × (link < 65536) ⌝ }
     ensures { λ r. ⌜ r ≡ secondHolds (planOf (now (row .entry))) end link (now (second .entry)) ⌝ }
 {
     let v = paths::link_from(row, link);
@@ -124,29 +125,31 @@ fn second_holds(row: &[u16], end: usize, link: usize, second: &[u16]) -> bool
 
 // The place at an index has no second path, or a good one.
 fn place_holds(row: &[u16], end: usize, at: usize) -> bool
-    requires { ⌜ (at < 2 ^ 61) × (at + placeSize (now row) at ≤ length (now row)) ⌝ }
+    requires { ⌜ PlanLies (now row) × (at < 2 ^ 61) × (at + placeSize (now row) at ≤ length (now row)) ⌝ }
     ensures { λ r. ⌜ r ≡ goodPlace (planOf (now (row .entry))) end (placeAt (now (row .entry)) at) (placeAt (now (row .entry)) at .second) ⌝ }
 {
-    if view::number(row, at + 2) != 1 {
+    let here = view::place_at(row, at);
+    if here.count == 0 {
         return true;
     }
-    let a = at + 4;
-    let b = a + view::number(row, at + 3) + 1;
-    second_holds(row, end, view::number(row, at), &row[a..b])
+    let a = here.second;
+    let b = here.next;
+    second_holds(row, end, here.link, &row[a..b])
 }
 
 fn seconds_hold(row: &[u16], end: usize, i: usize) -> bool
-    requires { ⌜ (i < 2 ^ 60) × MessageLies (now row) i ⌝ }
+    requires { ⌜ PlanLies (now row) × (i < 2 ^ 60) × MessageLies (now row) i ⌝ }
     ensures { λ r. ⌜ r ≡ goodSeconds (planOf (now (row .entry))) end (messageAt (now (row .entry)) i) ⌝ }
 {
     let n = view::place_count(row, i);
     let mut at = i + 1;
     let mut k = 0;
     while k < n {
+        let here = view::place_at(row, at);
         if !place_holds(row, end, at) {
             return false;
         }
-        at = at + view::place_size(row, at);
+        at = here.next;
         k += 1;
     }
     true
@@ -154,10 +157,10 @@ fn seconds_hold(row: &[u16], end: usize, i: usize) -> bool
 
 // Refusal 10: a second path of the message at an index breaks a rule.
 pub fn bad_seconds(row: &[u16], i: usize) -> bool
-    requires { ⌜ (i < 2 ^ 60) × MessageLies (now row) i ⌝ }
+    requires { ⌜ PlanLies (now row) × (i < 2 ^ 60) × MessageLies (now row) i ⌝ }
     ensures { λ r. ⌜ r ≡ brokenSeconds (planOf (now (row .entry))) (messageAt (now (row .entry)) i) ⌝ }
 {
-    let mut path = [0u16; 16];
+    let mut path = [0u16; PLACES];
     let n = paths::first_links(row, i, &mut path);
     let end = paths::path_end(row, &path[..n]);
     !seconds_hold(row, end, i)

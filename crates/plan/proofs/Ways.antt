@@ -17,9 +17,9 @@ use Rattle.scope.specs.Plan.{planOf}
 use Rattle.scope.specs.Good.{rules}
 use Rattle.scope.specs.SecondPath.{hasSecond, shown}
 use Rattle.scope.specs.Questions.{after, judge, readFile, writeFile, secondPath}
-use Rattle.view.specs.View.{secondPart}
+use Rattle.view.specs.View.{PartAt, secondPart, secondIndex}
 use Rattle.flow.proofs.Theorems.{file-row, row-count}
-use Rattle.plan.specs.Answers.{Answers, Accepts, GoodRow}
+use Rattle.plan.specs.Answers.{Answers, Accepts, GoodRow, shownIndex}
 use Rattle.plan.proofs.Numbers.{judge-numbered}
 use Rattle.plan.proofs.Outcomes.{then-refused, then-gives, then-back, rules-give, room-there, room-short, refuses, after-gives}
 
@@ -122,3 +122,19 @@ shown-part row m p n e = rw e
 pub shown-none : (row : List ℕ) (m p : ℕ) (r : Refusal) → judge row ≡ refused r → [] ≡ secondPath row m p
 unfolding secondPath shown
 shown-none row m p r e = sym (rw (e, ne-eqb (r .no) 0 (judge-numbered row r e)))
+
+-- and where it begins
+pub index-shown : (row : List ℕ) (m p n : ℕ) → judge row ≡ gives n → secondIndex row m p ≡ shownIndex row m p
+index-shown row m p n e = rw e
+
+pub index-hidden : (row : List ℕ) (m p : ℕ) (r : Refusal) → judge row ≡ refused r → 0 ≡ shownIndex row m p
+index-hidden row m p r e = sym (rw (e, ne-eqb (r .no) 0 (judge-numbered row r e)))
+
+pub part-shown : (row : List ℕ) (m p n : ℕ) (ptr : ℕ × ℕ) {now : List ℕ} {part : ℕ × ℕ} → judge row ≡ gives n →
+    PartAt (secondPart row m p) (secondIndex row m p) ptr now part → PartAt (secondPath row m p) (shownIndex row m p) ptr now part
+part-shown row m p n ptr e q =
+    record { shows = q .shows ∙ shown-part row m p n e; same = q .same; begins = omega (arith, q .begins, index-shown row m p n e) }
+
+pub part-hidden : (row : List ℕ) (m p : ℕ) (r : Refusal) (ptr : ℕ × ℕ) → judge row ≡ refused r → PartAt (secondPath row m p) (shownIndex row m p) ptr [] ptr
+part-hidden row m p r ptr e =
+    record { shows = shown-none row m p r e; same = refl; begins = omega (arith, index-hidden row m p r e) }

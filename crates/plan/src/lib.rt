@@ -11,7 +11,8 @@ ghost use Rattle.scope.specs.Outcome.{outcomeOf};
 ghost use Rattle.scope.specs.Questions.{judge, secondPath};
 ghost use Rattle.scope.specs.Outcome.{gives};
 ghost use Rattle.scope.specs.Row.{walkRow};
-ghost use Rattle.plan.specs.Answers.{Accepts, Reads, Writes};
+ghost use Rattle.view.specs.View.{PartAt};
+ghost use Rattle.plan.specs.Answers.{Accepts, Reads, Writes, shownIndex};
 
 // The longest row that a file can have.
 const LONGEST_ROW: usize = 10405;
@@ -101,11 +102,25 @@ pub fn write_file(row: &[u16], file: &mut [u8]) -> Answer
 // The second path of a message from a place, as a part of the row itself: its links only, and no number of them where there is none or
 // the row is bad.
 pub fn second_path(row: &[u16], m: usize, p: usize) -> &[u16]
-    ensures { λ r. ⌜ now r ≡ secondPath (now (row .entry)) m p ⌝ }
+    ensures { λ r. ⌜ PartAt (secondPath (now (row .entry)) m p) (shownIndex (now (row .entry)) m p) (row .entry .ptr) (now r) (r .ptr) ⌝ }
 {
     let judged = judge(row);
     match judged {
         Answer::Gives(_) => view::second_path_part(row, m, p),
         Answer::Refused(_) => &row[..0],
+    }
+}
+
+// Where that part begins, for a caller that cannot tell it from the part: its index in the row, 0 where the part is empty.
+pub fn second_index(row: &[u16], m: usize, p: usize) -> usize
+    ensures { λ r. ⌜ r ≡ shownIndex (now (row .entry)) m p ⌝ }
+{
+    let judged = judge(row);
+    match judged {
+        Answer::Gives(_) => {
+            let span = view::second_span(row, m, p);
+            span.from
+        }
+        Answer::Refused(_) => 0,
     }
 }

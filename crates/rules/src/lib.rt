@@ -1,138 +1,98 @@
 // Refusals 5 to 10 of a row that has the form of a plan: `check` gives 0, or the lowest refusal that applies with its place, as
-// `rules` of document 01 says. It leans on `broken` for the test of one link or message, and on `view` and `table`.
+// `rules` of document 01 says. The rules are numbered by their refusals: one loop looks for the lowest link or message that breaks rule n, and one
+// goes through the rules. It leans on `broken` for the test of one link or message, and on `view` and `table`.
 use scope::Answer;
+use scope::limits::MESSAGES;
+use scope::limits::TABLE;
 use scope::refuse;
 ghost use mathlib.Core.Path.{_≡_};
+ghost use Prim.Native.Nat.{_<_, _≤_};
 ghost use lib.ListN.{length};
+ghost use Rattle.scope.specs.Limits.{mostMessages};
 ghost use Rattle.scope.specs.Lowest.{lowest};
 ghost use Rattle.scope.specs.Outcome.{gives, outcomeOf};
 ghost use Rattle.scope.specs.Row.{walkRow};
-ghost use Rattle.scope.specs.Plan.{planOf, linkCount, messageCount};
-ghost use Rattle.scope.specs.Good.{badEnds, repeats, badFirstPath, badSlots, badTable, badSecondPath, rules};
-ghost use Rattle.view.specs.Lies.{PlanLies};
-ghost use Rattle.rules.specs.Rules.{fromSeven};
+ghost use Rattle.scope.specs.Plan.{planOf, messageCount};
+ghost use Rattle.scope.specs.Good.{rules};
+ghost use Rattle.rules.specs.Rules.{Starts, Judging, breaks, countFor};
 
-// The lowest link that breaks the rule of refusal 5, or how many links there are; and that of refusal 6.
-fn lowest_bad_ends(row: &[u16]) -> usize
-    ensures { λ r. ⌜ r ≡ lowest (badEnds (planOf (now (row .entry)))) (linkCount (now (row .entry))) ⌝ }
+// Where each message stands, 0 for those that the row does not have.
+fn message_starts(row: &[u16]) -> [usize; MESSAGES]
+    requires { ⌜ messageCount (now row) ≤ mostMessages ⌝ }
+    ensures { λ r. ⌜ Starts (now (row .entry)) (messageCount (now (row .entry))) r ⌝ }
 {
-    let n = view::links(row);
-    let mut e = 0;
-    while e < n {
-        if broken::bad_ends(row, e) {
-            return e;
-        }
-        e += 1;
-    }
-    e
-}
-
-fn lowest_repeat(row: &[u16]) -> usize
-    ensures { λ r. ⌜ r ≡ lowest (repeats (planOf (now (row .entry)))) (linkCount (now (row .entry))) ⌝ }
-{
-    let n = view::links(row);
-    let mut e = 0;
-    while e < n {
-        if broken::repeats_earlier(row, e) {
-            return e;
-        }
-        e += 1;
-    }
-    e
-}
-
-// The lowest message that breaks the rule of refusal 7, or how many messages there are; and those of refusals 8 to 10.
-fn lowest_bad_path(row: &[u16]) -> usize
-    requires { ⌜ PlanLies (now row) ⌝ }
-    ensures { λ r. ⌜ r ≡ lowest (badFirstPath (planOf (now (row .entry)))) (messageCount (now (row .entry))) ⌝ }
-{
+    let mut starts = [0usize; MESSAGES];
     let n = view::messages(row);
     let mut at = view::message_index(row, 0);
     let mut m = 0;
     while m < n {
-        if broken::bad_path(row, at) {
-            return m;
-        }
+        starts[m] = at;
         at = view::after_message(row, at);
         m += 1;
     }
-    m
+    starts
 }
 
-fn lowest_bad_slots(row: &[u16]) -> usize
-    requires { ⌜ PlanLies (now row) ⌝ }
-    ensures { λ r. ⌜ r ≡ lowest (badSlots (planOf (now (row .entry)))) (messageCount (now (row .entry))) ⌝ }
+// Whether link m, and from rule 7 on message m, breaks rule n.
+fn breaks(row: &[u16], starts: &[usize; MESSAGES], table: &[u8], n: usize, m: usize) -> bool
+    requires { ⌜ Judging (now row) (now starts) (now table) × (5 ≤ n) × (m < countFor (planOf (now row)) n) ⌝ }
+    ensures { λ r. ⌜ r ≡ breaks (planOf (now (row .entry))) n m ⌝ }
 {
-    let n = view::messages(row);
-    let mut at = view::message_index(row, 0);
+    match n {
+        5 => broken::bad_ends(row, m),
+        6 => broken::repeats_earlier(row, m),
+        7 => broken::bad_path(row, starts[m]),
+        8 => broken::bad_slots(row, starts[m]),
+        9 => broken::held_below(row, starts[m], m, table),
+        _ => broken::bad_seconds(row, starts[m]),
+    }
+}
+
+// How many links or messages rule n is asked of.
+fn count_for(row: &[u16], n: usize) -> usize
+    ensures { λ r. ⌜ r ≡ countFor (planOf (now (row .entry))) n ⌝ }
+{
+    if n < 7 {
+        view::links(row)
+    } else {
+        view::messages(row)
+    }
+}
+
+// The lowest link or message that breaks rule n, or how many there are.
+fn lowest_breaking(
+    row: &[u16],
+    starts: &[usize; MESSAGES],
+    table: &[u8],
+    n: usize,
+    count: usize,
+) -> usize
+    requires { ⌜ Judging (now row) (now starts) (now table) × (5 ≤ n) × (count ≡ countFor (planOf (now row)) n) ⌝ }
+    ensures { λ r. ⌜ r ≡ lowest (breaks (planOf (now (row .entry))) n) count ⌝ }
+{
     let mut m = 0;
-    while m < n {
-        if broken::bad_slots(row, at) {
+    while m < count {
+        if breaks(row, starts, table, n, m) {
             return m;
         }
-        at = view::after_message(row, at);
         m += 1;
     }
     m
 }
 
-// The table holds the messages passed, so that it is asked once for each place.
-fn lowest_taken(row: &[u16]) -> usize
-    requires { ⌜ PlanLies (now row) ⌝ }
-    ensures { λ r. ⌜ r ≡ lowest (badTable (planOf (now (row .entry)))) (messageCount (now (row .entry))) ⌝ }
+// The rules in their order.
+fn check_all(row: &[u16], starts: &[usize; MESSAGES], table: &[u8]) -> Answer
+    requires { ⌜ Judging (now row) (now starts) (now table) ⌝ }
+    ensures { λ r. ⌜ outcomeOf r ≡ rules (planOf (now (row .entry))) ⌝ }
 {
-    let mut table = [0u8; 4096];
-    let n = view::messages(row);
-    let mut at = view::message_index(row, 0);
-    let mut m = 0;
-    while m < n {
-        if broken::in_table(row, at, &table) {
-            return m;
+    let mut n = 5;
+    while n < 11 {
+        let count = count_for(row, n);
+        let m = lowest_breaking(row, starts, table, n, count);
+        if m < count {
+            return refuse(n, m);
         }
-        at = table::enter(row, at, (m + 1) as u8, &mut table);
-        m += 1;
-    }
-    m
-}
-
-fn lowest_bad_seconds(row: &[u16]) -> usize
-    requires { ⌜ PlanLies (now row) ⌝ }
-    ensures { λ r. ⌜ r ≡ lowest (badSecondPath (planOf (now (row .entry)))) (messageCount (now (row .entry))) ⌝ }
-{
-    let n = view::messages(row);
-    let mut at = view::message_index(row, 0);
-    let mut m = 0;
-    while m < n {
-        if broken::bad_seconds(row, at) {
-            return m;
-        }
-        at = view::after_message(row, at);
-        m += 1;
-    }
-    m
-}
-
-// Refusals 7 to 10.
-fn check_messages(row: &[u16]) -> Answer
-    requires { ⌜ PlanLies (now row) ⌝ }
-    ensures { λ r. ⌜ outcomeOf r ≡ fromSeven (planOf (now (row .entry))) ⌝ }
-{
-    let n = view::messages(row);
-    let path = lowest_bad_path(row);
-    if path < n {
-        return refuse(7, path);
-    }
-    let slots = lowest_bad_slots(row);
-    if slots < n {
-        return refuse(8, slots);
-    }
-    let taken = lowest_taken(row);
-    if taken < n {
-        return refuse(9, taken);
-    }
-    let seconds = lowest_bad_seconds(row);
-    if seconds < n {
-        return refuse(10, seconds);
+        n += 1;
     }
     Answer::Gives(0)
 }
@@ -142,14 +102,8 @@ pub fn check(row: &[u16]) -> Answer
     requires { ⌜ walkRow (now row) ≡ gives (length (now row)) ⌝ }
     ensures { λ r. ⌜ outcomeOf r ≡ rules (planOf (now (row .entry))) ⌝ }
 {
-    let n = view::links(row);
-    let ends = lowest_bad_ends(row);
-    if ends < n {
-        return refuse(5, ends);
-    }
-    let repeat = lowest_repeat(row);
-    if repeat < n {
-        return refuse(6, repeat);
-    }
-    check_messages(row)
+    let starts = message_starts(row);
+    let mut table = [0u8; TABLE];
+    table::fill_table(row, &mut table);
+    check_all(row, &starts, &table)
 }

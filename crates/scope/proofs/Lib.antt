@@ -5,3 +5,4 @@ pub mod Cuts
 pub mod Order
 pub mod First
 pub mod Cases
+pub mod Seek

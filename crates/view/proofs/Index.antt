@@ -1,19 +1,20 @@
 -- Laws of the indexes of places and messages, for loops that pass them one by one.
 use Prim.Native.Nat.{ℕ, zero, suc, _+_, _-_, _*_, _≤_, _<_}
 use mathlib.Core.Path.{_≡_, refl, sym, _∙_, ap}
+use mathlib.Core.Bool.{true, false}
 use mathlib.Core.List.{List}
 use native.Mathlib.Numerals.{add-one}
 use native.Mathlib.Omega.{arith}
 use borrow.Author.Tests.{eq-eqb, ne-eqb}
-use Rattle.scope.specs.Plan.{at, placeSize, afterPlaces, afterMessage, afterMessages}
+use Rattle.scope.specs.Plan.{at, flagged, placeSize, afterPlaces, afterMessage, afterMessages}
 
 module _ (row : List ℕ) where
-  -- the size of a place with a second path, and of one without
-  pub size-second : (i x v : ℕ) → x ≡ at row (i + 2) → x ≡ 1 → v ≡ at row (i + 3) → v + 5 ≡ placeSize row i
-  size-second i x v e t f = rw (eq-eqb (at row (i + 2)) 1 (sym e ∙ t)) (omega arith)
+  -- the flag of a place that is read as x
+  pub flag-set : (i x : ℕ) → x ≡ at row (i + 2) → x ≡ 1 → flagged row i ≡ true
+  flag-set i x e t = eq-eqb (at row (i + 2)) 1 (sym e ∙ t)
 
-  pub size-none : (i x : ℕ) → x ≡ at row (i + 2) → (x ≡ 1 → ⊥) → 3 ≡ placeSize row i
-  size-none i x e t = rw (ne-eqb (at row (i + 2)) 1 (λ h. t (e ∙ h)))
+  pub flag-clear : (i x : ℕ) → x ≡ at row (i + 2) → (x ≡ 1 → ⊥) → flagged row i ≡ false
+  flag-clear i x e t = ne-eqb (at row (i + 2)) 1 (λ h. t (e ∙ h))
 
   -- a loop at place k of n: it begins, it goes on, it is done
   pub places-first : (i n : ℕ) → afterPlaces row i (n - 0) ≡ afterPlaces row i n
@@ -24,6 +25,9 @@ module _ (row : List ℕ) where
   places-next i n k s h e =
       let f : n - k ≡ suc (n - (k + 1)) = omega arith in
       rw (f, e)
+
+  pub places-go : (i n k j : ℕ) → k < n → j ≡ i + placeSize row i → afterPlaces row j (n - (k + 1)) ≡ afterPlaces row i (n - k)
+  places-go i n k j h e = ap (λ a. afterPlaces row a (n - (k + 1))) e ∙ places-next i n k (placeSize row i) h refl
 
   pub places-done : (i n k : ℕ) → n ≤ k → afterPlaces row i (n - k) ≡ i
   unfolding afterPlaces

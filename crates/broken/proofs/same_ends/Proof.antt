@@ -21,13 +21,17 @@ returns : tie.Need-returns
 returns c = let p = planOf (c .before .before .before .before .before .before .args .row .now) in
     let d = linkOf p (c .before .before .before .before .before .before .args .d) in
     let e = linkOf p (c .before .before .before .before .before .before .args .e) in
-    law.same-from (d .from) (e .from) (d .to) (e .to) (c .before .before .before .before .link-from .result) (c .before .before .before .link-from2 .result) (c .before .before .before .before .link-from .ensures) (c .before .before .before .link-from2 .ensures) (c .before .link-to .result) (c .link-to2 .result) (c .before .link-to .ensures) (c .link-to2 .ensures) (c .before .before .if1 .taken)
+    law.same-from (d .from) (e .from) (d .to) (e .to) (c .before .before .before .before .link-from .result)
+    (c .before .before .before .link-from2 .result) (c .before .before .before .before .link-from .ensures)
+    (c .before .before .before .link-from2 .ensures) (c .before .link-to .result) (c .link-to2 .result) (c .before .link-to .ensures)
+    (c .link-to2 .ensures) (c .before .before .if1 .taken)
 
 returns-2 : tie.Need-returns-2
 returns-2 c = let p = planOf (c .before .before .before .before .args .row .now) in
     let d = linkOf p (c .before .before .before .before .args .d) in
     let e = linkOf p (c .before .before .before .before .args .e) in
-    law.other-from (d .from) (e .from) (d .to) (e .to) (c .before .before .link-from .result) (c .before .link-from2 .result) (c .before .before .link-from .ensures) (c .before .link-from2 .ensures) (c .if1 .left)
+    law.other-from (d .from) (e .from) (d .to) (e .to) (c .before .before .link-from .result) (c .before .link-from2 .result)
+    (c .before .before .link-from .ensures) (c .before .link-from2 .ensures) (c .if1 .left)
 
 pub same-ends-spec : {M : Type 1} → statement M
 same-ends-spec =

@@ -11,16 +11,16 @@ second-path-requires : tie.Need-second-path-requires
 second-path-requires c κs = search needs
 
 returns : tie.Need-returns
-returns c = part-none _ _ _ _ (ap length (c .before .second-path .ensures)) (c .if1 .taken)
+returns c = part-none _ _ _ _ (ap length (c .before .second-path .ensures .shows)) (c .if1 .taken)
 
 place-index-requires : tie.Need-place-index-requires
-place-index-requires c κs = few _ _ _ _ (ap length (c .before .second-path .ensures)) (c .if1 .left)
+place-index-requires c κs = few _ _ _ _ (ap length (c .before .second-path .ensures .shows)) (c .if1 .left)
 
 add-index : tie.Need-add-index
-add-index c = let p = few _ _ _ _ (ap length (c .before .before .second-path .ensures)) (c .before .if1 .left) in omega (arith, c .place-index .ensures .small, p .0, p .1)
+add-index c = let p = few _ _ _ _ (ap length (c .before .before .second-path .ensures .shows)) (c .before .if1 .left) in omega (arith, c .place-index .ensures .small, p .0, p .1)
 
 returns-2 : tie.Need-returns-2
-returns-2 c = part-some _ _ _ _ (ap length (c .before .before .second-path .ensures)) (c .before .if1 .left) _ (c .place-index .ensures .is)
+returns-2 c = part-some _ _ _ _ (ap length (c .before .before .second-path .ensures .shows)) (c .before .if1 .left) _ (c .place-index .ensures .is)
 
 pub nuthatchet-second-path-spec : {M : Type 1} → statement M
 nuthatchet-second-path-spec =

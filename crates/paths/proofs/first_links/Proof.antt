@@ -1,16 +1,14 @@
 -- `paths::first_links` meets its contract. The invariant `Copying`: the links copied, and those of the places left, are the links asked. Assumes nothing.
 use Prim.Native.Nat.{_-_}
-use mathlib.Core.Path.{_≡_, refl}
 use native.Mathlib.Omega.{arith}
 use borrow.Author.Needs.{needs}
-use lib.ListN.{length}
 use Rattle.paths.proofs.Laws as law
 use Rattle.paths.proofs.Laws.{Copying}
 use Rattle.paths.proofs.first_links.Statement.{statement}
 use Rattle.paths.proofs.first_links.Tie as tie
 
 abbrev Inv-loop : tie.InvT-loop
-Inv-loop row i path₀ n at₀ k₀ path at k = Copying row i n at k path × (length path ≡ length path₀)
+Inv-loop row i path₀ n at₀ k₀ path at k = Copying row i n path₀ at k path
 
 abbrev μ-loop : tie.MeasureT-loop
 μ-loop row i path₀ n at₀ k₀ path at k = n - k
@@ -22,25 +20,20 @@ add-at : tie.Need-add-at Inv-loop μ-loop
 add-at c = search needs
 
 loop-holds : tie.Need-loop-holds Inv-loop μ-loop
-loop-holds c = (law.copying-first (c .before .before .before .args .row .now) (c .before .before .before .args .i) (c .place-count .result) (c .before .before .before .args .path .now) (c .place-count .ensures .is), refl)
+loop-holds c = law.copying-first (c .before .before .before .args .row .now) (c .before .before .before .args .i)
+    (c .place-count .result) (c .before .before .before .args .path .now) (c .place-count .ensures .is)
 
-number-requires : tie.Need-number-requires Inv-loop μ-loop
-number-requires c κs = search needs
+place-at-requires : tie.Need-place-at-requires Inv-loop μ-loop
+place-at-requires c κs = omega (arith, c .before .loop .inv .small, c .before .before .place-count .ensures .small)
 
 cast-path : tie.Need-cast-path Inv-loop μ-loop
-cast-path c = search needs
+cast-path c = omega (arith, c .before .place-at .ensures .link-small)
 
 mul-path : tie.Need-mul-path Inv-loop μ-loop
 mul-path c = search needs
 
 slice-write-path : tie.Need-slice-write-path Inv-loop μ-loop
 slice-write-path c = search needs
-
-place-size-requires : tie.Need-place-size-requires Inv-loop μ-loop
-place-size-requires c κs = search needs
-
-add-at-2 : tie.Need-add-at-2 Inv-loop μ-loop
-add-at-2 c = search needs
 
 add-k : tie.Need-add-k Inv-loop μ-loop
 add-k c = search needs
@@ -51,15 +44,17 @@ loop-less c = search needs
 loop-again : tie.Need-loop-again Inv-loop μ-loop
 loop-again c = let a = c .before .before .before .before .before .before .before .args in
     let l = c .before .before .before .loop in
-    (law.copying-next (a .row .now) (a .i) (c .before .before .before .before .place-count .result) (l .at) (l .k) (l .path) (c .before .number .result) (c .place-size .result) (l .inv .0) (c .before .before .loop-test .taken) (omega arith) (c .before .number .ensures .is) (c .place-size .ensures .is) (c .place-size .ensures .small), search needs)
+    law.copying-next (a .row .now) (a .i) (c .before .before .before .before .place-count .result) (a .path .now) (l .at) (l .k)
+    (l .path) (c .before .place-at .result) (l .inv) (c .before .before .loop-test .taken) (omega arith) (c .before .place-at .ensures)
 
 same-length : tie.Need-same-length Inv-loop μ-loop
-same-length c = search needs
+same-length c = c .before .loop .inv .long
 
 returns : tie.Need-returns Inv-loop μ-loop
 returns c = let a = c .before .before .before .before .before .args in
     let l = c .before .loop in
-    law.copying-done (a .row .now) (a .i) (c .before .before .place-count .result) (l .at) (l .k) (l .path) (l .inv .0) (c .loop-test .left) (c .before .before .place-count .ensures .is)
+    law.copying-done (a .row .now) (a .i) (c .before .before .place-count .result) (a .path .now) (l .at) (l .k) (l .path) (l .inv)
+    (c .loop-test .left) (c .before .before .place-count .ensures .is)
 
 pub first-links-spec : {M : Type 1} → statement M
 first-links-spec =
@@ -70,12 +65,10 @@ first-links-spec =
     place-count-requires
     add-at
     loop-holds
-    number-requires
+    place-at-requires
     cast-path
     mul-path
     slice-write-path
-    place-size-requires
-    add-at-2
     add-k
     loop-less
     loop-again

@@ -25,7 +25,8 @@ link-to-requires-2 c κs = search needs
 
 returns-2 : tie.Need-returns-2
 returns-2 c = let a = c .before .before .before .before .before .args in
-    c .link-to2 .ensures ∙ ap (λ e. linkOf (planOf (a .row .now)) e .to) (c .before .number .ensures .is) ∙ law.end-last (planOf (a .row .now)) (a .path .now) (length (a .path .now)) refl (c .before .before .if1 .left)
+    c .link-to2 .ensures ∙ ap (λ e. linkOf (planOf (a .row .now)) e .to) (c .before .number .ensures .is) ∙ law.end-last
+    (planOf (a .row .now)) (a .path .now) (length (a .path .now)) refl (c .before .before .if1 .left)
 
 pub path-end-spec : {M : Type 1} → statement M
 path-end-spec =

@@ -1,5 +1,4 @@
 -- `plan::second_path` meets its contract: a bad row shows nothing. Assumes nothing.
-use mathlib.Core.Path.{_∙_}
 use borrow.Author.Needs.{needs}
 use native.Mathlib.Omega.{arith}
 use Rattle.plan.proofs.Ways as law
@@ -22,10 +21,11 @@ slice-aggregate-result : tie.Need-slice-aggregate-result
 slice-aggregate-result c = search needs
 
 returns : tie.Need-returns
-returns c = c .second-path-part .ensures ∙ law.shown-part _ _ _ _ (law.gave _ (c .before .enum-told .given .1) (c .before .before .before .judge .ensures))
+returns c =
+    law.part-shown _ _ _ _ _ (law.gave _ (c .before .enum-told .given .1) (c .before .before .before .judge .ensures)) (c .second-path-part .ensures)
 
 returns-2 : tie.Need-returns-2
-returns-2 c = law.shown-none _ _ _ _ (law.refused-as _ (c .before .enum-told2 .given .1) (c .before .before .before .judge .ensures))
+returns-2 c = law.part-hidden _ _ _ _ _ (law.refused-as _ (c .before .enum-told2 .given .1) (c .before .before .before .judge .ensures))
 
 pub second-path-spec : {M : Type 1} → statement M
 second-path-spec =

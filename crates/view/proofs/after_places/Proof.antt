@@ -18,11 +18,8 @@ abbrev μ-loop : tie.MeasureT-loop
 loop-holds : tie.Need-loop-holds Inv-loop μ-loop
 loop-holds c = (law.places-first (c .before .args .row .now) (c .before .args .i) (c .before .args .n), omega arith, omega arith)
 
-place-size-requires : tie.Need-place-size-requires Inv-loop μ-loop
-place-size-requires c κs = search needs
-
-add-at : tie.Need-add-at Inv-loop μ-loop
-add-at c = search needs
+place-at-requires : tie.Need-place-at-requires Inv-loop μ-loop
+place-at-requires c κs = search needs
 
 add-k : tie.Need-add-k Inv-loop μ-loop
 add-k c = search needs
@@ -34,7 +31,7 @@ loop-again : tie.Need-loop-again Inv-loop μ-loop
 loop-again c =
     let a = c .before .before .before .before .args in
     let l = c .before .before .loop in
-    let n = law.places-next (a .row .now) (l .at) (a .n) (l .k) (c .place-size .result) (c .before .loop-test .taken) (c .place-size .ensures .is) in
+    let n = law.places-go (a .row .now) (l .at) (a .n) (l .k) (c .place-at .result .next) (c .before .loop-test .taken) (c .place-at .ensures .next) in
     (n ∙ l .inv .0, omega arith, omega arith)
 
 returns : tie.Need-returns Inv-loop μ-loop
@@ -53,8 +50,7 @@ after-places-spec =
     Inv-loop
     μ-loop
     loop-holds
-    place-size-requires
-    add-at
+    place-at-requires
     add-k
     loop-less
     loop-again

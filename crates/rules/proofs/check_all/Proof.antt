@@ -1,0 +1,72 @@
+-- `rules::check_all` meets its contract. The invariant: the rules from rule n on decide. Assumes nothing.
+use Prim.Native.Nat.{_-_, _≤_}
+use mathlib.Core.Path.{_≡_, _∙_, sym}
+use native.Mathlib.Omega.{arith}
+use borrow.Author.Needs.{needs}
+use Rattle.scope.specs.Plan.{planOf}
+use Rattle.scope.specs.Good.{rules}
+use Rattle.rules.specs.Rules.{rulesFrom}
+use Rattle.rules.proofs.Laws as law
+use Rattle.rules.proofs.check_all.Statement.{statement}
+use Rattle.rules.proofs.check_all.Tie as tie
+
+abbrev Inv-loop : tie.InvT-loop
+Inv-loop row starts table n₀ n = (rulesFrom (planOf row) (11 - n) n ≡ rules (planOf row)) × (5 ≤ n) × (n ≤ 11)
+
+abbrev μ-loop : tie.MeasureT-loop
+μ-loop row starts table n₀ n = 11 - n
+
+loop-holds : tie.Need-loop-holds Inv-loop μ-loop
+loop-holds c = (law.rules-first (planOf (c .before .before .args .row .now)), omega arith, omega arith)
+
+count-for-requires : tie.Need-count-for-requires Inv-loop μ-loop
+count-for-requires c κs = search needs
+
+lowest-breaking-requires : tie.Need-lowest-breaking-requires Inv-loop μ-loop
+lowest-breaking-requires c κs = (c .before .before .before .before .before .pre, c .before .before .loop .inv .1, c .count-for .ensures)
+
+refuse-requires : tie.Need-refuse-requires Inv-loop μ-loop
+refuse-requires c κs = search needs
+
+returns : tie.Need-returns Inv-loop μ-loop
+returns c = let plan = planOf (c .before .before .before .before .before .before .before .before .args .row .now) in
+    c .refuse .ensures ∙ law.rules-broken plan (c .before .before .before .before .before .loop .n)
+    (c .before .before .before .count-for .result) (c .before .before .lowest-breaking .result)
+    (c .before .before .before .before .loop-test .taken) (c .before .before .before .count-for .ensures)
+    (c .before .before .lowest-breaking .ensures) (c .before .if1 .taken) ∙ c .before .before .before .before .before .loop .inv .0
+
+add-n : tie.Need-add-n Inv-loop μ-loop
+add-n c = search needs
+
+loop-less : tie.Need-loop-less Inv-loop μ-loop
+loop-less c = search needs
+
+loop-again : tie.Need-loop-again Inv-loop μ-loop
+loop-again c = let plan = planOf (c .before .before .before .before .before .before .before .args .row .now) in (
+  law.rules-next plan (c .before .before .before .before .loop .n) (c .before .before .count-for .result)
+      (c .before .lowest-breaking .result) (c .before .before .before .loop-test .taken) (c .before .before .count-for .ensures)
+      (c .before .lowest-breaking .ensures) (c .if1 .left) ∙ c .before .before .before .before .loop .inv .0,
+  omega
+      (arith, c .before .before .before .before .loop .inv .1),
+  omega (arith, c .before .before .before .loop-test .taken),
+)
+
+returns-2 : tie.Need-returns-2 Inv-loop μ-loop
+returns-2 c = law.rules-done (planOf (c .before .before .before .before .args .row .now)) (c .before .loop .n) (c .loop-test .left) ∙ c
+    .before .loop .inv .0
+
+pub check-all-spec : {M : Type 1} → statement M
+check-all-spec =
+    tie.close
+    (tie.spec
+    Inv-loop
+    μ-loop
+    loop-holds
+    count-for-requires
+    lowest-breaking-requires
+    refuse-requires
+    returns
+    add-n
+    loop-less
+    loop-again
+    returns-2)

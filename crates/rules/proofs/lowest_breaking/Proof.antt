@@ -1,0 +1,62 @@
+-- `rules::lowest_breaking` meets its contract. The invariant `Seeking`: nothing passed breaks the rule. Assumes nothing.
+use Prim.Native.Nat.{_-_}
+use mathlib.Core.Path.{_∙_, sym}
+use native.Mathlib.Omega.{arith}
+use borrow.Author.Needs.{needs}
+use Rattle.scope.specs.Plan.{planOf}
+use Rattle.scope.proofs.Seek.{Seeking, seeking-first, seeking-next, lowest-found, lowest-done}
+use Rattle.rules.specs.Rules.{breaks}
+use Rattle.rules.proofs.lowest_breaking.Statement.{statement}
+use Rattle.rules.proofs.lowest_breaking.Tie as tie
+
+abbrev Inv-loop : tie.InvT-loop
+Inv-loop row starts table n count m₀ m = Seeking (breaks (planOf row) n) count m
+
+abbrev μ-loop : tie.MeasureT-loop
+μ-loop row starts table n count m₀ m = count - m
+
+loop-holds : tie.Need-loop-holds Inv-loop μ-loop
+loop-holds c = let a = c .before .before .args in
+    seeking-first (breaks (planOf (a .row .now)) (a .n)) (a .count)
+
+breaks-requires : tie.Need-breaks-requires Inv-loop μ-loop
+breaks-requires c κs = (
+  c .before .before .before .before .pre .0,
+  c .before .before .before .before .pre .1,
+  omega
+      (arith, c .loop-test .taken, c .before .before .before .before .pre .2),
+)
+
+returns : tie.Need-returns Inv-loop μ-loop
+returns c = let a = c .before .before .before .before .before .before .args in
+    lowest-found (breaks (planOf (a .row .now)) (a .n)) (a .count) (c .before .before .before .loop .m)
+    (c .before .before .before .loop .inv) (c .before .before .loop-test .taken) (sym (c .before .breaks .ensures) ∙ c .if1 .taken)
+
+add-m : tie.Need-add-m Inv-loop μ-loop
+add-m c = search needs
+
+loop-less : tie.Need-loop-less Inv-loop μ-loop
+loop-less c = search needs
+
+loop-again : tie.Need-loop-again Inv-loop μ-loop
+loop-again c = let a = c .before .before .before .before .before .before .args in
+    seeking-next (breaks (planOf (a .row .now)) (a .n)) (a .count) (c .before .before .before .loop .m)
+    (c .before .before .before .loop .inv) (c .before .before .loop-test .taken) (sym (c .before .breaks .ensures) ∙ c .if1 .left)
+
+returns-2 : tie.Need-returns-2 Inv-loop μ-loop
+returns-2 c = let a = c .before .before .before .before .args in
+    lowest-done (breaks (planOf (a .row .now)) (a .n)) (a .count) (c .before .loop .m) (c .before .loop .inv) (c .loop-test .left)
+
+pub lowest-breaking-spec : {M : Type 1} → statement M
+lowest-breaking-spec =
+    tie.close
+    (tie.spec
+    Inv-loop
+    μ-loop
+    loop-holds
+    breaks-requires
+    returns
+    add-m
+    loop-less
+    loop-again
+    returns-2)
