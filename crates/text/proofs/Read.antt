@@ -5,7 +5,7 @@ use mathlib.Core.Bool.{Bool, true, false, not, cond, _&&_, _||_}
 use mathlib.Core.List.{List, [], _∷_, _++_, append-assoc, append-nil}
 use native.Mathlib.Omega.{arith}
 use native.Mathlib.Nat.{pow-suc}
-use lib.ListN.{length, take, length-append}
+use lib.ListN.{length, getD, take, drop, length-append}
 use lib.Dec.{ltb, leb}
 use borrow.Author.Tests.{lt-ltb, le-leb, ltb-true, ltb-false}
 use Rattle.scope.specs.Lines.{decimal, isDigit}
@@ -48,6 +48,23 @@ module _ {A : Type 0} (most : ℕ) (f : Bool → ℕ → List ℕ → A)
           ∙ rest (omega arith) (omega arith) (omega arith)
           ∙ more (n / 10) (n % 10) s (omega arith) (omega arith) (omega arith)
           ∙ ap (λ (x : ℕ). f true x s) whole
+
+  -- and with the digits of any text, up to the byte that does not go on with the number
+  pub run-along : (begun : Bool) (a : ℕ) (s : List ℕ) →
+      f begun a s ≡ f (begun || ltb 0 (sizeFrom most begun a s)) (valueFrom most begun a s) (drop (sizeFrom most begun a s) s)
+  unfolding sizeFrom valueFrom
+  run-along true a [] = refl
+  run-along false a [] = refl
+  run-along begun a (b ∷ s) = by begun (goesOn most begun a b) refl (run-along true (a * 10 + (b - 48)) s)
+    where
+      by : (begun t : Bool) → goesOn most begun a b ≡ t →
+          f true (a * 10 + (b - 48)) s ≡ f true (valueFrom most true (a * 10 + (b - 48)) s) (drop (sizeFrom most true (a * 10 + (b - 48)) s) s) →
+          f begun a (b ∷ s) ≡ f (begun || ltb 0 (sizeFrom most begun a (b ∷ s))) (valueFrom most begun a (b ∷ s)) (drop (sizeFrom most begun a (b ∷ s)) (b ∷ s))
+      by true true g rest = step true a b s g ∙ rw g rest
+      by true false g rest = rw g
+      by false true g rest =
+          step false a b s g ∙ rw (g, lt-ltb 0 (suc (sizeFrom most true (a * 10 + (b - 48)) s)) (omega arith)) rest
+      by false false g rest = rw g
 
   -- for every number that is told
   pub number-along : (n : ℕ) (s : List ℕ) → n < 2 ^ 64 → n ≤ most → f false 0 (decimal n ++ s) ≡ f true n s
@@ -136,3 +153,21 @@ module _ (most : ℕ) (u : most < 2 ^ 64) where
           let digits : decimal (b - 48) ≡ b ∷ [] = decimal-small (b - 48) (omega arith) ∙ rw back in
           rw (g, is) (ap (λ (t : List ℕ). t ++ take (sizeFrom most true (b - 48) s) s) (sym digits) ∙ more-printed (b - 48) s (omega (arith, d .fits)))
       by false g k = absurd (omega arith)
+
+-- the byte behind a number does not go on with it
+pub number-stops : (most : ℕ) (begun : Bool) (a : ℕ) (s : List ℕ) → sizeFrom most begun a s < length s →
+    goesOn most (begun || ltb 0 (sizeFrom most begun a s)) (valueFrom most begun a s) (getD s (sizeFrom most begun a s) 0) ≡ false
+unfolding sizeFrom valueFrom
+number-stops most begun a [] h = absurd (omega arith)
+number-stops most begun a (b ∷ s) h = by begun (goesOn most begun a b) refl (number-stops most true (a * 10 + (b - 48)) s) h
+  where
+    by : (begun t : Bool) → goesOn most begun a b ≡ t →
+        (sizeFrom most true (a * 10 + (b - 48)) s < length s →
+        goesOn most true (valueFrom most true (a * 10 + (b - 48)) s) (getD s (sizeFrom most true (a * 10 + (b - 48)) s) 0) ≡ false) →
+        sizeFrom most begun a (b ∷ s) < suc (length s) →
+        goesOn most (begun || ltb 0 (sizeFrom most begun a (b ∷ s))) (valueFrom most begun a (b ∷ s)) (getD (b ∷ s) (sizeFrom most begun a (b ∷ s)) 0) ≡ false
+    by true true g rest h = rw g (rest (let e = size-step most true a b s g in omega arith))
+    by true false g rest h = rw (g, g)
+    by false true g rest h =
+        rw (g, lt-ltb 0 (suc (sizeFrom most true (a * 10 + (b - 48)) s)) (omega arith)) (rest (let e = size-step most false a b s g in omega arith))
+    by false false g rest h = rw (g, g)
