@@ -56,7 +56,7 @@ fn overlong(p: Place, out: &mut [u8]) -> Place
 {
     let mut waiting = p.waiting;
     if !p.skips {
-        waiting = questions::unknown(out, waiting);
+        waiting = words::put(out, waiting, b"?\n");
     }
     Place {
         from: 0,
