@@ -116,6 +116,9 @@ static void answer(void) {
         printf("part %zu", links);
         put_numbers(numbers + 2 + index, links);
         puts("");
+    } else if (strncmp(line, "where ", 6) == 0 && read_numbers(line + 5) >= 2) {
+        size_t index, links = nuthatchet_second_path(numbers + 2, count - 2, numbers[0], numbers[1], &index);
+        printf("at %zu %zu\n", index, links);
     } else puts("?");
 }
 
