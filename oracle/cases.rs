@@ -14,8 +14,8 @@ use crate::verdict::every_list;
 
 // ------------------------------------------------------------------- questions
 
-pub const QUESTIONS: [&str; 7] =
-    ["read", "write", "replay", "verdict", "slack", "second", "junk"];
+pub const QUESTIONS: [&str; 8] =
+    ["read", "write", "replay", "verdict", "slack", "second", "where", "junk"];
 
 /// A room: what is needed, one less, none, or more.
 fn any_room(r: &mut Random, needed: usize) -> usize {
@@ -40,7 +40,8 @@ pub fn question(seed: u64, case: u64, without: &[String]) -> (&'static str, Stri
         (34, "replay"),
         (10, "verdict"),
         (12, "slack"),
-        (9, "second"),
+        (5, "second"),
+        (4, "where"),
         (3, "junk"),
     ];
     let allowed: Vec<(usize, &'static str)> =
@@ -51,7 +52,7 @@ pub fn question(seed: u64, case: u64, without: &[String]) -> (&'static str, Stri
         "write" => write_question(r),
         "replay" => replay_question(r),
         "verdict" => verdict_question(r),
-        "slack" | "second" => path_question(r, name),
+        "slack" | "second" | "where" => path_question(r, name),
         _ => junk(r),
     };
     (name, line)

@@ -60,13 +60,23 @@ fn answer_to_a_question(line: &[u8]) -> Option<String> {
             }
             Some(second(numbers[0] as usize, numbers[1] as usize, &numbers[2..]))
         }
+        "where" => {
+            let numbers = numbers(&words[1..])?;
+            if numbers.len() < 2 {
+                return None;
+            }
+            Some(place(numbers[0] as usize, numbers[1] as usize, &numbers[2..]))
+        }
         _ => None,
     }
 }
 
-/// "Numbers are decimals": digits and nothing else, and a 16-bit number.
+/// "Numbers are decimals": digits and nothing else, without needless zeros, and a 16-bit number.
 fn number(word: &str) -> Option<u16> {
     if word.is_empty() || !word.bytes().all(|byte| byte.is_ascii_digit()) {
+        return None;
+    }
+    if word.len() > 1 && word.starts_with('0') {
         return None;
     }
     word.parse().ok()
@@ -172,4 +182,10 @@ fn slack(m: usize, place: usize, row: &[u16]) -> String {
 fn second(m: usize, place: usize, row: &[u16]) -> String {
     let part = questions::second(row, m, place);
     format!("part {}{}", part.len(), spaced(part))
+}
+
+/// "`at INDEX LENGTH`: where in the row the shown part begins (`at 0 0` where there is none)".
+fn place(m: usize, place: usize, row: &[u16]) -> String {
+    let (index, length) = questions::place_of_second(row, m, place);
+    format!("at {} {}", index, length)
 }

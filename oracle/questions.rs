@@ -101,9 +101,15 @@ pub fn slack(row: &[u16], m: usize, place: usize) -> Result<i32, Refusal> {
 /// message or place that doesn't exist or a place without a second path gives a
 /// part of length 0".
 pub fn second(row: &[u16], m: usize, place: usize) -> &[u16] {
+    let (index, length) = place_of_second(row, m, place);
+    &row[index..index + length]
+}
+
+/// Where in the row that part begins, and its length; 0 and 0 where there is none.
+pub fn place_of_second(row: &[u16], m: usize, place: usize) -> (usize, usize) {
     let plan = match good_plan_of_row(row) {
         Ok(plan) => plan,
-        Err(_) => return &[],
+        Err(_) => return (0, 0),
     };
     // Walks over the numbers of the row: five, then two a link, then the messages.
     let mut at = 5 + 2 * plan.links.len();
@@ -114,11 +120,11 @@ pub fn second(row: &[u16], m: usize, place: usize) -> &[u16] {
             if let Some(second) = &of_place.second {
                 at += 1; // number of links less one
                 if message_here == m && place_here == place {
-                    return &row[at..at + second.len()];
+                    return (at, second.len());
                 }
                 at += second.len();
             }
         }
     }
-    &[]
+    (0, 0)
 }

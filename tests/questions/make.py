@@ -191,6 +191,10 @@ def questions_second():
     return q
 
 
+def questions_where():
+    return [q.replace("second", "where", 1) for q in questions_second()] + ["where", "where 0"]
+
+
 def questions_verdict():
     short = list(A)
     short[4] = 1
@@ -248,6 +252,6 @@ def questions_replay():
     return q
 
 
-for name, made in (("replay", questions_replay()), ("slack", questions_slack()), ("verdict", questions_verdict()), ("files", questions_files()), ("rows", questions_rows()), ("rules", questions_rules()), ("second", questions_second())):
+for name, made in (("replay", questions_replay()), ("slack", questions_slack()), ("verdict", questions_verdict()), ("files", questions_files()), ("rows", questions_rows()), ("rules", questions_rules()), ("second", questions_second()), ("where", questions_where())):
     with open(name + ".questions", "w") as f:
         f.write("\n".join(made) + "\n")

@@ -8,9 +8,10 @@ use native.Mathlib.Numerals.{add-one}
 use lib.ListN.{length, getD, drop, drop-of-length-le}
 use lib.Seq.{drop-cons}
 use lib.Dec.{ltb, leb, eqb}
-use borrow.Author.Tests.{lt-ltb, le-ltb, le-leb, lt-leb, eq-eqb, ne-eqb, leb-true}
+use borrow.Author.Tests.{lt-ltb, le-ltb, le-leb, lt-leb, eq-eqb, ne-eqb, leb-true, ltb-true}
 use Rattle.scope.specs.Lines.{byteAt, isDigit, numberAt, numberSize, hasWord, cutWord, isCutLine, slotIndex, spaceIndex, linkIndex, feedIndex}
-use Rattle.cut_lines.specs.Reads.{stands, End}
+use Rattle.text.specs.Reading.{stands}
+use Rattle.cut_lines.specs.Reads.{End}
 
 -- the size and the value of a number whose bytes are a and b
 abbrev pub sizeOf : ℕ → ℕ → ℕ
@@ -68,29 +69,6 @@ module _ (text : List ℕ) (i a b : ℕ) (p : a ≡ byteAt text i) (q : b ≡ by
 
   pub value-is : numberAt text i ≡ valueOf a b
   value-is = sym (ap (λ (x : ℕ). valueOf x b) p ∙ ap (λ (y : ℕ). valueOf (byteAt text i) y) q)
-
--- a word that is compared from the front, at its byte j
-module _ (text : List ℕ) (i : ℕ) (word : List ℕ) where
-  pub stands-first : stands text (i + 0) (drop 0 word) ≡ stands text i word
-  stands-first = let e : i + 0 ≡ i = omega arith in ap (λ (k : ℕ). stands text k word) e
-
-  pub stands-more : (j : ℕ) → j < length word →
-      stands text (i + j) (drop j word) ≡ (eqb (byteAt text (i + j)) (getD word j 0) && stands text (i + (j + 1)) (drop (j + 1) word))
-  unfolding stands
-  stands-more j h =
-      let e : i + j + 1 ≡ i + (j + 1) = omega arith in
-      ap (stands text (i + j)) (drop-cons word j 0 h) ∙ rw (e, add-one j)
-
-  module _ (j b : ℕ) (h : j < length word) (p : b ≡ byteAt text (i + j)) where
-    pub stands-not : (b ≡ getD word j 0 → ⊥) → stands text (i + j) (drop j word) ≡ false
-    stands-not n = stands-more j h ∙ rw (← p, ne-eqb b (getD word j 0) n)
-
-    pub stands-next : b ≡ getD word j 0 → stands text (i + j) (drop j word) ≡ stands text (i + (j + 1)) (drop (j + 1) word)
-    stands-next e = stands-more j h ∙ rw (← p, eq-eqb b (getD word j 0) e)
-
-  pub stands-done : (j : ℕ) → length word ≤ j → stands text (i + j) (drop j word) ≡ true
-  unfolding stands
-  stands-done j h = rw (drop-of-length-le word h)
 
 pub stands-cut : (text : List ℕ) (i : ℕ) → stands text i cutWord ≡ hasWord text i
 unfolding stands
@@ -218,3 +196,27 @@ is-end text i r e q = q ∙ rw e
 
 pub no-end : (text : List ℕ) (i : ℕ) → isCutLine text i ≡ false → End text i 0
 no-end text i e = record { is = rw e; near = omega arith }
+
+-- both numbers of a line have bytes
+and-left : (a b : Bool) → (a && b) ≡ true → a ≡ true
+and-left true b e = refl
+and-left false b e = e
+
+and-right : (a b : Bool) → (a && b) ≡ true → b ≡ true
+and-right true b e = e
+and-right false b e = let z : _≡_ {A = ℕ} 0 1 = cc in absurd (omega arith)
+
+module _ (text : List ℕ) (i : ℕ) (h : isCutLine text i ≡ true) where
+  four : (hasWord text i && slot text i && space text i && link text i) ≡ true
+  four = and-left (hasWord text i && slot text i && space text i && link text i) (feed text i) h
+
+  pub link-some : (a : ℕ) → a ≡ numberSize text (i + 4) → 0 < numberSize text (i + 4 + a + 1)
+  link-some a p =
+      let e : i + 4 + a + 1 ≡ linkIndex text i = ap (λ (k : ℕ). i + 4 + k + 1) p in
+      rw e (ltb-true 0 (numberSize text (linkIndex text i)) (and-right (hasWord text i && slot text i && space text i) (link text i) four))
+
+  pub slot-some : 0 < numberSize text (i + 4)
+  slot-some =
+      let three = and-left (hasWord text i && slot text i && space text i) (link text i) four in
+      let two = and-left (hasWord text i && slot text i) (space text i) three in
+      ltb-true 0 (numberSize text (slotIndex i)) (and-right (hasWord text i) (slot text i) two)

@@ -65,10 +65,6 @@ module _ (text : List ℕ) where
       ap (λ (k : ℕ). cutsFrom k text i) m ∙ cuts-bad (n - 1) i h t
 
 -- a number and a pair, stored
-pub puts-one : (b : List ℕ) (n x : ℕ) → Puts (x ∷ []) b (set b n x) n (n + 1)
-unfolding laid
-puts-one b n x = record { buffer = refl; ends = refl }
-
 pub puts-two : (b : List ℕ) (n x y : ℕ) → Puts (x ∷ y ∷ []) b (set (set b n x) (n + 1) y) n (n + 2)
 unfolding laid
 puts-two b n x y = record { buffer = refl; ends = refl }

@@ -15,7 +15,7 @@ use Rattle.cut_lines.proofs.Forms.{size-one, size-two, value-one, value
 use Rattle.cut_lines.proofs.Lines.{cuts-end, cuts-line}
 
 -- the bytes of a text from index i on begin with a list
-abbrev Bytes : List ℕ → ℕ → List ℕ → Type 0
+abbrev pub Bytes : List ℕ → ℕ → List ℕ → Type 0
 Bytes text i l = (k : ℕ) → k < length l → byteAt text (i + k) ≡ getD l k 0
 
 module _ (text : List ℕ) where
@@ -48,7 +48,7 @@ module _ (text : List ℕ) where
       ext-getD 0 (take (length l) (drop i text)) l n
       (λ k g. getD-take (length l) (drop i text) k 0 (omega arith) ∙ getD-drop i text k 0 ∙ p k (omega arith))
 
-  stand-bytes : (i : ℕ) (l : List ℕ) → take (length l) (drop i text) ≡ l → Bytes text i l
+  pub stand-bytes : (i : ℕ) (l : List ℕ) → take (length l) (drop i text) ≡ l → Bytes text i l
   stand-bytes i l e k h =
       sym (getD-drop i text k 0) ∙ sym (getD-take (length l) (drop i text) k 0 h) ∙ ap (λ (x : List ℕ). getD x k 0) e
 
@@ -56,7 +56,7 @@ module _ (text : List ℕ) where
   bytes-one i x p zero h = let e : i + 0 ≡ i = omega arith in ap (byteAt text) e ∙ p
   bytes-one i x p (suc k) h = absurd (omega arith)
 
-  bytes-first : (i x : ℕ) (l : List ℕ) → Bytes text i (x ∷ l) → byteAt text i ≡ x
+  pub bytes-first : (i x : ℕ) (l : List ℕ) → Bytes text i (x ∷ l) → byteAt text i ≡ x
   bytes-first i x l h = let e : i + 0 ≡ i = omega arith in sym (ap (byteAt text) e) ∙ h 0 (omega arith)
 
   bytes-next : (i x : ℕ) (l : List ℕ) → Bytes text i (x ∷ l) → Bytes text (i + 1) l
@@ -66,11 +66,11 @@ module _ (text : List ℕ) where
   bytes-cons i x l p q = bytes-append i (x ∷ []) l (bytes-one i x p) q
 
 -- the digits of a number of at most 63
-decimal-two : (s : ℕ) → 10 ≤ s → s ≤ 63 → decimal s ≡ (48 + s / 10) ∷ (48 + s % 10) ∷ []
+pub decimal-two : (s : ℕ) → 10 ≤ s → s ≤ 63 → decimal s ≡ (48 + s / 10) ∷ (48 + s % 10) ∷ []
 decimal-two s h g =
     decimal-large s h (omega arith) ∙ ap (λ (l : List ℕ). l ++ ((48 + s % 10) ∷ [])) (decimal-small (s / 10) (omega arith))
 
-digit-is : (d : ℕ) → d < 10 → isDigit (48 + d) ≡ true
+pub digit-is : (d : ℕ) → d < 10 → isDigit (48 + d) ≡ true
 digit-is d h = rw (le-leb 48 (48 + d) (omega arith), le-leb (48 + d) 57 (omega arith))
 
 -- the number at index i is s

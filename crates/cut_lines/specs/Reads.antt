@@ -1,21 +1,18 @@
 -- What the functions that read cut lines give, in the words of document 01.
 use Prim.Native.Nat.{ℕ, _+_, _/_, _<_, _≤_}
 use mathlib.Core.Path.{_≡_}
-use mathlib.Core.Bool.{Bool, true, cond, _&&_}
-use mathlib.Core.List.{List, [], _∷_, _++_}
+use mathlib.Core.Bool.{cond}
+use mathlib.Core.List.{List, _++_}
 use lib.ListN.{length, drop}
-use lib.Dec.{eqb}
-use Rattle.scope.specs.Lines.{byteAt, numberSize, isCutLine, feedIndex, cutsFrom}
+use Rattle.scope.specs.Lines.{numberAt, numberSize, isCutLine, feedIndex, cutsFrom}
+use Rattle.text.specs.declared.Number.{Number}
 
--- r is the byte at an index of a text
-pub record Byte (text : List ℕ) (i r : ℕ) : Type 0 where
-  pub is : r ≡ byteAt text i
-  pub small : r < 256
-
--- a word stands at index i of a text
-unfoldable pub stands : List ℕ → ℕ → List ℕ → Bool
-stands text i [] = true
-stands text i (b ∷ word) = eqb (byteAt text i) b && stands text (i + 1) word
+-- the number at index i was read: what it says, if there is one, and the index behind it
+pub record Found (text : List ℕ) (i : ℕ) (r : Number) : Type 0 where
+  pub next : r .next ≡ i + numberSize text i
+  pub value : 0 < numberSize text i → r .value ≡ numberAt text i
+  pub near : r .next ≤ i + 2
+  pub small : r .value ≤ 63
 
 -- r is how many bytes the number at index i has
 pub record Size (text : List ℕ) (i r : ℕ) : Type 0 where

@@ -1,35 +1,16 @@
 // The cut lines that the replay program reads: document 01, "a line is `cut `, the slot, one space, the link and a line feed". A
 // text of any bytes is taken; `cuts` reads as many lines as the lent buffer has room for pairs, and a line of another form ends
 // the list with a lone number, which is the bad pair of refusal 12. That 65 lines are as many as can matter, and 650 bytes as many
-// as they can have, is in proofs/Enough. It leans on specs/Lines of `scope` alone.
-ghost use Prim.Native.Nat.{_+_, _-_, _<_, _^_};
+// as they can have, is in proofs/Enough. It leans on specs/Lines of `scope` and on `text`, which reads bytes, words and numbers.
+ghost use Prim.Native.Nat.{_+_, _<_, _^_};
 ghost use mathlib.Core.Path.{_≡_};
-ghost use lib.ListN.{length};
-ghost use Rattle.cut_lines.specs.Reads.{Byte, Size, End, Cuts};
-ghost use Rattle.cut_lines.specs.Reads.{stands as Reads·stands};
-ghost use Rattle.scope.specs.Lines.{isDigit, linkIndex, numberAt};
-
-// The byte at an index, 0 past the end.
-fn byte(text: &[u8], i: usize) -> usize
-    ensures { λ r. ⌜ Byte (now (text .entry)) i r ⌝ }
-{
-    if i < text.len() { text[i] as usize } else { 0 }
-}
-
-// A word stands at an index.
-fn stands(text: &[u8], i: usize, word: &[u8]) -> bool
-    requires { ⌜ i + length (now word) < 2 ^ 64 ⌝ }
-    ensures { λ r. ⌜ r ≡ Reads·stands (now (text .entry)) i (now (word .entry)) ⌝ }
-{
-    let mut j = 0;
-    while j < word.len() {
-        if byte(text, i + j) != word[j] as usize {
-            return false;
-        }
-        j += 1;
-    }
-    true
-}
+ghost use mathlib.Core.Bool.{true};
+ghost use Rattle.cut_lines.specs.Reads.{Found, Size, End, Cuts};
+ghost use Rattle.scope.specs.Lines.{isCutLine, isDigit, linkIndex, numberAt, numberSize};
+use text::Number;
+use text::byte;
+use text::number_at;
+use text::stands;
 
 fn is_digit(b: usize) -> bool
     ensures { λ r. ⌜ r ≡ isDigit b ⌝ }
@@ -37,46 +18,36 @@ fn is_digit(b: usize) -> bool
     48 <= b && b <= 57
 }
 
-// How much a byte is above the digit 0.
-fn digit(b: usize) -> usize
-    ensures { λ r. ⌜ r ≡ b - 48 ⌝ }
+// The number at an index and the index behind it: a number of at most 63 without needless zeros. What the reader of `text` leaves of a number
+// that is larger, or has a needless zero, is none.
+fn number(text: &[u8], i: usize) -> Number
+    requires { ⌜ i + 2 < 2 ^ 64 ⌝ }
+    ensures { λ r. ⌜ Found (now (text .entry)) i r ⌝ }
 {
-    if 48 <= b { b - 48 } else { 0 }
+    let r = number_at(text, i, 63);
+    if r.next == i + 1 {
+        if is_digit(byte(text, i + 1)) {
+            return Number { value: 0, next: i };
+        }
+        return r;
+    }
+    r
 }
 
-// How many bytes the number at an index has: 1 or 2, or 0 where no number of at most 63 without needless zeros stands there.
+// How many bytes the number at an index has: 1 or 2, or 0 where there is none.
 fn number_size(text: &[u8], i: usize) -> usize
-    requires { ⌜ i + 1 < 2 ^ 64 ⌝ }
+    requires { ⌜ i + 2 < 2 ^ 64 ⌝ }
     ensures { λ r. ⌜ Size (now (text .entry)) i r ⌝ }
 {
-    let a = byte(text, i);
-    let b = byte(text, i + 1);
-    if !is_digit(a) {
-        return 0;
-    }
-    if !is_digit(b) {
-        return 1;
-    }
-    if a == 48 {
-        return 0;
-    }
-    if 63 < digit(a) * 10 + digit(b) {
-        return 0;
-    }
-    2
+    number(text, i).next - i
 }
 
-// What the number at an index says.
-fn number_at(text: &[u8], i: usize) -> u16
-    requires { ⌜ i + 1 < 2 ^ 64 ⌝ }
+// What the number at an index says, if there is one.
+fn value_at(text: &[u8], i: usize) -> u16
+    requires { ⌜ (i + 2 < 2 ^ 64) × (0 < numberSize (now text) i) ⌝ }
     ensures { λ r. ⌜ r ≡ numberAt (now (text .entry)) i ⌝ }
 {
-    let a = digit(byte(text, i));
-    let b = byte(text, i + 1);
-    if is_digit(b) {
-        return (a * 10 + digit(b)) as u16;
-    }
-    a as u16
+    number(text, i).value as u16
 }
 
 // The index after the cut line at an index, or 0 where no such line stands there.
@@ -106,11 +77,11 @@ fn line_end(text: &[u8], i: usize) -> usize
 
 // The link of the cut line at an index.
 fn link_at(text: &[u8], i: usize) -> u16
-    requires { ⌜ i + 10 < 2 ^ 64 ⌝ }
+    requires { ⌜ (i + 10 < 2 ^ 64) × (isCutLine (now text) i ≡ true) ⌝ }
     ensures { λ r. ⌜ r ≡ numberAt (now (text .entry)) (linkIndex (now (text .entry)) i) ⌝ }
 {
     let a = number_size(text, i + 4);
-    number_at(text, i + 4 + a + 1)
+    value_at(text, i + 4 + a + 1)
 }
 
 // The cuts of a text, a pair a line, of as many lines as the buffer has room for pairs: how many numbers were written. A line of
@@ -130,7 +101,7 @@ pub fn cuts(text: &[u8], out: &mut [u16]) -> usize
             out[n] = 0;
             return n + 1;
         }
-        out[n] = number_at(text, i + 4);
+        out[n] = value_at(text, i + 4);
         out[n + 1] = link_at(text, i);
         n += 2;
         i = end;

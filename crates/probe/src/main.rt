@@ -33,12 +33,20 @@ fn flush(out: &[u8], waiting: usize) {
     io::write_all(STDOUT_FILENO, words::part(out, 0, waiting));
 }
 
+// A count that lies within a buffer.
+fn at_most(n: usize, most: usize) -> usize
+    ensures { λ r. ⌜ r ≤ most ⌝ }
+{
+    if n <= most { n } else { most }
+}
+
 // There is no whole line left. What there is goes to the front, and more is read behind it; no answer waits for that.
 fn refill(p: Place, input: &mut [u8], out: &[u8]) -> Place
     ensures { λ r. ⌜ Stands (length (now (input .entry))) r ⌝ }
 {
     flush(out, p.waiting);
-    let left = words::shift(input, p.from, p.to);
+    let moved = words::shift(input, p.from, p.to);
+    let left = at_most(moved, input.len());
     let got = read(&mut input[left..]);
     Place {
         from: 0,
@@ -56,7 +64,7 @@ fn overlong(p: Place, out: &mut [u8]) -> Place
 {
     let mut waiting = p.waiting;
     if !p.skips {
-        waiting = questions::unknown(out, waiting);
+        waiting = words::put(out, waiting, b"?\n");
     }
     Place {
         from: 0,

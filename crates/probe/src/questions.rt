@@ -1,72 +1,23 @@
 // One function for each question. A line that is no question, or one without a function yet, is answered `?`. Every buffer that is
 // lent for an answer is filled before the call, and what is lent has exactly the room that the question names; behind it lies a
-// margin, filled too, that no call may reach.
-ghost use Prim.Native.Nat.{_<_};
+// margin, filled too, that no call may reach. The text of each answer is `probe_lines`'.
+ghost use Prim.Native.Nat.{_≤_, _<_, _^_};
+ghost use mathlib.Core.Path.{_≡_};
+ghost use Rattle.scope.specs.Outcome.{outcomeOf, result};
+ghost use Rattle.probe_lines.specs.Answers.{Near};
+use probe_lines::told;
+use probe_lines::told_bytes;
+use probe_lines::unknown;
 use resist::Ruling;
 use scope::Answer;
-use scope::Refusal;
 use spare::Spare;
-use words::begins;
-use words::put;
-use words::put_number;
-use words::put_numbers;
+use text::stands;
 
 const MARGIN: usize = 16;
 
-pub fn unknown(out: &mut [u8], at: usize) -> usize {
-    put(out, at, b"?\n")
-}
-
-// The end of an answer: whether the lent buffer is as it should be.
-fn end(out: &mut [u8], at: usize, kept: bool) -> usize {
-    if kept {
-        put(out, at, b"\n")
-    } else {
-        put(out, at, b" spoilt\n")
-    }
-}
-
-fn refused(out: &mut [u8], at: usize, r: Refusal) -> usize {
-    let no = put(out, at, b"refused ");
-    let word = put_number(out, no, r.no);
-    let place = put(out, word, b" place ");
-    put_number(out, place, r.place)
-}
-
-// An answer that is one number, with the numbers that it wrote.
-fn told(answer: Answer, written: usize, lent: &[u16], out: &mut [u8], at: usize) -> usize {
-    match answer {
-        Answer::Gives(n) => {
-            let first = put(out, at, b"ok ");
-            let next = put_number(out, first, n);
-            let last = put_numbers(out, next, lent, written);
-            end(out, last, words::kept_16(lent, written))
-        }
-        Answer::Refused(r) => {
-            let last = refused(out, at, r);
-            end(out, last, words::kept_16(lent, 0))
-        }
-    }
-}
-
-// The same with bytes.
-fn told_bytes(answer: Answer, lent: &[u8], out: &mut [u8], at: usize) -> usize {
-    match answer {
-        Answer::Gives(n) => {
-            let first = put(out, at, b"ok ");
-            let next = put_number(out, first, n);
-            let word = put(out, next, b" ");
-            let last = words::put_bytes(out, word, lent, n);
-            end(out, last, words::kept(lent, n))
-        }
-        Answer::Refused(r) => {
-            let last = refused(out, at, r);
-            end(out, last, words::kept(lent, 0))
-        }
-    }
-}
-
-fn count(answer: Answer) -> usize {
+fn count(answer: Answer) -> usize
+    ensures { λ r. ⌜ r ≡ result (outcomeOf answer) ⌝ }
+{
     match answer {
         Answer::Gives(n) => n,
         Answer::Refused(_) => 0,
@@ -74,7 +25,7 @@ fn count(answer: Answer) -> usize {
 }
 
 fn read_file(file: &[u8], room: usize, lent: &mut [u16], out: &mut [u8], at: usize) -> usize
-    requires { ⌜ room < 65536 ⌝ }
+    requires { ⌜ (room < 65536) × (at ≤ 2 ^ 63) ⌝ }
 {
     let all = room + MARGIN;
     if lent.len() < all {
@@ -86,7 +37,9 @@ fn read_file(file: &[u8], room: usize, lent: &mut [u16], out: &mut [u8], at: usi
 }
 
 // `read ROOM HEX`
-fn read(line: &[u8], lent: &mut [u16], file: &mut [u8], out: &mut [u8], at: usize) -> usize {
+fn read(line: &[u8], lent: &mut [u16], file: &mut [u8], out: &mut [u8], at: usize) -> usize
+    requires { ⌜ at ≤ 2 ^ 63 ⌝ }
+{
     let room = words::number(line, 4);
     if room.next == 4 {
         return unknown(out, at);
@@ -101,7 +54,7 @@ fn read(line: &[u8], lent: &mut [u16], file: &mut [u8], out: &mut [u8], at: usiz
 }
 
 fn write_file(row: &[u16], room: usize, lent: &mut [u8], out: &mut [u8], at: usize) -> usize
-    requires { ⌜ room < 65536 ⌝ }
+    requires { ⌜ (room < 65536) × (at ≤ 2 ^ 63) ⌝ }
 {
     let all = room + MARGIN;
     if lent.len() < all {
@@ -113,7 +66,9 @@ fn write_file(row: &[u16], room: usize, lent: &mut [u8], out: &mut [u8], at: usi
 }
 
 // `write ROOM ROW...`
-fn write(line: &[u8], given: &mut [u16], lent: &mut [u8], out: &mut [u8], at: usize) -> usize {
+fn write(line: &[u8], given: &mut [u16], lent: &mut [u8], out: &mut [u8], at: usize) -> usize
+    requires { ⌜ at ≤ 2 ^ 63 ⌝ }
+{
     let n = words::numbers(line, 5, given);
     if n < 1 {
         return unknown(out, at);
@@ -122,19 +77,52 @@ fn write(line: &[u8], given: &mut [u16], lent: &mut [u8], out: &mut [u8], at: us
     write_file(&given[1..n], room, lent, out, at)
 }
 
+// A second path, which has at most 16 links.
+fn second_row(row: &[u16], m: usize, p: usize, out: &mut [u8], at: usize) -> usize
+    requires { ⌜ at ≤ 2 ^ 63 ⌝ }
+{
+    let links = plan::second_path(row, m, p);
+    if 65536 < links.len() {
+        return unknown(out, at);
+    }
+    probe_lines::told_part(links, out, at)
+}
+
 // `second MESSAGE PLACE ROW...`
-fn second(line: &[u8], given: &mut [u16], out: &mut [u8], at: usize) -> usize {
+fn second(line: &[u8], given: &mut [u16], out: &mut [u8], at: usize) -> usize
+    requires { ⌜ at ≤ 2 ^ 63 ⌝ }
+{
     let n = words::numbers(line, 6, given);
     if n < 2 {
         return unknown(out, at);
     }
     let m = view::number(given, 0);
     let p = view::number(given, 1);
-    let part = plan::second_path(&given[2..n], m, p);
-    let first = put(out, at, b"part ");
-    let next = put_number(out, first, part.len());
-    let last = put_numbers(out, next, part, part.len());
-    put(out, last, b"\n")
+    second_row(&given[2..n], m, p, out, at)
+}
+
+// Where in the row the second path's links begin, 0 where there is none, and how many there are.
+fn where_row(row: &[u16], m: usize, p: usize, out: &mut [u8], at: usize) -> usize
+    requires { ⌜ (m < 65536) × (p < 65536) × (at ≤ 2 ^ 63) ⌝ }
+{
+    let n = plan::second_path(row, m, p).len();
+    if n == 0 {
+        return probe_lines::told_place(0, 0, out, at);
+    }
+    probe_lines::told_place(view::place_index(row, m, p) + 4, n, out, at)
+}
+
+// `where MESSAGE PLACE ROW...`
+fn where_second(line: &[u8], given: &mut [u16], out: &mut [u8], at: usize) -> usize
+    requires { ⌜ at ≤ 2 ^ 63 ⌝ }
+{
+    let n = words::numbers(line, 5, given);
+    if n < 2 {
+        return unknown(out, at);
+    }
+    let m = view::number(given, 0);
+    let p = view::number(given, 1);
+    where_row(&given[2..n], m, p, out, at)
 }
 
 // How many numbers the events of a row's cycle are.
@@ -150,7 +138,7 @@ fn replay_row(
     out: &mut [u8],
     at: usize,
 ) -> usize
-    requires { ⌜ room < 65536 ⌝ }
+    requires { ⌜ (room < 65536) × (at ≤ 2 ^ 63) ⌝ }
 {
     let all = room + MARGIN;
     if lent.len() < all {
@@ -162,7 +150,9 @@ fn replay_row(
 }
 
 // The numbers of a replay: ROOM C c... ROW...
-fn replay_given(given: &[u16], lent: &mut [u16], out: &mut [u8], at: usize) -> usize {
+fn replay_given(given: &[u16], lent: &mut [u16], out: &mut [u8], at: usize) -> usize
+    requires { ⌜ at ≤ 2 ^ 63 ⌝ }
+{
     let room = view::number(given, 0);
     let split = view::number(given, 1) + 2;
     let n = given.len();
@@ -173,7 +163,9 @@ fn replay_given(given: &[u16], lent: &mut [u16], out: &mut [u8], at: usize) -> u
 }
 
 // `replay ROOM C c... ROW...`
-fn replay(line: &[u8], given: &mut [u16], lent: &mut [u16], out: &mut [u8], at: usize) -> usize {
+fn replay(line: &[u8], given: &mut [u16], lent: &mut [u16], out: &mut [u8], at: usize) -> usize
+    requires { ⌜ at ≤ 2 ^ 63 ⌝ }
+{
     let n = words::numbers(line, 6, given);
     if n < 2 {
         return unknown(out, at);
@@ -181,22 +173,10 @@ fn replay(line: &[u8], given: &mut [u16], lent: &mut [u16], out: &mut [u8], at: 
     replay_given(&given[0..n], lent, out, at)
 }
 
-fn told_slack(spare: Spare, out: &mut [u8], at: usize) -> usize {
-    match spare {
-        Spare::Slots(slots) => {
-            let first = put(out, at, b"ok ");
-            let last = words::put_signed(out, first, slots);
-            put(out, last, b"\n")
-        }
-        Spare::Refused(r) => {
-            let last = refused(out, at, r);
-            put(out, last, b"\n")
-        }
-    }
-}
-
 // `slack MESSAGE PLACE ROW...`
-fn slack(line: &[u8], given: &mut [u16], out: &mut [u8], at: usize) -> usize {
+fn slack(line: &[u8], given: &mut [u16], out: &mut [u8], at: usize) -> usize
+    requires { ⌜ at ≤ 2 ^ 63 ⌝ }
+{
     let n = words::numbers(line, 5, given);
     if n < 2 {
         return unknown(out, at);
@@ -206,30 +186,24 @@ fn slack(line: &[u8], given: &mut [u16], out: &mut [u8], at: usize) -> usize {
     told_slack(spare::slack(&given[2..n], m, p), out, at)
 }
 
-// A verdict: resistant, or how many pairs with their numbers.
-fn told_ruling(ruling: Ruling, lent: &[u16], out: &mut [u8], at: usize) -> usize {
-    match ruling {
-        Ruling::Resistant => {
-            let last = put(out, at, b"ok resistant");
-            end(out, last, words::kept_16(lent, 0))
-        }
-        Ruling::Failing(pairs) => {
-            let first = put(out, at, b"ok failing ");
-            let next = put_number(out, first, pairs);
-            let written = numbers_of(pairs);
-            let last = put_numbers(out, next, lent, written);
-            end(out, last, words::kept_16(lent, written))
-        }
-        Ruling::Refused(r) => {
-            let last = refused(out, at, r);
-            end(out, last, words::kept_16(lent, 0))
-        }
+fn told_slack(spare: Spare, out: &mut [u8], at: usize) -> usize
+    requires { ⌜ at ≤ 2 ^ 63 ⌝ }
+{
+    match spare {
+        Spare::Slots(slots) => probe_lines::told_slack(slots, out, at),
+        Spare::Refused(r) => probe_lines::told_refusal(r.no, r.place, out, at),
     }
 }
 
-// How many numbers so many pairs are; no list has more than three.
-fn numbers_of(pairs: usize) -> usize {
-    if pairs < 4 { 2 * pairs } else { 0 }
+// A verdict: resistant, or how many pairs with their numbers.
+fn told_ruling(ruling: Ruling, lent: &[u16], out: &mut [u8], at: usize) -> usize
+    requires { ⌜ Near at (now lent) ⌝ }
+{
+    match ruling {
+        Ruling::Resistant => probe_lines::told_resistant(lent, out, at),
+        Ruling::Failing(pairs) => probe_lines::told_failing(pairs, lent, out, at),
+        Ruling::Refused(r) => told(Answer::Refused(r), 0, lent, out, at),
+    }
 }
 
 fn verdict_row(
@@ -241,7 +215,7 @@ fn verdict_row(
     out: &mut [u8],
     at: usize,
 ) -> usize
-    requires { ⌜ room < 65536 ⌝ }
+    requires { ⌜ (room < 65536) × (at ≤ 2 ^ 63) ⌝ }
 {
     let all = room + MARGIN;
     if lent.len() < all {
@@ -253,7 +227,9 @@ fn verdict_row(
 }
 
 // `verdict K L ROOM ROW...`
-fn verdict(line: &[u8], given: &mut [u16], lent: &mut [u16], out: &mut [u8], at: usize) -> usize {
+fn verdict(line: &[u8], given: &mut [u16], lent: &mut [u16], out: &mut [u8], at: usize) -> usize
+    requires { ⌜ at ≤ 2 ^ 63 ⌝ }
+{
     let n = words::numbers(line, 7, given);
     if n < 3 {
         return unknown(out, at);
@@ -264,6 +240,91 @@ fn verdict(line: &[u8], given: &mut [u16], lent: &mut [u16], out: &mut [u8], at:
     verdict_row(&given[3..n], k, l, room, lent, out, at)
 }
 
+fn spoil_number(lent: &mut [u16], index: usize) {
+    if index < lent.len() {
+        lent[index] = 0;
+    }
+}
+
+fn spoil_byte(lent: &mut [u8], index: usize) {
+    if index < lent.len() {
+        lent[index] = 0;
+    }
+}
+
+// A lent row that a call is taken to have left alone, but for the number at an index.
+fn spoil_row(index: usize, lent: &mut [u16], out: &mut [u8], at: usize) -> usize
+    requires { ⌜ at ≤ 2 ^ 63 ⌝ }
+{
+    if lent.len() < MARGIN {
+        return unknown(out, at);
+    }
+    words::fill_16(&mut lent[0..MARGIN]);
+    spoil_number(&mut lent[0..MARGIN], index);
+    told(Answer::Gives(0), 0, &lent[0..MARGIN], out, at)
+}
+
+// The same with bytes.
+fn spoil_bytes(index: usize, lent: &mut [u8], out: &mut [u8], at: usize) -> usize
+    requires { ⌜ at ≤ 2 ^ 63 ⌝ }
+{
+    if lent.len() < MARGIN {
+        return unknown(out, at);
+    }
+    words::fill(&mut lent[0..MARGIN]);
+    spoil_byte(&mut lent[0..MARGIN], index);
+    told_bytes(Answer::Gives(0), &lent[0..MARGIN], out, at)
+}
+
+// `spoil BITS INDEX`, which shows that a spoilt buffer is told: 16 for a row, and else bytes.
+fn spoil(
+    line: &[u8],
+    given: &mut [u16],
+    lent: &mut [u16],
+    file: &mut [u8],
+    out: &mut [u8],
+    at: usize,
+) -> usize
+    requires { ⌜ at ≤ 2 ^ 63 ⌝ }
+{
+    let n = words::numbers(line, 5, given);
+    if n != 2 {
+        return unknown(out, at);
+    }
+    let bits = view::number(given, 0);
+    let index = view::number(given, 1);
+    if bits == 16 {
+        return spoil_row(index, lent, out, at);
+    }
+    spoil_bytes(index, file, out, at)
+}
+
+// The questions that lend nothing, and the one that spoils.
+fn others(
+    line: &[u8],
+    given: &mut [u16],
+    lent: &mut [u16],
+    file: &mut [u8],
+    out: &mut [u8],
+    at: usize,
+) -> usize
+    requires { ⌜ at ≤ 2 ^ 63 ⌝ }
+{
+    if stands(line, 0, b"slack") {
+        return slack(line, given, out, at);
+    }
+    if stands(line, 0, b"second") {
+        return second(line, given, out, at);
+    }
+    if stands(line, 0, b"where") {
+        return where_second(line, given, out, at);
+    }
+    if stands(line, 0, b"spoil") {
+        return spoil(line, given, lent, file, out, at);
+    }
+    unknown(out, at)
+}
+
 pub fn answer(
     line: &[u8],
     given: &mut [u16],
@@ -271,24 +332,20 @@ pub fn answer(
     file: &mut [u8],
     out: &mut [u8],
     at: usize,
-) -> usize {
-    if begins(line, b"read") {
+) -> usize
+    requires { ⌜ at ≤ 2 ^ 63 ⌝ }
+{
+    if stands(line, 0, b"read") {
         return read(line, lent, file, out, at);
     }
-    if begins(line, b"write") {
+    if stands(line, 0, b"write") {
         return write(line, given, file, out, at);
     }
-    if begins(line, b"replay") {
+    if stands(line, 0, b"replay") {
         return replay(line, given, lent, out, at);
     }
-    if begins(line, b"verdict") {
+    if stands(line, 0, b"verdict") {
         return verdict(line, given, lent, out, at);
     }
-    if begins(line, b"slack") {
-        return slack(line, given, out, at);
-    }
-    if begins(line, b"second") {
-        return second(line, given, out, at);
-    }
-    unknown(out, at)
+    others(line, given, lent, file, out, at)
 }

@@ -1,20 +1,18 @@
 -- What holds of a row as text: what is printed of a row says the row, it has room in `ROOM` bytes, and a call allows one outcome.
-use Prim.Native.Nat.{ℕ, zero, suc, _+_, _-_, _*_, _/_, _%_, _^_, _≤_, _<_}
+use Prim.Native.Nat.{ℕ, suc, _*_, _≤_, _<_}
 use mathlib.Core.Path.{_≡_, refl, sym, _∙_, ap}
-use mathlib.Core.Bool.{Bool, true, false}
+use mathlib.Core.Bool.{true, false}
 use mathlib.Core.List.{List, [], _∷_, _++_, append-assoc}
 use native.Mathlib.Omega.{arith}
-use native.Mathlib.Nat.{pow-suc}
 use lib.ListN.{length, getD, length-append}
-use lib.Dec.{ltb}
-use borrow.Author.Tests.{lt-ltb, le-leb, ltb-true, ltb-false}
 use Rattle.scope.specs.declared.Answer.{Answer}
 use Rattle.scope.specs.Outcome.{Outcome, gives, refused}
 use Rattle.scope.specs.File.{rowOf}
 use Rattle.scope.specs.Questions.{readFile}
 use Rattle.scope.specs.Limits.{longestRow}
 use Rattle.scope.specs.Lines.{decimal, refusedLine}
-use Rattle.text.proofs.Decimal.{decimal-small, decimal-large, decimal-most}
+use Rattle.text.proofs.Decimal.{decimal-most}
+use Rattle.text.proofs.Read.{number-along}
 use Rattle.listing.proofs.Lines.{refused-size}
 use Rattle.listing.specs.Prints.{Prints}
 use Rattle.listing.proofs.Printing.{prints-only}
@@ -24,45 +22,16 @@ use Rattle.plan.proofs.Reading.{read-room, read-judged}
 use Rattle.plan.proofs.Theorems.{one-writing}
 use Rattle.plan.proofs.Ways.{good-row}
 use Rattle.row_text.specs.Rows.{mark, rowLine, rowText, numbersFrom, numbersOf}
+use Rattle.row_text.proofs.Words.{from-digit}
 use Rattle.row_text.proofs.Ways.{text-refused, text-given}
 
 -- every number of a row has 16 bits
 abbrev pub Small : List ℕ → Type 0
 Small row = (i : ℕ) → getD row i 0 < 65536
 
--- a digit is read as the first of a number, or after others
-digit-first : (n : ℕ) (s : List ℕ) → n < 10 → numbersFrom false 0 ((48 + n) ∷ s) ≡ numbersFrom true n s
-unfolding numbersFrom
-digit-first n s h =
-    let e : 0 * 10 + (48 + n - 48) ≡ n = omega arith in
-    rw (le-leb 48 (48 + n) (omega arith), le-leb (48 + n) 57 (omega arith), e, le-leb n 65535 (omega arith))
-
-digit-more : (a d : ℕ) (s : List ℕ) → 0 < a → d < 10 → a * 10 + d ≤ 65535 → numbersFrom true a ((48 + d) ∷ s) ≡ numbersFrom true (a * 10 + d) s
-unfolding numbersFrom
-digit-more a d s p h l =
-    let e : 48 + d - 48 ≡ d = omega arith in
-    rw (le-leb 48 (48 + d) (omega arith), le-leb (48 + d) 57 (omega arith), e, lt-ltb 0 a p, le-leb (a * 10 + d) 65535 l)
-
 -- a number of 16 bits in decimal is read as that number
-number-read : (k n : ℕ) (s : List ℕ) → n < 10 ^ suc k → n < 65536 → numbersFrom false 0 (decimal n ++ s) ≡ numbersFrom true n s
-number-read zero n s h l = ap (λ (t : List ℕ). numbersFrom false 0 (t ++ s)) (decimal-small n h) ∙ digit-first n s h
-number-read (suc k) n s h l = by (ltb n 10) refl (number-read k (n / 10) ((48 + n % 10) ∷ s))
-  where
-    by : (t : Bool) → ltb n 10 ≡ t →
-        (n / 10 < 10 ^ suc k → n / 10 < 65536 → numbersFrom false 0 (decimal (n / 10) ++ ((48 + n % 10) ∷ s)) ≡ numbersFrom true (n / 10) ((48 + n % 10) ∷ s)) →
-        numbersFrom false 0 (decimal n ++ s) ≡ numbersFrom true n s
-    by true e more =
-        let small = ltb-true n 10 e in
-        ap (λ (t : List ℕ). numbersFrom false 0 (t ++ s)) (decimal-small n small) ∙ digit-first n s small
-    by false e more =
-        let large = ltb-false n 10 e in
-        let p : 10 ^ suc (suc k) ≡ 10 ^ suc k * 10 = pow-suc 10 (suc k) in
-        let whole : n / 10 * 10 + n % 10 ≡ n = omega arith in
-        ap (λ (t : List ℕ). numbersFrom false 0 (t ++ s)) (decimal-large n large (omega arith))
-        ∙ ap (numbersFrom false 0) (append-assoc (decimal (n / 10)) ((48 + n % 10) ∷ []) s)
-        ∙ more (omega arith) (omega arith)
-        ∙ digit-more (n / 10) (n % 10) s (omega arith) (omega arith) (omega arith)
-        ∙ ap (λ (x : ℕ). numbersFrom true x s) whole
+number-read : (n : ℕ) (s : List ℕ) → n < 65536 → numbersFrom false 0 (decimal n ++ s) ≡ numbersFrom true n s
+number-read n s l = number-along 65535 numbersFrom from-digit n s (omega arith) (omega arith)
 
 mark-read : (n : ℕ) (row s : List ℕ) → numbersFrom true n (mark row ∷ s) ≡ n ∷ numbersFrom false 0 s
 unfolding numbersFrom
@@ -75,7 +44,7 @@ unfolding numbersFrom rowLine
 row-back [] small = refl
 row-back (n ∷ row) small =
     ap (numbersFrom false 0) (append-assoc (decimal n) (mark row ∷ []) (rowLine row))
-    ∙ number-read 4 n (mark row ∷ rowLine row) (let l = small 0 in omega arith) (small 0)
+    ∙ number-read n (mark row ∷ rowLine row) (small 0)
     ∙ mark-read n row (rowLine row)
     ∙ ap (λ (t : List ℕ). n ∷ t) (row-back row (λ i. small (suc i)))
 

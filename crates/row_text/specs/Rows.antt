@@ -1,13 +1,14 @@
 -- A row as a line of decimals, and the row that a text says: what the programs `row` and `pack` print and read.
 use Prim.Native.Nat.{ℕ, _+_, _-_, _*_}
-use mathlib.Core.Bool.{Bool, true, false, not, cond, _&&_, _||_}
+use mathlib.Core.Bool.{Bool, true, false, cond, _&&_, _||_}
 use mathlib.Core.List.{List, [], _∷_, _++_}
-use lib.Dec.{ltb, leb, eqb}
+use lib.Dec.{eqb}
 use Rattle.scope.specs.Outcome.{Outcome, gives, refused}
 use Rattle.scope.specs.File.{rowOf}
 use Rattle.scope.specs.Questions.{readFile}
 use Rattle.scope.specs.Limits.{longestRow}
-use Rattle.scope.specs.Lines.{decimal, isDigit, refusedLine}
+use Rattle.scope.specs.Lines.{decimal, refusedLine}
+use Rattle.text.specs.Reading.{goesOn}
 
 -- the byte after a number of a row: a space, or a line feed after the last
 abbrev pub mark : List ℕ → ℕ
@@ -27,11 +28,8 @@ rowText file = said (readFile file longestRow)
     said (refused r) = refusedLine r
     said (gives n) = rowLine (rowOf file)
 
--- A text is read byte by byte. `begun` says that a number has begun, and a is what its digits say so far.
-
--- a digit goes on with it: the number has no needless zero, and 16 bits
-abbrev pub goesOn : Bool → ℕ → ℕ → Bool
-goesOn begun a b = isDigit b && ((not begun || ltb 0 a) && leb (a * 10 + (b - 48)) 65535)
+-- A text is read byte by byte. `begun` says that a number has begun, and a is what its digits say so far; a digit goes on with it as long as
+-- it has no needless zero, and 16 bits (`goesOn` of `text`).
 
 -- a space or a line feed ends it
 abbrev pub ends : Bool → ℕ → Bool
@@ -46,7 +44,7 @@ noNumber = 65535
 unfoldable pub numbersFrom : Bool → ℕ → List ℕ → List ℕ
 numbersFrom begun a [] = cond begun (a ∷ []) []
 numbersFrom begun a (b ∷ text) =
-    cond (goesOn begun a b) (numbersFrom true (a * 10 + (b - 48)) text)
+    cond (goesOn 65535 begun a b) (numbersFrom true (a * 10 + (b - 48)) text)
     (cond (ends begun b) (a ∷ numbersFrom false 0 text) (noNumber ∷ []))
 
 -- the row that a text says

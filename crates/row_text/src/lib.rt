@@ -1,16 +1,19 @@
 // A plan's row as text: a plan file as a line of decimals, and such a text as a plan file. Each function takes anything and refuses by
 // document 01's numbers. It leans on `plan` for both forms of a plan, and on `text` and `listing` for what is printed.
 ghost use mathlib.Core.Path.{_≡_};
-ghost use Prim.Native.Nat.{_+_, _≤_, _<_, _^_};
+ghost use Prim.Native.Nat.{_+_, _<_, _^_};
 ghost use lib.ListN.{length, drop};
+ghost use mathlib.Core.Bool.{true};
 ghost use mathlib.Core.List.{[], _∷_};
 ghost use Rattle.text.specs.Text.{Puts, Told};
 ghost use Rattle.listing.specs.Prints.{Prints};
 ghost use Rattle.plan.specs.Answers.{Writes};
-ghost use Rattle.row_text.specs.Rows.{mark, rowLine, numbersOf, goesOn};
+ghost use Rattle.row_text.specs.Rows.{mark, rowLine, numbersOf};
 ghost use Rattle.row_text.specs.Rows.{ends as Rows·ends, rowText as Rows·rowText};
 use scope::Answer;
 use scope::refuse;
+use text::byte;
+use text::number_at;
 use text::put_number;
 use view::number;
 
@@ -81,28 +84,11 @@ pub fn row_text(file: &[u8], out: &mut [u8]) -> Answer
     }
 }
 
-// A digit goes on with a number.
-fn goes_on(begun: bool, a: usize, b: usize) -> bool
-    requires { ⌜ (a ≤ 65535) × (b < 256) ⌝ }
-    ensures { λ r. ⌜ r ≡ goesOn begun a b ⌝ }
-{
-    if b < 48 {
-        return false;
-    }
-    if 57 < b {
-        return false;
-    }
-    if begun {
-        return 0 < a && a * 10 + (b - 48) <= 65535;
-    }
-    a * 10 + (b - 48) <= 65535
-}
-
 // A space or a line feed ends a number.
-fn ends(begun: bool, b: usize) -> bool
-    ensures { λ r. ⌜ r ≡ Rows·ends begun b ⌝ }
+fn ends(b: usize) -> bool
+    ensures { λ r. ⌜ r ≡ Rows·ends true b ⌝ }
 {
-    begun && (b == 32 || b == 10)
+    b == 32 || b == 10
 }
 
 // One number, if the buffer goes so far, and the index after it.
@@ -121,29 +107,22 @@ fn put(out: &mut [u16], at: usize, n: u16) -> usize
 fn numbers(text: &[u8], out: &mut [u16]) -> usize
     ensures { λ r. ⌜ Puts (numbersOf (now (text .entry))) (now (out .entry)) (now (out .exit)) 0 r ⌝ }
 {
-    let mut begun = false;
-    let mut a = 0;
     let mut n = 0;
     let mut i = 0;
     while i < text.len() {
-        let b = text[i] as usize;
-        if goes_on(begun, a, b) {
-            a = a * 10 + (b - 48);
-            begun = true;
-            i += 1;
-            continue;
+        let word = number_at(text, i, 65535);
+        let next = word.next;
+        if next == i {
+            return put(out, n, NO_NUMBER);
         }
-        if ends(begun, b) {
-            n = put(out, n, a as u16);
-            a = 0;
-            begun = false;
-            i += 1;
-            continue;
+        if text.len() <= next {
+            return put(out, n, word.value as u16);
         }
-        return put(out, n, NO_NUMBER);
-    }
-    if begun {
-        return put(out, n, a as u16);
+        if !ends(byte(text, next)) {
+            return put(out, n, NO_NUMBER);
+        }
+        n = put(out, n, word.value as u16);
+        i = next + 1;
     }
     n
 }

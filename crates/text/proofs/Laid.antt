@@ -43,6 +43,10 @@ pub laid-one : (b : List ℕ) (i x : ℕ) → laid b i (x ∷ []) ≡ set b i x
 unfolding laid
 laid-one b i x = refl
 
+-- so it is laid by a store
+pub puts-one : (b : List ℕ) (n x : ℕ) → Puts (x ∷ []) b (set b n x) n (n + 1)
+puts-one b n x = record { buffer = sym (laid-one b n x); ends = refl }
+
 pub laid-cons : (b : List ℕ) (i x : ℕ) (s : List ℕ) → laid b i (x ∷ s) ≡ laid (set b i x) (i + 1) s
 unfolding laid
 laid-cons b i x s = refl

@@ -1,2 +1,5 @@
 pub mod Laid
 pub mod Decimal
+pub mod Word
+pub mod Going
+pub mod Read

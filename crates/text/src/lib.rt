@@ -1,8 +1,14 @@
-// Text into lent bytes: a byte, a word and a number in decimal, from an index on. Each function lays its text over the buffer as
-// far as the buffer goes and gives the index after the text, so a caller learns how many bytes a text has even where there is no
-// room for it. Each asks that this index can be told in 64 bits (`Told`). It leans on `decimal` of document 01 (specs/Lines of `scope`) alone.
+// Text into lent bytes and out of them. What writes, a byte, a word and a number in decimal, lays its text over the buffer from an index
+// on, as far as the buffer goes, and gives the index after the text, so a caller learns how many bytes a text has even where there is no
+// room for it; each asks that this index can be told in 64 bits (`Told`). What reads finds a byte, a word and a number in decimal at an
+// index. That a number printed is read back, and that what is read was printed so, is in proofs/Read. It leans on specs/Lines of `scope`.
+ghost use mathlib.Core.Path.{_≡_};
+ghost use Prim.Native.Nat.{_+_, _≤_, _<_, _^_};
+ghost use lib.ListN.{length};
 ghost use mathlib.Core.List.{[], _∷_, _++_};
 ghost use Rattle.text.specs.Text.{Puts, Told};
+ghost use Rattle.text.specs.Reading.{Byte, goesOn, Reads};
+ghost use Rattle.text.specs.Reading.{stands as Reading·stands};
 ghost use Rattle.scope.specs.Lines.{decimal};
 
 // One byte.
@@ -50,4 +56,68 @@ pub fn put_number(out: &mut [u8], at: usize, n: usize, mark: u8) -> usize
 {
     let next = put_decimal(out, at, n);
     put_byte(out, next, mark)
+}
+
+// The byte at an index, 0 past the end.
+pub fn byte(text: &[u8], i: usize) -> usize
+    ensures { λ r. ⌜ Byte (now (text .entry)) i r ⌝ }
+{
+    if i < text.len() { text[i] as usize } else { 0 }
+}
+
+// A word stands at an index.
+pub fn stands(text: &[u8], i: usize, word: &[u8]) -> bool
+    requires { ⌜ i + length (now word) < 2 ^ 64 ⌝ }
+    ensures { λ r. ⌜ r ≡ Reading·stands (now (text .entry)) i (now (word .entry)) ⌝ }
+{
+    let mut j = 0;
+    while j < word.len() {
+        if byte(text, i + j) != word[j] as usize {
+            return false;
+        }
+        j += 1;
+    }
+    true
+}
+
+// A number that was read, and the index behind it.
+pub struct Number {
+    pub value: usize,
+    pub next: usize,
+}
+
+// A digit goes on with a number.
+fn goes_on(most: usize, begun: bool, a: usize, b: usize) -> bool
+    requires { ⌜ (a ≤ 65535) × (b < 256) ⌝ }
+    ensures { λ r. ⌜ r ≡ goesOn most begun a b ⌝ }
+{
+    if b < 48 {
+        return false;
+    }
+    if 57 < b {
+        return false;
+    }
+    if begun {
+        return 0 < a && a * 10 + (b - 48) <= most;
+    }
+    a * 10 + (b - 48) <= most
+}
+
+// The number at an index, in decimal without needless zeros and at most so much: as many digits as go on with it. Where there is none,
+// the index behind it is that index.
+pub fn number_at(text: &[u8], at: usize, most: usize) -> Number
+    requires { ⌜ most ≤ 65535 ⌝ }
+    ensures { λ r. ⌜ Reads most (now (text .entry)) at r ⌝ }
+{
+    let mut value = 0;
+    let mut next = at;
+    while next < text.len() {
+        let b = byte(text, next);
+        if !goes_on(most, at < next, value, b) {
+            return Number { value, next };
+        }
+        value = value * 10 + (b - 48);
+        next += 1;
+    }
+    Number { value, next }
 }

@@ -22,7 +22,7 @@ pub fn resistant_line(out: &mut [u8], at: usize, k: usize, l: usize) -> usize
 }
 
 // Numbers, each after a space.
-fn spaced(out: &mut [u8], at: usize, cuts: &[u16]) -> usize
+pub fn spaced(out: &mut [u8], at: usize, cuts: &[u16]) -> usize
     requires { ⌜ Told at (Lines·spaced (now cuts)) ⌝ }
     ensures { λ r. ⌜ Puts (Lines·spaced (now (cuts .entry))) (now (out .entry)) (now (out .exit)) at r ⌝ }
 {

@@ -5,9 +5,9 @@ use mathlib.Core.Path.{_≡_}
 use native.Mathlib.Omega.{arith}
 use lib.ListN.{length, length-set}
 use Rattle.scope.specs.Lines.{cutsFrom}
-use Rattle.text.proofs.Laid.{Left, left-first, left-is, left-more, left-done}
-use Rattle.cut_lines.proofs.Forms.{end-none, end-line, end-is}
-use Rattle.cut_lines.proofs.Lines.{cuts-none, cuts-end, line-more, line-bad, puts-one, puts-two, cuts-done}
+use Rattle.text.proofs.Laid.{Left, left-first, left-is, left-more, left-done, puts-one}
+use Rattle.cut_lines.proofs.Forms.{end-none, end-line, end-is, slot-some}
+use Rattle.cut_lines.proofs.Lines.{cuts-none, cuts-end, line-more, line-bad, puts-two, cuts-done}
 use Rattle.cut_lines.proofs.cuts.Statement.{statement}
 use Rattle.cut_lines.proofs.cuts.Tie as tie
 
@@ -49,11 +49,15 @@ returns-2 c =
     cuts-done
     (left-done (left-more (left-is (line-bad (c .before .before .before .before .before .before .before .args .text .now) (l .lines) (l .i) (c .before .before .before .loop-test .taken) (c .before .before .if1 .left) bad) (l .inv .2)) (puts-one _ _ 0)))
 
-add-number-at : tie.Need-add-number-at Inv-loop μ-loop
-add-number-at c = search needs
+add-value-at : tie.Need-add-value-at Inv-loop μ-loop
+add-value-at c = search needs
 
-number-at-requires : tie.Need-number-at-requires Inv-loop μ-loop
-number-at-requires c κs = search needs
+value-at-requires : tie.Need-value-at-requires Inv-loop μ-loop
+value-at-requires c κs =
+    let e = c .before .line-end in
+    let text = c .before .before .before .before .before .before .before .args .text .now in
+    let i = c .before .before .before .before .loop .i in
+    (search needs, slot-some text i (end-line text i (e .result) (e .ensures .is) (c .if2 .left)))
 
 mul-out-2 : tie.Need-mul-out-2 Inv-loop μ-loop
 mul-out-2 c = search needs
@@ -62,7 +66,11 @@ slice-write-out-2 : tie.Need-slice-write-out-2 Inv-loop μ-loop
 slice-write-out-2 c = search needs
 
 link-at-requires : tie.Need-link-at-requires Inv-loop μ-loop
-link-at-requires c κs = search needs
+link-at-requires c κs =
+    let e = c .before .before .line-end in
+    let text = c .before .before .before .before .before .before .before .before .args .text .now in
+    let i = c .before .before .before .before .before .loop .i in
+    (search needs, end-line text i (e .result) (e .ensures .is) (c .before .if2 .left))
 
 add-out : tie.Need-add-out Inv-loop μ-loop
 add-out c = search needs
@@ -90,8 +98,8 @@ loop-again c =
     let n = c .before .before .if2 .left in
     let line = end-line text (l .i) (e .result) (e .ensures .is) n in
     let more =
-    line-more text (l .lines) (l .i) (e .result) (c .before .number-at .result) (c .link-at .result) (c .before .before .before .before .before .loop-test .taken) (c .before .before .before .before .if1 .left) line (end-is text (l .i) (e .result) (e .ensures .is) n)
-    (c .before .number-at .ensures) (c .link-at .ensures)
+    line-more text (l .lines) (l .i) (e .result) (c .before .value-at .result) (c .link-at .result) (c .before .before .before .before .before .loop-test .taken) (c .before .before .before .before .if1 .left) line (end-is text (l .i) (e .result) (e .ensures .is) n)
+    (c .before .value-at .ensures) (c .link-at .ensures)
     in (
       omega arith,
       simp length-set (l .inv .1),
@@ -121,8 +129,8 @@ cuts-spec =
     add-result
     same-length-2
     returns-2
-    add-number-at
-    number-at-requires
+    add-value-at
+    value-at-requires
     mul-out-2
     slice-write-out-2
     link-at-requires

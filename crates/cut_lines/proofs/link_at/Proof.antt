@@ -3,6 +3,7 @@ use Prim.Native.Nat.{ℕ, _+_}
 use mathlib.Core.Path.{_∙_, ap}
 use borrow.Author.Needs.{needs}
 use Rattle.scope.specs.Lines.{numberAt}
+use Rattle.cut_lines.proofs.Forms.{link-some}
 use Rattle.cut_lines.proofs.link_at.Statement.{statement}
 use Rattle.cut_lines.proofs.link_at.Tie as tie
 
@@ -12,22 +13,24 @@ add-number-size c = search needs
 number-size-requires : tie.Need-number-size-requires
 number-size-requires c κs = search needs
 
-add-number-at : tie.Need-add-number-at
-add-number-at c = search needs
+add-value-at : tie.Need-add-value-at
+add-value-at c = search needs
 
-add-number-at-2 : tie.Need-add-number-at-2
-add-number-at-2 c = search needs
+add-value-at-2 : tie.Need-add-value-at-2
+add-value-at-2 c = search needs
 
-add-number-at-3 : tie.Need-add-number-at-3
-add-number-at-3 c = search needs
+add-value-at-3 : tie.Need-add-value-at-3
+add-value-at-3 c = search needs
 
-number-at-requires : tie.Need-number-at-requires
-number-at-requires c κs = search needs
+value-at-requires : tie.Need-value-at-requires
+value-at-requires c κs =
+    let a = c .before .before .args in
+    (search needs, link-some (a .text .now) (a .i) (c .before .before .pre .1) _ (c .number-size .ensures .is))
 
 returns : tie.Need-returns
 returns c =
     let a = c .before .before .before .args in
-    c .number-at .ensures ∙ ap (λ (k : ℕ). numberAt (a .text .now) (a .i + 4 + k + 1)) (c .before .number-size .ensures .is)
+    c .value-at .ensures ∙ ap (λ (k : ℕ). numberAt (a .text .now) (a .i + 4 + k + 1)) (c .before .number-size .ensures .is)
 
 pub link-at-spec : {M : Type 1} → statement M
 link-at-spec =
@@ -35,8 +38,8 @@ link-at-spec =
     (tie.spec
     add-number-size
     number-size-requires
-    add-number-at
-    add-number-at-2
-    add-number-at-3
-    number-at-requires
+    add-value-at
+    add-value-at-2
+    add-value-at-3
+    value-at-requires
     returns)

@@ -5,13 +5,10 @@ use Rattle.row_text.proofs.ends.Statement.{statement}
 use Rattle.row_text.proofs.ends.Tie as tie
 
 returns : tie.Need-returns
-returns c = rw (c .before .if1 .taken, eq-eqb (c .before .before .args .b) 32 (c .if2 .taken))
+returns c = rw (eq-eqb (c .before .args .b) 32 (c .if1 .taken))
 
 returns-2 : tie.Need-returns-2
-returns-2 c = rw (c .before .if1 .taken, ne-eqb (c .before .before .args .b) 32 (c .if2 .left))
-
-returns-3 : tie.Need-returns-3
-returns-3 c = search needs
+returns-2 c = rw (ne-eqb (c .before .args .b) 32 (c .if1 .left))
 
 pub ends-spec : {M : Type 1} → statement M
-ends-spec = tie.close (tie.spec returns returns-2 returns-3)
+ends-spec = tie.close (tie.spec returns returns-2)

@@ -1,37 +1,31 @@
--- `words::pairs` writes within what is lent.
-use Prim.Native.Nat.{_-_, _≤_}
-use mathlib.Core.Path.{_≡_}
+-- `words::pairs` meets its contract: what the loop has left are those from index i on, for the room that is left.
+use Prim.Native.Nat.{_-_}
+use mathlib.Core.Path.{_≡_, refl}
+use native.Mathlib.Omega.{arith}
 use borrow.Author.Needs.{needs}
-use lib.ListN.{length}
+use lib.ListN.{length, length-set}
+use Rattle.words.specs.Words.{pairValue, pairNext}
+use Rattle.words.proofs.Items.{Listing, listing-first, listing-more, listing-none, listing-full}
 use Rattle.words.proofs.pairs.Statement.{statement}
 use Rattle.words.proofs.pairs.Tie as tie
 
 abbrev Inv-loop : tie.InvT-loop
-Inv-loop digits into₀ n₀ into n = (length into ≡ length into₀) × (n ≤ length into₀)
+Inv-loop word into₀ i₀ n₀ into i n = (length into ≡ length into₀) × Listing (pairValue word) (pairNext word) 0 into₀ into i n
 
 abbrev μ-loop : tie.MeasureT-loop
-μ-loop digits into₀ n₀ into n = length digits - n
+μ-loop word into₀ i₀ n₀ into i n = length into₀ - n
 
 loop-holds : tie.Need-loop-holds Inv-loop μ-loop
-loop-holds c = search needs
-
-mul-pair : tie.Need-mul-pair Inv-loop μ-loop
-mul-pair c = search needs
+loop-holds c = (refl, listing-first _ _ _ _)
 
 pair-requires : tie.Need-pair-requires Inv-loop μ-loop
 pair-requires c κs = search needs
 
 same-length : tie.Need-same-length Inv-loop μ-loop
-same-length c = search needs
+same-length c = c .before .before .before .loop .inv .0
 
 returns : tie.Need-returns Inv-loop μ-loop
-returns c = search needs
-
-same-length-2 : tie.Need-same-length-2 Inv-loop μ-loop
-same-length-2 c = search needs
-
-returns-2 : tie.Need-returns-2 Inv-loop μ-loop
-returns-2 c = search needs
+returns c = listing-none _ _ _ _ _ _ _ (c .before .before .before .loop .inv .1) _ _ _ (c .before .pair .ensures) (c .before .before .loop-test .taken) (c .if1 .taken)
 
 cast-into : tie.Need-cast-into Inv-loop μ-loop
 cast-into c = search needs
@@ -46,13 +40,16 @@ loop-less : tie.Need-loop-less Inv-loop μ-loop
 loop-less c = search needs
 
 loop-again : tie.Need-loop-again Inv-loop μ-loop
-loop-again c = search needs
+loop-again c = (
+  simp length-set (c .before .before .before .before .loop .inv .0),
+  listing-more _ _ _ _ _ _ _ (c .before .before .before .before .loop .inv .1) _ _ _ (c .before .before .pair .ensures) (c .before .before .before .loop-test .taken) (c .before .if1 .left),
+)
 
-same-length-3 : tie.Need-same-length-3 Inv-loop μ-loop
-same-length-3 c = search needs
+same-length-2 : tie.Need-same-length-2 Inv-loop μ-loop
+same-length-2 c = c .before .loop .inv .0
 
-returns-3 : tie.Need-returns-3 Inv-loop μ-loop
-returns-3 c = search needs
+returns-2 : tie.Need-returns-2 Inv-loop μ-loop
+returns-2 c = listing-full _ _ _ _ _ _ _ (c .before .loop .inv .1) _ (c .loop-test .left)
 
 pub pairs-spec : {M : Type 1} → statement M
 pairs-spec =
@@ -61,16 +58,13 @@ pairs-spec =
     Inv-loop
     μ-loop
     loop-holds
-    mul-pair
     pair-requires
     same-length
     returns
-    same-length-2
-    returns-2
     cast-into
     slice-write-into
     add-n
     loop-less
     loop-again
-    same-length-3
-    returns-3)
+    same-length-2
+    returns-2)

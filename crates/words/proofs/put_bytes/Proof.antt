@@ -1,72 +1,46 @@
--- `words::put_bytes` is safe and ends.
-use Prim.Native.Nat.{_-_}
-use mathlib.Core.Path.{_≡_}
+-- `words::put_bytes` meets its contract: as many bytes as there are, if there are fewer.
 use borrow.Author.Needs.{needs}
-use lib.ListN.{length}
+use Rattle.words.proofs.Parts.{least-take, hex-none, hex-some}
 use Rattle.words.proofs.put_bytes.Statement.{statement}
 use Rattle.words.proofs.put_bytes.Tie as tie
 
-abbrev Inv-loop : tie.InvT-loop
-Inv-loop out₀ at bytes n most next₀ i₀ out next i = length out ≡ length out₀
-
-abbrev μ-loop : tie.MeasureT-loop
-μ-loop out₀ at bytes n most next₀ i₀ out next i = most - i
-
-least-requires : tie.Need-least-requires Inv-loop μ-loop
+least-requires : tie.Need-least-requires
 least-requires c κs = search needs
 
-slice-aggregate-put : tie.Need-slice-aggregate-put Inv-loop μ-loop
-slice-aggregate-put c = search needs
+slice-aggregate-put-word : tie.Need-slice-aggregate-put-word
+slice-aggregate-put-word c = search needs
 
-put-requires : tie.Need-put-requires Inv-loop μ-loop
-put-requires c κs = search needs
+put-word-requires : tie.Need-put-word-requires
+put-word-requires c κs = let a = c .before .before .before .before .before .before .args in rw (hex-none (a .n) _ (a .bytes .now) (c .before .before .before .least .ensures) (c .before .before .if1 .taken)) (c .before .before .before .before .before .before .pre)
 
-same-length : tie.Need-same-length Inv-loop μ-loop
+same-length : tie.Need-same-length
 same-length c = search needs
 
-returns : tie.Need-returns Inv-loop μ-loop
-returns c = search needs
+returns : tie.Need-returns
+returns c = let a = c .before .before .before .before .before .before .before .before .before .args in rw (hex-none (a .n) _ (a .bytes .now) (c .before .before .before .before .before .before .least .ensures) (c .before .before .before .before .before .if1 .taken)) at (c .before .before .put-word .ensures)
 
-loop-holds : tie.Need-loop-holds Inv-loop μ-loop
-loop-holds c = search needs
+slice-aggregate-put-pairs : tie.Need-slice-aggregate-put-pairs
+slice-aggregate-put-pairs c = let a = c .before .before .before .before .before .before .args in least-take (a .n) _ (a .bytes .now) (c .before .before .before .least .ensures)
 
-shared-slice-read-put-pair : tie.Need-shared-slice-read-put-pair Inv-loop μ-loop
-shared-slice-read-put-pair c = search needs
+put-pairs-requires : tie.Need-put-pairs-requires
+put-pairs-requires c κs = let a = c .before .before .before .before .before .before .args in rw (hex-some (a .n) _ (a .bytes .now) (c .before .before .before .least .ensures) (c .before .before .if1 .left)) (c .before .before .before .before .before .before .pre)
 
-put-pair-requires : tie.Need-put-pair-requires Inv-loop μ-loop
-put-pair-requires c κs = search needs
-
-add-i : tie.Need-add-i Inv-loop μ-loop
-add-i c = search needs
-
-loop-less : tie.Need-loop-less Inv-loop μ-loop
-loop-less c = search needs
-
-loop-again : tie.Need-loop-again Inv-loop μ-loop
-loop-again c = search needs
-
-same-length-2 : tie.Need-same-length-2 Inv-loop μ-loop
+same-length-2 : tie.Need-same-length-2
 same-length-2 c = search needs
 
-returns-2 : tie.Need-returns-2 Inv-loop μ-loop
-returns-2 c = search needs
+returns-2 : tie.Need-returns-2
+returns-2 c = let a = c .before .before .before .before .before .before .before .before .before .args in rw (hex-some (a .n) _ (a .bytes .now) (c .before .before .before .before .before .before .least .ensures) (c .before .before .before .before .before .if1 .left)) at (c .before .before .put-pairs .ensures)
 
 pub put-bytes-spec : {M : Type 1} → statement M
 put-bytes-spec =
     tie.close
     (tie.spec
-    Inv-loop
-    μ-loop
     least-requires
-    slice-aggregate-put
-    put-requires
+    slice-aggregate-put-word
+    put-word-requires
     same-length
     returns
-    loop-holds
-    shared-slice-read-put-pair
-    put-pair-requires
-    add-i
-    loop-less
-    loop-again
+    slice-aggregate-put-pairs
+    put-pairs-requires
     same-length-2
     returns-2)

@@ -1,0 +1,43 @@
+-- `probe_lines::end` meets its contract: one word for each way.
+use borrow.Author.Needs.{needs}
+use Rattle.text.specs.Text.{Told}
+use Rattle.probe_lines.specs.Answers.{ending}
+use Rattle.probe_lines.proofs.end.Statement.{statement}
+use Rattle.probe_lines.proofs.end.Tie as tie
+
+slice-aggregate-put-word : tie.Need-slice-aggregate-put-word
+slice-aggregate-put-word c = search needs
+
+put-word-requires : tie.Need-put-word-requires
+put-word-requires c κs = let p : Told (c .before .before .before .before .args .at) (ending (c .before .before .before .before .args .kept)) = c .before .before .before .before .pre in rw (c .before .before .if1 .taken) at p
+
+same-length : tie.Need-same-length
+same-length c = search needs
+
+returns : tie.Need-returns
+returns c = rw (c .before .before .before .before .before .if1 .taken) (c .before .before .put-word .ensures)
+
+slice-aggregate-put-word-2 : tie.Need-slice-aggregate-put-word-2
+slice-aggregate-put-word-2 c = search needs
+
+put-word-requires-2 : tie.Need-put-word-requires-2
+put-word-requires-2 c κs = let p : Told (c .before .before .before .before .args .at) (ending (c .before .before .before .before .args .kept)) = c .before .before .before .before .pre in rw (c .before .before .if1 .left) at p
+
+same-length-2 : tie.Need-same-length-2
+same-length-2 c = search needs
+
+returns-2 : tie.Need-returns-2
+returns-2 c = rw (c .before .before .before .before .before .if1 .left) (c .before .before .put-word2 .ensures)
+
+pub end-spec : {M : Type 1} → statement M
+end-spec =
+    tie.close
+    (tie.spec
+    slice-aggregate-put-word
+    put-word-requires
+    same-length
+    returns
+    slice-aggregate-put-word-2
+    put-word-requires-2
+    same-length-2
+    returns-2)

@@ -1,0 +1,24 @@
+-- `probe_lines::numbers_end` meets its contract.
+use borrow.Author.Needs.{needs}
+use Rattle.text.proofs.Laid.{told-first, told-rest, then}
+use Rattle.probe_lines.proofs.numbers_end.Statement.{statement}
+use Rattle.probe_lines.proofs.numbers_end.Tie as tie
+
+put-numbers-requires : tie.Need-put-numbers-requires
+put-numbers-requires c κs = told-first _ _ (c .before .before .before .pre)
+
+kept-16-requires : tie.Need-kept-16-requires
+kept-16-requires c κs = search needs
+
+end-requires : tie.Need-end-requires
+end-requires c κs = rw (c .kept-16 .ensures) (told-rest (c .before .before .before .before .put-numbers .ensures) _ (c .before .before .before .before .before .before .before .before .pre))
+
+same-length : tie.Need-same-length
+same-length c = search needs
+
+returns : tie.Need-returns
+returns c = then (c .before .before .before .before .before .before .before .put-numbers .ensures) (rw (c .before .before .before .kept-16 .ensures) at (c .before .before .end .ensures))
+
+pub numbers-end-spec : {M : Type 1} → statement M
+numbers-end-spec =
+    tie.close (tie.spec put-numbers-requires kept-16-requires end-requires same-length returns)

@@ -1,0 +1,21 @@
+-- `probe_lines::told_refusal` meets its contract.
+use borrow.Author.Needs.{needs}
+use Rattle.text.proofs.Laid.{told-first, told-rest, then}
+use Rattle.probe_lines.proofs.Short.{refusal-told}
+use Rattle.probe_lines.proofs.told_refusal.Statement.{statement}
+use Rattle.probe_lines.proofs.told_refusal.Tie as tie
+
+refused-requires : tie.Need-refused-requires
+refused-requires c κs = told-first _ _ (refusal-told _ (c .before .before .args .no) (c .before .before .args .place) (c .before .before .pre))
+
+put-byte-requires : tie.Need-put-byte-requires
+put-byte-requires c κs = told-rest (c .before .before .before .refused .ensures) _ (refusal-told _ (c .before .before .before .before .before .before .args .no) (c .before .before .before .before .before .before .args .place) (c .before .before .before .before .before .before .pre))
+
+same-length : tie.Need-same-length
+same-length c = search needs
+
+returns : tie.Need-returns
+returns c = then (c .before .before .before .before .before .before .refused .ensures) (c .before .before .put-byte .ensures)
+
+pub told-refusal-spec : {M : Type 1} → statement M
+told-refusal-spec = tie.close (tie.spec refused-requires put-byte-requires same-length returns)

@@ -1,0 +1,35 @@
+-- `probe_lines::told_resistant` meets its contract.
+use borrow.Author.Needs.{needs}
+use Rattle.text.proofs.Laid.{told-rest, then}
+use Rattle.probe_lines.proofs.Short.{resistant-told}
+use Rattle.probe_lines.proofs.told_resistant.Statement.{statement}
+use Rattle.probe_lines.proofs.told_resistant.Tie as tie
+
+slice-aggregate-put-word : tie.Need-slice-aggregate-put-word
+slice-aggregate-put-word c = search needs
+
+put-word-requires : tie.Need-put-word-requires
+put-word-requires c κs = search needs
+
+kept-16-requires : tie.Need-kept-16-requires
+kept-16-requires c κs = search needs
+
+end-requires : tie.Need-end-requires
+end-requires c κs = rw (c .kept-16 .ensures) (told-rest (c .before .before .before .before .put-word .ensures) _ (resistant-told _ (c .before .before .before .before .before .before .before .before .before .args .lent .now) (c .before .before .before .before .before .before .before .before .before .pre)))
+
+same-length : tie.Need-same-length
+same-length c = search needs
+
+returns : tie.Need-returns
+returns c = then (c .before .before .before .before .before .before .before .put-word .ensures) (rw (c .before .before .before .kept-16 .ensures) at (c .before .before .end .ensures))
+
+pub told-resistant-spec : {M : Type 1} → statement M
+told-resistant-spec =
+    tie.close
+    (tie.spec
+    slice-aggregate-put-word
+    put-word-requires
+    kept-16-requires
+    end-requires
+    same-length
+    returns)

@@ -1,0 +1,75 @@
+-- The probe's answers as text: "ok" with numbers or bytes, a refusal, a part of a row, and whether the lent buffer is as it should be.
+use Prim.Native.Nat.{ℕ, _*_, _^_, _≤_}
+use mathlib.Core.Bool.{Bool, true, false, cond}
+use mathlib.Core.List.{List, [], _∷_, _++_}
+use lib.ListN.{length, take, drop}
+use lib.IntN.{ℤ}
+use lib.Dec.{ltb}
+use Rattle.scope.specs.Outcome.{Outcome, gives, refused}
+use Rattle.scope.specs.Lines.{decimal, signed, space, lineFeed, spaced}
+use Rattle.words.specs.Words.{hexWord, filler, filler16, allAre}
+
+-- "A line that is no question is answered `?`"
+abbrev pub unknownLine : List ℕ
+unknownLine = 63 ∷ 10 ∷ []
+
+-- the end of a line; "` spoilt` stands behind an answer if anything outside the written part has changed"
+abbrev pub ending : Bool → List ℕ
+ending true = lineFeed
+ending false = 32 ∷ 115 ∷ 112 ∷ 111 ∷ 105 ∷ 108 ∷ 116 ∷ 10 ∷ []
+
+-- `ok N` and `refused N place P`, without the end of the line
+abbrev pub okText : ℕ → List ℕ
+okText n = (111 ∷ 107 ∷ 32 ∷ []) ++ decimal n
+
+abbrev pub refusedText : ℕ → ℕ → List ℕ
+refusedText k p = (114 ∷ 101 ∷ 102 ∷ 117 ∷ 115 ∷ 101 ∷ 100 ∷ 32 ∷ []) ++ (decimal k ++ ((32 ∷ 112 ∷ 108 ∷ 97 ∷ 99 ∷ 101 ∷ 32 ∷ []) ++ decimal p))
+
+-- so many numbers, or bytes, that were written to the front of a lent buffer, and the end of the line
+abbrev pub numbersEnd : ℕ → List ℕ → List ℕ
+numbersEnd written lent = spaced (take written lent) ++ ending (allAre filler16 (drop written lent))
+
+abbrev pub bytesEnd : ℕ → List ℕ → List ℕ
+bytesEnd written lent = space ++ (hexWord (take written lent) ++ ending (allAre filler (drop written lent)))
+
+-- an outcome with so many numbers that it wrote
+abbrev pub told : Outcome → ℕ → List ℕ → List ℕ
+told (gives n) written lent = okText n ++ numbersEnd written lent
+told (refused k p) written lent = refusedText k p ++ ending (allAre filler16 lent)
+
+-- an outcome with the bytes that it wrote
+abbrev pub toldBytes : Outcome → List ℕ → List ℕ
+toldBytes (gives n) lent = okText n ++ bytesEnd n lent
+toldBytes (refused k p) lent = refusedText k p ++ ending (allAre filler lent)
+
+-- a slack, and a refusal that lent nothing
+abbrev pub slackLine : ℤ → List ℕ
+slackLine z = (111 ∷ 107 ∷ 32 ∷ []) ++ (signed z ++ lineFeed)
+
+abbrev pub refusedLine : ℕ → ℕ → List ℕ
+refusedLine k p = refusedText k p ++ lineFeed
+
+-- how many numbers so many pairs are; no list has more than three
+abbrev pub numbersOf : ℕ → ℕ
+numbersOf pairs = cond (ltb pairs 4) (2 * pairs) 0
+
+-- a verdict: `ok resistant`, or `ok failing` with how many pairs and their numbers
+abbrev pub resistantLine : List ℕ → List ℕ
+resistantLine lent = (111 ∷ 107 ∷ 32 ∷ 114 ∷ 101 ∷ 115 ∷ 105 ∷ 115 ∷ 116 ∷ 97 ∷ 110 ∷ 116 ∷ []) ++ ending (allAre filler16 lent)
+
+abbrev pub failingLine : ℕ → List ℕ → List ℕ
+failingLine n lent =
+    (111 ∷ 107 ∷ 32 ∷ 102 ∷ 97 ∷ 105 ∷ 108 ∷ 105 ∷ 110 ∷ 103 ∷ 32 ∷ []) ++
+    (decimal n ++ numbersEnd (numbersOf n) lent)
+
+-- `part LENGTH LINKS...`, and `at INDEX LENGTH`
+abbrev pub partLine : List ℕ → List ℕ
+partLine links = (112 ∷ 97 ∷ 114 ∷ 116 ∷ 32 ∷ []) ++ (decimal (length links) ++ (spaced links ++ lineFeed))
+
+abbrev pub placeLine : ℕ → ℕ → List ℕ
+placeLine index n = (97 ∷ 116 ∷ 32 ∷ []) ++ ((decimal index ++ space) ++ (decimal n ++ lineFeed))
+
+-- an answer that is laid from here on can be told, with all the numbers of a lent buffer
+pub record Near (at : ℕ) (lent : List ℕ) : Type 0 where
+  pub from : at ≤ 2 ^ 63
+  pub few : length lent ≤ 2 ^ 32

@@ -1,0 +1,4 @@
+pub mod Parts
+pub mod Filling
+pub mod Items
+pub mod Found
