@@ -1,17 +1,19 @@
 -- A text that was first laid over nothing, which tells how long it is, and then, where there is room, over the whole buffer.
 use Prim.Native.Nat.{ℕ, _+_, _≤_, _<_}
-use mathlib.Core.Path.{_≡_, sym, _∙_, ap}
+use mathlib.Core.Path.{_≡_, refl, sym, _∙_, ap}
 use mathlib.Core.List.{List, [], _++_}
 use native.Mathlib.Omega.{arith}
 use lib.ListN.{length}
 use borrow.Author.Tests.{le-leb, lt-leb}
 use Rattle.scope.specs.declared.Answer.{Answer}
 use Rattle.scope.specs.declared.Answer.the-variants.{Gives, Refused}
-use Rattle.scope.specs.Outcome.{Outcome, outcomeOf}
+use Rattle.scope.specs.declared.Refusal.{Refusal}
+use Rattle.scope.specs.Outcome.{Outcome, outcomeOf, gives, refused, andThen, room}
+use Rattle.scope.specs.Lines.{refusedLine}
 use Rattle.scope.specs.Questions.{after}
 use Rattle.text.specs.Text.{Puts, laid}
 use Rattle.text.proofs.Laid.{laid-none, laid-front}
-use Rattle.listing.specs.Prints.{Prints}
+use Rattle.listing.specs.Prints.{Says, Prints, Printed}
 
 module _ {text b : List ℕ} {n : ℕ} (p : Puts text [] b 0 n) where
   -- nothing was written, and n is the text's length
@@ -46,6 +48,45 @@ module _ {text b : List ℕ} {n : ℕ} (p : Puts text [] b 0 n) where
 pub prints-as : {text text′ entry exit : List ℕ} {r : Answer} → text ≡ text′ → Prints text entry exit r → Prints text′ entry exit r
 prints-as e p = rw e at p
 
+-- what may be said, and a text, under other names; what stands before a text has let it through; what stands before it has refused
+pub says-as : {may may′ : Outcome} {text text′ entry exit : List ℕ} {r : Answer} → may ≡ may′ → text ≡ text′ →
+    Says may text entry exit r → Says may′ text′ entry exit r
+says-as d e p = rw (d, e) at p
+
+pub says-given : {may : Outcome} {text entry exit : List ℕ} {r : Answer} (n : ℕ) → may ≡ gives n → Prints text entry exit r → Says may text entry exit r
+says-given {may} {text} {entry} n e p =
+    record { answer = p .answer ∙ sym (ap (λ (o : Outcome). andThen o (λ _. room (length text) (length entry))) e); buffer = p .buffer }
+
+pub says-refused : {may : Outcome} (text entry : List ℕ) (r : Refusal) → may ≡ refused (r .no) (r .place) → Says may text entry entry (Refused r)
+unfolding after
+says-refused text entry r e = record { answer = rw e; buffer = refl }
+
+-- A program that prints what was said, or else the line of the refusal.
+module _ (text entry : List ℕ) (fits : length text ≤ length entry) where
+  has-room : room (length text) (length entry) ≡ gives (length text)
+  has-room = rw (le-leb (length text) (length entry) fits)
+
+  pub printed : {exit : List ℕ} {r : Answer} → Prints text entry exit r → Printed text entry exit r
+  unfolding after
+  printed {exit} {r} p =
+      let e : outcomeOf r ≡ gives (length text) = p .answer ∙ has-room in
+      record { answer = e; buffer = p .buffer ∙ ap (λ (o : Outcome). after o text entry) e }
+
+  pub printed-given : (may : Outcome) (n : ℕ) {exit : List ℕ} → Says may text entry exit (Gives n) → Printed text entry exit (Gives n)
+  printed-given (gives m) n s = printed (record { answer = s .answer; buffer = s .buffer })
+  printed-given (refused k p) n s = absurd (let e : gives n ≡ refused k p = s .answer in let z : _≡_ {A = ℕ} 0 1 = cc in omega arith)
+
+  pub printed-refused : (may : Outcome) → ((k p : ℕ) → may ≡ refused k p → text ≡ refusedLine k p) → (r : Refusal) {exit exit′ : List ℕ} {a : Answer} →
+      Says may text entry exit (Refused r) → Prints (refusedLine (r .no) (r .place)) exit exit′ a → Printed text entry exit′ a
+  unfolding after
+  printed-refused (gives m) line r s p =
+      absurd (let e : refused (r .no) (r .place) ≡ gives (length text) = s .answer ∙ has-room in let z : _≡_ {A = ℕ} 0 1 = cc in omega arith)
+  printed-refused (refused k q) line r {exit} {exit′} {a} s p =
+      let e : refused (r .no) (r .place) ≡ refused k q = s .answer in
+      let is : text ≡ refusedLine (r .no) (r .place) = line (r .no) (r .place) (sym e) in
+      let same : exit ≡ entry = s .buffer in
+      printed (prints-as (sym is) (rw same at p))
+
 -- two outcomes that the statement allows are equal
 same-answer : (r s : Answer) → outcomeOf r ≡ outcomeOf s → r ≡ s
 same-answer (Gives n) (Gives m) e = cc
@@ -56,7 +97,7 @@ same-answer (Refused x) (Refused y) e =
     let q : x .place ≡ y .place = cc in
     λ i. Refused (record { no = p i; place = q i })
 
-pub prints-only : {text entry exit exit′ : List ℕ} {r r′ : Answer} → Prints text entry exit r → Prints text entry exit′ r′ → (r ≡ r′) × (exit ≡ exit′)
-prints-only {text} {entry} {exit} {exit′} {r} {r′} p q =
+pub says-only : {may : Outcome} {text entry exit exit′ : List ℕ} {r r′ : Answer} → Says may text entry exit r → Says may text entry exit′ r′ → (r ≡ r′) × (exit ≡ exit′)
+says-only {may} {text} {entry} {exit} {exit′} {r} {r′} p q =
     let e : outcomeOf r ≡ outcomeOf r′ = p .answer ∙ sym (q .answer) in
     (same-answer r r′ e, p .buffer ∙ ap (λ (o : Outcome). after o text entry) e ∙ sym (q .buffer))

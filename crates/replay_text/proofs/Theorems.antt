@@ -10,7 +10,7 @@ use lib.Seq.{take-all, take-take}
 use lib.Dec.{ltb}
 use borrow.Author.Tests.{ltb-true, ltb-false, le-leb}
 use Rattle.scope.specs.declared.Answer.{Answer}
-use Rattle.scope.specs.Outcome.{Outcome, gives, refused, outcomeOf}
+use Rattle.scope.specs.Outcome.{Outcome, gives, refused, outcomeOf, andThen}
 use Rattle.scope.specs.File.{walkFile, rowOf}
 use Rattle.scope.specs.Plan.{planOf}
 use Rattle.scope.specs.Cycle.{eventRow}
@@ -24,10 +24,10 @@ use Rattle.plan.proofs.Ways.{good-row}
 use Rattle.plan.proofs.Reading.{read-judged}
 use Rattle.text.proofs.Decimal.{decimal-all}
 use Rattle.listing.proofs.Room.{listing-room}
-use Rattle.listing.specs.Prints.{Prints}
-use Rattle.listing.proofs.Printing.{prints-only}
+use Rattle.listing.specs.Prints.{Says, Front}
+use Rattle.listing.proofs.Printing.{says-only}
 use Rattle.cut_lines.proofs.Replay.{replay-enough}
-use Rattle.replay_text.specs.Text.{textOf}
+use Rattle.replay_text.specs.Text.{textOf, mayList}
 use Rattle.replay_text.proofs.Text.{text-refused, text-given}
 use Rattle.replay_text.proofs.Low.{event-numbers}
 
@@ -94,13 +94,21 @@ text-room file input = by (readFile file longestRow) refl
         let r = listing-room (replay row cuts longestEvents) (planOf row) (eventRow (planOf row) cuts) (omega arith) (omega arith) time small in
         omega (arith, ap length (text-given file input n e))
 
-pub never-short : (file input entry exit : List ℕ) (r : Answer) → 36942 ≤ length entry → Prints (replayText file input) entry exit r →
-    outcomeOf r ≡ gives (length (replayText file input))
-never-short file input entry exit r room p =
+pub never-short : (file input entry exit : List ℕ) (r : Answer) → 36942 ≤ length entry → Says (mayList file input) (replayText file input) entry exit r →
+    outcomeOf r ≡ andThen (mayList file input) (λ _. gives (length (replayText file input)))
+never-short file input entry exit r enough s =
     let fits : length (replayText file input) ≤ length entry = omega (arith, text-room file input) in
-    p .answer ∙ rw (le-leb (length (replayText file input)) (length entry) fits)
+    s .answer ∙ rw (le-leb (length (replayText file input)) (length entry) fits)
 
 -- two outcomes that the promise of `replay_text` allows are equal
-pub one-text : (file input entry exit exit′ : List ℕ) (r r′ : Answer) →
-    Prints (replayText file input) entry exit r → Prints (replayText file input) entry exit′ r′ → (r ≡ r′) × (exit ≡ exit′)
-one-text file input entry exit exit′ r r′ p q = prints-only p q
+pub one-text : (file input entry exit exit′ : List ℕ) (r r′ : Answer) → Says (mayList file input) (replayText file input) entry exit r →
+    Says (mayList file input) (replayText file input) entry exit′ r′ → (r ≡ r′) × (exit ≡ exit′)
+one-text file input entry exit exit′ r r′ p q = says-only p q
+
+-- what the program has read prints what there is
+pub fronts : (plan cuts file input : List ℕ) (p i : ℕ) → length plan ≡ 7349 → length cuts ≡ 651 → Front plan p file → Front cuts i input →
+    replayText (take p plan) (take i cuts) ≡ replayText file input
+fronts plan cuts file input p i l m f g =
+    let a : take p plan ≡ take 7349 file = f ∙ ap (λ (n : ℕ). take n file) l in
+    let b : take i cuts ≡ take 651 input = g ∙ ap (λ (n : ℕ). take n input) m in
+    rw (a, b) (front-prints file input)
