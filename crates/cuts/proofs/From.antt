@@ -118,7 +118,7 @@ told-more cuts n j from t =
 
 pub told-all : (cuts : List ℕ) (n j : ℕ) (from : List ℕ) → j ≡ pairs cuts → Told cuts n j from → Tells cuts n from
 unfolding isCut
-told-all cuts n j from e t = record { long = t .long; is = λ i k h g. t .is i k h g ∙ ap (some (cutBy cuts i k)) e }
+told-all cuts n j from e t = record { long = t .long; is = λ plan i k h g. t .is i k h g ∙ ap (some (cutBy cuts i k)) e }
 
 -- the three ways to put a pair
 module _ (from : List ℕ) (slot link : ℕ) where

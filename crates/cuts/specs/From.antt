@@ -5,6 +5,7 @@ use mathlib.Core.Bool.{Bool, cond}
 use mathlib.Core.List.{List}
 use lib.ListN.{length, getD, set}
 use lib.Dec.{ltb, leb}
+use Rattle.scope.specs.Plan.{Plan}
 use Rattle.scope.specs.Cuts.{isCut}
 
 -- a number above every slot: such a link is never cut
@@ -26,4 +27,4 @@ earlier from slot link = set from link (cond (ltb slot (cutFrom from link)) slot
 -- `from` has n numbers, and tells of each link below n when it is cut
 pub record Tells (cuts : List ℕ) (n : ℕ) (from : List ℕ) : Type 0 where
   pub long : length from ≡ n
-  pub is : (i e : ℕ) → i < never → e < n → downOf from i e ≡ isCut cuts i e
+  pub is : (plan : Plan) (i e : ℕ) → i < never → e < n → downOf from i e ≡ isCut plan cuts i e

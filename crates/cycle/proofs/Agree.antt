@@ -13,7 +13,7 @@ use Rattle.scope.specs.Outcome.{gives, refused}
 use Rattle.scope.specs.Plan.{Plan, at, placesAt, placeSize, placeCount, afterPlaces, messageCount, planOf, pathOf}
 use Rattle.scope.specs.SecondPath.{messageIndex}
 use Rattle.scope.specs.Good.{holds}
-use Rattle.scope.specs.Cuts.{pairs, cutLink, cutSlot, badPair, falls, checkCuts, isCut}
+use Rattle.scope.specs.Cuts.{pairs, cutLink, cutSlot, badPair, falls, checkCuts, cutsLink, isCut}
 use Rattle.scope.specs.Slot as S
 use Rattle.scope.specs.Cycle.{tableOf, slot, nexts, numbers, positions, events}
 use Rattle.view.specs.Lies.{PlanLies}
@@ -75,20 +75,20 @@ module _ (plan : Plan) (cuts : List ℕ) (n : ℕ) (good : checkCuts plan cuts �
       let g = or-left (a || b || not l) (falls cuts j) (or-left (a || b || not l || falls cuts j) (isTwice cuts j) f) in
       ltb-true (cutLink cuts j) (length (plan .links)) (not-false l (or-right (a || b) (not l) g))
 
-  pub cut-none : (i e : ℕ) → length (plan .links) ≤ e → isCut cuts i e ≡ false
+  pub cut-none : (i e : ℕ) → length (plan .links) ≤ e → isCut plan cuts i e ≡ false
   unfolding isCut
   cut-none i e h =
-      some-no (λ j. eqb (cutLink cuts j) e && leb (cutSlot cuts j) i) (pairs cuts)
+      some-no (λ j. cutsLink plan (cutLink cuts j) e && leb (cutSlot cuts j) i) (pairs cuts)
       (λ j l.
       let s = link-small j l in
       let f : eqb (cutLink cuts j) e ≡ false = ne-eqb (cutLink cuts j) e (λ q. omega arith) in
       rw f)
 
-  pub down-same : (from : List ℕ) → Tells cuts 64 from → length (plan .links) ≤ 64 → (i : ℕ) → i < 65535 → downOf from i ≡ isCut cuts i
+  pub down-same : (from : List ℕ) → Tells cuts 64 from → length (plan .links) ≤ 64 → (i : ℕ) → i < 65535 → downOf from i ≡ isCut plan cuts i
   down-same from t k i h = fun-ext (λ e. by e (ltb e 64) refl)
     where
-      by : (e : ℕ) (b : Bool) → ltb e 64 ≡ b → downOf from i e ≡ isCut cuts i e
-      by e true b = t .is i e h (ltb-true e 64 b)
+      by : (e : ℕ) (b : Bool) → ltb e 64 ≡ b → downOf from i e ≡ isCut plan cuts i e
+      by e true b = t .is plan i e h (ltb-true e 64 b)
       by e false b =
           let l : 64 ≤ e = ltb-false e 64 b in
           let d : cutFrom from e ≡ 65535 = List·getD-eq-default from 65535 (omega (arith, t .long)) in

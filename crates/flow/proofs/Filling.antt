@@ -13,7 +13,7 @@ use Rattle.scope.specs.Bits.{bits, fieldAt}
 use Rattle.scope.specs.File.{walkBits, fieldsOf, rowOf}
 use Rattle.bits.specs.Word.{Read}
 use Rattle.bits.proofs.Laws.{length-bits}
-use Rattle.flow.specs.Longest.{longestRow, longestBits}
+use Rattle.scope.specs.Limits.{longestRow, longestBits}
 use Rattle.flow.specs.declared.Unpacked.{Unpacked}
 use Rattle.flow.specs.Unpack.{Unpacks}
 use Rattle.grammar.proofs.Most.{numbers, wide, falls, numbers-opening, wide-opening}

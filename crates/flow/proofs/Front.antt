@@ -15,7 +15,7 @@ use Rattle.scope.specs.Fields.{width, step, opening, edition}
 use Rattle.scope.specs.Bits.{bits, fieldAt, numberFrom}
 use Rattle.scope.specs.File.{walkBits, endsAt, walkFile}
 use Rattle.bits.proofs.Laws.{AreBits, length-bits, bits-take, are-bits, field-small}
-use Rattle.flow.specs.Longest.{longestFile}
+use Rattle.scope.specs.Limits.{longestFile}
 use Rattle.grammar.proofs.Most.{numbers, wide, falls, numbers-opening, wide-opening}
 use Rattle.flow.proofs.Walk.{bits-end, bits-step}
 use Rattle.flow.proofs.Accepted.{goes, goes-bound}

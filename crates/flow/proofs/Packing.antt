@@ -15,7 +15,7 @@ use Rattle.scope.specs.Row.{walkFrom, walkRow}
 use Rattle.scope.specs.Bits.{bitsOf, bits, bytesOf}
 use Rattle.scope.specs.File.{packed, rowBits, wholeBytes, fileOf}
 use Rattle.bits.proofs.Laws.{AreBytes, length-bitsOf, length-bits, bytes-bits, bits-zero, length-bytesOf}
-use Rattle.flow.specs.Longest.{longestBits}
+use Rattle.scope.specs.Limits.{longestBits}
 use Rattle.flow.specs.Pack.{Fitting, Packed}
 use Rattle.grammar.proofs.Most.{wide-opening}
 use Rattle.flow.proofs.Accepted.{Walks, next, walks, walks-wide, not-both}

@@ -16,7 +16,7 @@ use Rattle.scope.specs.Row.{walkFrom, walkRow}
 use Rattle.scope.specs.Bits.{bitsOf, bits, fieldAt, numberFrom, bytesOf}
 use Rattle.scope.specs.File.{walkBits, fieldsOf, zeros, endsAt, walkFile, rowOf, packed, rowBits, wholeBytes, fileOf}
 use Rattle.bits.proofs.Laws.{AreBits, AreBytes, length-bitsOf, length-bits, are-bits, are-bitsOf, are-append, field-bits, number-bitsOf, bytes-bits, bits-bytes}
-use Rattle.flow.specs.Longest.{longestRow, longestFile}
+use Rattle.scope.specs.Limits.{longestRow, longestFile}
 use Rattle.grammar.proofs.Most.{numbers-opening, wide-opening}
 use Rattle.flow.proofs.Walk.{bits-end, bits-step, fields-end, fields-step}
 use Rattle.flow.proofs.Tail.{and-split, zeros-are}

@@ -9,7 +9,7 @@ use Rattle.scope.specs.Outcome.{Outcome, gives}
 use Rattle.scope.specs.Row.{walkRow}
 use Rattle.scope.specs.File.{walkFile, rowOf, rowBits, fileOf}
 use Rattle.bits.proofs.Laws.{AreBytes}
-use Rattle.flow.specs.Longest.{longestRow, longestFile}
+use Rattle.scope.specs.Limits.{longestRow, longestFile}
 use Rattle.flow.specs.declared.Unpacked.{Unpacked}
 use Rattle.flow.specs.Unpack.{Unpacks}
 use Rattle.flow.proofs.Round as round

@@ -12,7 +12,7 @@ use Rattle.scope.specs.Fields.{opening, edition}
 use Rattle.scope.specs.Bits.{bits, fieldAt}
 use Rattle.scope.specs.File.{walkBits, fieldsOf, endsAt, walkFile, rowOf}
 use Rattle.bits.proofs.Laws.{length-bits, are-bits}
-use Rattle.flow.specs.Longest.{longestRow, longestBits}
+use Rattle.scope.specs.Limits.{longestRow, longestBits}
 use Rattle.flow.specs.declared.Unpacked.{Unpacked}
 use Rattle.flow.specs.Unpack.{Unpacks}
 use Rattle.grammar.proofs.Most.{wide-opening}

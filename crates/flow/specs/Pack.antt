@@ -7,7 +7,7 @@ use Rattle.scope.specs.Outcome.{gives}
 use Rattle.scope.specs.Row.{walkRow}
 use Rattle.scope.specs.Bits.{bits}
 use Rattle.scope.specs.File.{rowBits, fileOf}
-use Rattle.flow.specs.Longest.{longestFile}
+use Rattle.scope.specs.Limits.{longestFile}
 
 -- a row without refusals 1 to 4
 abbrev pub Complete : List ℕ → Type 0

@@ -7,7 +7,7 @@ use Rattle.scope.specs.Outcome.{Outcome, outcomeOf}
 use Rattle.scope.specs.Fields.{opening, editionWidth}
 use Rattle.scope.specs.Bits.{bits}
 use Rattle.scope.specs.File.{walkBits, rowOf}
-use Rattle.flow.specs.Longest.{longestRow}
+use Rattle.scope.specs.Limits.{longestRow}
 use Rattle.flow.specs.declared.Unpacked.{Unpacked}
 
 -- the walk over the fields of a file after its edition: where the last one ends, or refusal 2

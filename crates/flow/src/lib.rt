@@ -13,7 +13,7 @@ ghost use Rattle.scope.specs.Outcome.{outcomeOf, refused};
 ghost use Rattle.scope.specs.Row.{walkRow};
 ghost use Rattle.scope.specs.Bits.{bits};
 ghost use Rattle.scope.specs.File.{endsAt, walkFile, rowBits, fileOf};
-ghost use Rattle.flow.specs.Longest.{longestRow};
+ghost use Rattle.scope.specs.Limits.{longestRow};
 ghost use Rattle.flow.specs.Unpack.{walkFields, Unpacks};
 ghost use Rattle.flow.specs.Pack.{Complete, Sized, Fitting, Packed};
 

@@ -7,7 +7,7 @@ use mathlib.Core.List.{List, []}
 use lib.ListN.{length, take, getD-replicate}
 use lib.Dec.{ltb}
 use borrow.Author.Tests.{ltb-true, ltb-false, lt-leb}
-use Rattle.scope.specs.Plan.{planOf}
+use Rattle.scope.specs.Plan.{Plan, planOf}
 use Rattle.scope.specs.Cuts.{pairs, isCut}
 use Rattle.scope.specs.Cycle.{arrivals}
 use Rattle.laws.proofs.Cuts.{no-cuts}
@@ -38,12 +38,12 @@ holding-none row table weights most a =
             none = λ e. refl;
             next = λ j e. absurd (omega arith);
           };
-      tells = record { long = refl; is = λ i e h g. by i e h g };
+      tells = record { long = refl; is = by };
       first = λ e h. rw (getD-replicate {A = ℕ} 64 e 65535 0 h) (omega arith);
     }
   where
-    by : (i e : ℕ) → i < never → e < 64 → downOf (noPair .from) i e ≡ isCut [] i e
-    by i e h g = rw (getD-replicate {A = ℕ} 64 e 65535 65535 g, lt-leb 65535 i h, no-cuts)
+    by : (plan : Plan) (i e : ℕ) → i < never → e < 64 → downOf (noPair .from) i e ≡ isCut plan [] i e
+    by plan i e h g = rw (getD-replicate {A = ℕ} 64 e 65535 65535 g, lt-leb 65535 i h, no-cuts plan)
 
 -- for l 0 every list leaves enough
 pub none-for-nought : (row : List ℕ) (l k : ℕ) (h : Hunted) → l ≡ 0 → h .found ≡ false → h .pairs ≡ 0 → length (h .numbers) ≡ 6 → Hunts row l k h

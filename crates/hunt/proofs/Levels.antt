@@ -62,7 +62,7 @@ module _ (row table weights most : List ℕ) (a : Asked) (p : Picked) (n : ℕ) 
           s b (omega arith) x long good
       by false e light =
           let other : getD (p .from) b 0 ≡ 65535 → ⊥ = eqb-false (getD (p .from) b 0) 65535 e in
-          let who = named (cutsOf p) (p .from) b (h .tells) (omega (arith, y .play .few)) (omega (arith, other, h .first b (omega (arith, y .play .few)))) in
+          let who = named (planOf row) (cutsOf p) (p .from) b (h .tells) (omega (arith, y .play .few)) (omega (arith, other, h .first b (omega (arith, y .play .few)))) in
           cut-already (planOf row) (a .least) few (cutsOf p) (p .count) (code (p .slot) (p .link)) (h .chosen) (n - 1) s b (who .0)
           (omega (arith, who .1, h .chosen .long)) (who .2) x good
 

@@ -9,7 +9,7 @@ use lib.Seq.{take-suc-set, getD-set-same, getD-set-other}
 use lib.Dec.{leb, eqb}
 use borrow.Author.Tests.{eqb-true, eqb-false, eq-eqb, le-leb, lt-leb}
 use Rattle.scope.specs.Plan.{Plan, planOf}
-use Rattle.scope.specs.Cuts.{pairs, cutSlot, cutLink, isCut, isCutList}
+use Rattle.scope.specs.Cuts.{pairs, cutSlot, cutLink, cutsLink, isCut, isCutList}
 use Rattle.scope.specs.Cycle.{positions}
 use Rattle.scope.proofs.Cuts.{slot-below}
 use Rattle.laws.proofs.Cuts.{cut-pair}
@@ -45,37 +45,37 @@ pub free : (plan : Plan) (pre from : List ℕ) (e : ℕ) → plan .timeout ≤ 6
 unfolding isCut
 free plan pre from e time good t h whole j l same =
     let s = slot-below plan pre good j l in
-    let cut : isCut pre (cutSlot pre j) e ≡ true =
-    some-one (λ i. eqb (cutLink pre i) e && leb (cutSlot pre i) (cutSlot pre j)) (pairs pre) j l
+    let cut : isCut plan pre (cutSlot pre j) e ≡ true =
+    some-one (λ i. cutsLink plan (cutLink pre i) e && leb (cutSlot pre i) (cutSlot pre j)) (pairs pre) j l
     (rw (eq-eqb (cutLink pre j) e same, le-leb (cutSlot pre j) (cutSlot pre j) (omega arith))) in
     let not-down : downOf from (cutSlot pre j) e ≡ false =
     ap (λ (i : ℕ). leb i (cutSlot pre j)) (from-at from e (t .long) h ∙ whole) ∙ lt-leb 65535 (cutSlot pre j) (omega arith) in
-    true≢false (sym cut ∙ sym (t .is (cutSlot pre j) e (omega arith) h) ∙ not-down)
+    true≢false (sym cut ∙ sym (t .is plan (cutSlot pre j) e (omega arith) h) ∙ not-down)
 
-pub named : (pre from : List ℕ) (e : ℕ) → Tells pre 64 from → e < 64 → getD from e 0 < 65535 → (j : ℕ) × (j < pairs pre) × (cutLink pre j ≡ e)
-named pre from e t h low =
+pub named : (plan : Plan) (pre from : List ℕ) (e : ℕ) → Tells pre 64 from → e < 64 → getD from e 0 < 65535 → (j : ℕ) × (j < pairs pre) × (cutLink pre j ≡ e)
+named plan pre from e t h low =
     let i = getD from e 0 in
     let down : downOf from i e ≡ true = le-leb (cutFrom from e) i (omega (arith, from-at from e (t .long) h)) in
-    let c = cut-pair pre i e (sym (t .is i e low h) ∙ down) in
-    (c .0, c .1, c .2)
+    let c = cut-pair plan pre i e (sym (t .is plan i e low h) ∙ down) in
+    (c .0, c .1, eqb-true (cutLink pre (c .0)) e (c .2))
 
 -- the first cuts with one pair more
 tells-more : (pre from : List ℕ) (d s e : ℕ) → length pre ≡ 2 * d → Tells pre 64 from → e < 64 → getD from e 0 ≡ 65535 →
     Tells (pre ++ s ∷ e ∷ []) 64 (set from e s)
 tells-more pre from d s e long t h whole =
-    record { long = length-set from e s ∙ t .long; is = λ i x l g. by i x l g (eqb e x) refl }
+    record { long = length-set from e s ∙ t .long; is = λ plan i x l g. by plan i x l g (eqb e x) refl }
   where
-    by : (i x : ℕ) → i < never → x < 64 → (b : Bool) → eqb e x ≡ b → downOf (set from e s) i x ≡ isCut (pre ++ s ∷ e ∷ []) i x
-    by i x l g true q =
+    by : (plan : Plan) (i x : ℕ) → i < never → x < 64 → (b : Bool) → eqb e x ≡ b → downOf (set from e s) i x ≡ isCut plan (pre ++ s ∷ e ∷ []) i x
+    by plan i x l g true q =
         let same : e ≡ x = eqb-true e x q in
-        let not-yet : isCut pre i x ≡ false =
-        sym (t .is i x l g) ∙ ap (λ (k : ℕ). leb k i) (ap (cutFrom from) (sym same) ∙ from-at from e (t .long) h ∙ whole) ∙ lt-leb 65535 i l in
+        let not-yet : isCut plan pre i x ≡ false =
+        sym (t .is plan i x l g) ∙ ap (λ (k : ℕ). leb k i) (ap (cutFrom from) (sym same) ∙ from-at from e (t .long) h ∙ whole) ∙ lt-leb 65535 i l in
         ap (λ (k : ℕ). leb k i) (ap (cutFrom (set from e s)) (sym same) ∙ getD-set-same from e s 65535 (omega (arith, t .long))) ∙
-        sym (cut-more pre d s e long i x ∙ rw (not-yet, q))
-    by i x l g false q =
+        sym (cut-more plan pre d s e long i x ∙ rw (not-yet, q))
+    by plan i x l g false q =
         let other : x ≡ e → ⊥ = λ r. eqb-false e x q (sym r) in
-        ap (λ (k : ℕ). leb k i) (getD-set-other from e x s 65535 other) ∙ t .is i x l g ∙
-        sym (cut-more pre d s e long i x ∙ rw (q, or-false (isCut pre i x)))
+        ap (λ (k : ℕ). leb k i) (getD-set-other from e x s 65535 other) ∙ t .is plan i x l g ∙
+        sym (cut-more plan pre d s e long i x ∙ rw (q, or-false (isCut plan pre i x)))
 
 module _ (row table : List ℕ) (a : Asked) (p : Picked) (y : Playable row table a) (h : Holding row a p) (s e : ℕ) (room : p .count < 3) where
   pub cuts-more : cutsOf (withPair p s e) ≡ cutsOf p ++ s ∷ e ∷ []

@@ -6,11 +6,11 @@ use mathlib.Core.Bool.{Bool, true, false, true≢false}
 use mathlib.Core.List.{List, _++_}
 use lib.ListN.{length, take, List·getD-eq-default}
 use lib.Dec.{ltb, leb}
-use borrow.Author.Tests.{ltb-true, ltb-false, lt-leb}
+use borrow.Author.Tests.{ltb-true, ltb-false, lt-leb, eqb-true}
 use Rattle.scope.specs.Plan.{planOf}
 use Rattle.scope.specs.Slot.{Position}
-use Rattle.scope.specs.Cuts.{isCut, isCutList}
-use Rattle.scope.specs.Cycle.{byNumber, tableOf, start, slot, nexts, positions, arrived, arrivals}
+use Rattle.scope.specs.Cuts.{cutLink, isCut, isCutList}
+use Rattle.scope.specs.Cycle.{byNumber, orderOf, tableOf, start, slot, nexts, positions, arrived, arrivals}
 use Rattle.scope.proofs.Cuts.{link-below}
 use Rattle.laws.proofs.Cuts.{not-cut}
 use Rattle.cuts.specs.From.{never, downOf}
@@ -31,21 +31,21 @@ use Rattle.hunt.proofs.Steps.{nothing-more, itself}
 
 module _ (row table : List ℕ) (a : Asked) (p : Picked) (y : Playable row table a) (h : Holding row a p) where
   -- links from 64 on are never down
-  down-is : (i e : ℕ) → i < 64 → downOf (p .from) i e ≡ isCut (cutsOf p) i e
+  down-is : (i e : ℕ) → i < 64 → downOf (p .from) i e ≡ isCut (planOf row) (cutsOf p) i e
   down-is i e l = by (ltb e 64) refl
     where
-      by : (b : Bool) → ltb e 64 ≡ b → downOf (p .from) i e ≡ isCut (cutsOf p) i e
-      by true t = h .tells .is i e (omega arith) (ltb-true e 64 t)
+      by : (b : Bool) → ltb e 64 ≡ b → downOf (p .from) i e ≡ isCut (planOf row) (cutsOf p) i e
+      by true t = h .tells .is (planOf row) i e (omega arith) (ltb-true e 64 t)
       by false t =
           let far : 64 ≤ e = ltb-false e 64 t in
           ap (λ (s : ℕ). leb s i) (List·getD-eq-default (p .from) 65535 (omega (arith, h .tells .long))) ∙ lt-leb 65535 i (omega arith) ∙
-          sym (not-cut (cutsOf p) i e (λ j k same.
-          absurd (omega (arith, same, link-below (planOf row) (cutsOf p) (h .chosen .good) j k, y .links, y .few))))
+          sym (not-cut (planOf row) (cutsOf p) i e (λ j k same.
+          absurd (omega (arith, eqb-true (cutLink (cutsOf p) j) e same, link-below (planOf row) (cutsOf p) (h .chosen .good) j k, y .links, y .few))))
 
   plays : (s n : ℕ) (qs : List Position) → s + n ≤ 64 →
-      endsWith table (p .from) s n qs ≡ positions byNumber (isCut (cutsOf p)) (tableOf (planOf row)) s n qs
+      endsWith table (p .from) s n qs ≡ positions (orderOf (planOf row)) (isCut (planOf row) (cutsOf p)) (tableOf (planOf row)) s n qs
   plays s n qs l =
-      positions-same byNumber (downOf (p .from)) (isCut (cutsOf p)) (ownerOf table) (tableOf (planOf row)) n s qs
+      positions-same (orderOf (planOf row)) (downOf (p .from)) (isCut (planOf row) (cutsOf p)) (ownerOf table) (tableOf (planOf row)) n s qs
       (λ j u. (fun-ext (λ e. down-is j e (omega arith)), y .owner j (omega arith)))
 
   -- one slot on
@@ -57,7 +57,7 @@ module _ (row table : List ℕ) (a : Asked) (p : Picked) (y : Playable row table
       record {
         is =
             b .is ∙ plays s 1 (positionsOf row (a .messages) ps) (omega (arith, y .short)) ∙
-            ap (positions byNumber (isCut (cutsOf p)) (tableOf (planOf row)) s 1) (stand .is) ∙ sym (one-slot (planOf row) (cutsOf p) s);
+            ap (positions (orderOf (planOf row)) (isCut (planOf row) (cutsOf p)) (tableOf (planOf row)) s 1) (stand .is) ∙ sym (one-slot (planOf row) (cutsOf p) s);
         stand = b .stand;
       }
 
@@ -125,4 +125,4 @@ module _ (row table marks : List ℕ) (a : Asked) (ps : List P.Position) (p : Pi
     unfolding arrivals
     ends-over n l e =
         let t : i ≡ planOf row .timeout = omega (arith, g .early, m .play .timeout) in
-        e ∙ ap arrived (g .stand .is) ∙ ap (λ (k : ℕ). arrived (positions byNumber (isCut (cutsOf p)) (tableOf (planOf row)) 0 k (start (planOf row)))) t
+        e ∙ ap arrived (g .stand .is) ∙ ap (λ (k : ℕ). arrived (positions (orderOf (planOf row)) (isCut (planOf row) (cutsOf p)) (tableOf (planOf row)) 0 k (start (planOf row)))) t

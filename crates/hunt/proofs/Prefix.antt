@@ -10,16 +10,16 @@ use borrow.Author.Tests.{lt-leb}
 use Rattle.scope.specs.Lowest.{some}
 use Rattle.scope.specs.Plan.{Plan}
 use Rattle.scope.specs.Cuts.{pairs, cutSlot, cutLink, isCut}
-use Rattle.scope.specs.Cycle.{byNumber, tableOf, start, positions}
+use Rattle.scope.specs.Cycle.{orderOf, tableOf, start, positions}
 use Rattle.laws.proofs.Replay.{positions-follow, depends-on-these-slots}
 use Rattle.touch.proofs.Some.{some-same, some-more}
 use Rattle.touch.proofs.Parts.{slot-left, link-left, slot-right, link-right, pairs-both}
 
 -- what a list with one pair more cuts
-pub cut-more : (pre : List ℕ) (d s e : ℕ) → length pre ≡ 2 * d → (i x : ℕ) →
-    isCut (pre ++ s ∷ e ∷ []) i x ≡ (isCut pre i x || (eqb e x && leb s i))
+pub cut-more : (plan : Plan) (pre : List ℕ) (d s e : ℕ) → length pre ≡ 2 * d → (i x : ℕ) →
+    isCut plan (pre ++ s ∷ e ∷ []) i x ≡ (isCut plan pre i x || (eqb e x && leb s i))
 unfolding isCut
-cut-more pre d s e long i x =
+cut-more plan pre d s e long i x =
     let y : List ℕ = s ∷ e ∷ [] in
     let test : ℕ → Bool = λ j. eqb (cutLink (pre ++ y) j) x && leb (cutSlot (pre ++ y) j) i in
     let old : ℕ → Bool = λ j. eqb (cutLink pre j) x && leb (cutSlot pre j) i in
@@ -33,19 +33,19 @@ cut-more pre d s e long i x =
 
 -- before that pair's slot nothing differs
 pub same-before : (plan : Plan) (pre : List ℕ) (d s e : ℕ) → length pre ≡ 2 * d →
-    positions byNumber (isCut (pre ++ s ∷ e ∷ [])) (tableOf plan) 0 s (start plan) ≡ positions byNumber (isCut pre) (tableOf plan) 0 s (start plan)
+    positions (orderOf plan) (isCut plan (pre ++ s ∷ e ∷ [])) (tableOf plan) 0 s (start plan) ≡ positions (orderOf plan) (isCut plan pre) (tableOf plan) 0 s (start plan)
 same-before plan pre d s e long =
-    depends-on-these-slots byNumber (isCut (pre ++ s ∷ e ∷ [])) (isCut pre) (tableOf plan) 0 s (start plan)
-    (λ j x a b. cut-more pre d s e long j x ∙
-    ap (λ (t : Bool). isCut pre j x || (eqb e x && t)) (lt-leb s j (omega arith)) ∙
-    ap (λ (t : Bool). isCut pre j x || t) (and-false (eqb e x)) ∙ or-false (isCut pre j x))
+    depends-on-these-slots (orderOf plan) (isCut plan (pre ++ s ∷ e ∷ [])) (isCut plan pre) (tableOf plan) 0 s (start plan)
+    (λ j x a b. cut-more plan pre d s e long j x ∙
+    ap (λ (t : Bool). isCut plan pre j x || (eqb e x && t)) (lt-leb s j (omega arith)) ∙
+    ap (λ (t : Bool). isCut plan pre j x || t) (and-false (eqb e x)) ∙ or-false (isCut plan pre j x))
     .positionsAgree
 
 -- one slot more
 pub one-slot : (plan : Plan) (cuts : List ℕ) (s : ℕ) →
-    positions byNumber (isCut cuts) (tableOf plan) 0 (s + 1) (start plan) ≡
-    positions byNumber (isCut cuts) (tableOf plan) s 1 (positions byNumber (isCut cuts) (tableOf plan) 0 s (start plan))
+    positions (orderOf plan) (isCut plan cuts) (tableOf plan) 0 (s + 1) (start plan) ≡
+    positions (orderOf plan) (isCut plan cuts) (tableOf plan) s 1 (positions (orderOf plan) (isCut plan cuts) (tableOf plan) 0 s (start plan))
 one-slot plan cuts s =
     let z : 0 + s ≡ s = omega arith in
-    positions-follow byNumber (isCut cuts) (tableOf plan) 0 s 1 (start plan) ∙
-    ap (λ (i : ℕ). positions byNumber (isCut cuts) (tableOf plan) i 1 (positions byNumber (isCut cuts) (tableOf plan) 0 s (start plan))) z
+    positions-follow (orderOf plan) (isCut plan cuts) (tableOf plan) 0 s 1 (start plan) ∙
+    ap (λ (i : ℕ). positions (orderOf plan) (isCut plan cuts) (tableOf plan) i 1 (positions (orderOf plan) (isCut plan cuts) (tableOf plan) 0 s (start plan))) z

@@ -11,7 +11,7 @@ use borrow.Author.Tests.{lt-ltb, eq-eqb, ne-eqb}
 use Rattle.scope.specs.Plan.{planOf, placesAt}
 use Rattle.scope.specs.Slot as S
 use Rattle.scope.specs.Cuts.{pairs, cutSlot, cutLink, isCut}
-use Rattle.scope.specs.Cycle.{byNumber, tableOf, start, positions}
+use Rattle.scope.specs.Cycle.{orderOf, tableOf, start, positions}
 use Rattle.scope.proofs.Cuts.{slot-below, link-below}
 use Rattle.laws.specs.Message as L
 use Rattle.step.specs.declared.Position.{Position}
@@ -63,7 +63,7 @@ module _ (row table : List ℕ) (a : Asked) (p : Picked) (y : Playable row table
       (omega (arith, link-below (planOf row) (cutsOf p) (h .chosen .good) j l, y .links, y .few)))
 
   stands-at : (m : ℕ) → m < a .messages →
-      L.positionOf m (positions byNumber (isCut (cutsOf p)) (tableOf (planOf row)) 0 s (start (planOf row))) ≡ positionOf row (getD ps m home)
+      L.positionOf m (positions (orderOf (planOf row)) (isCut (planOf row) (cutsOf p)) (tableOf (planOf row)) 0 s (start (planOf row))) ≡ positionOf row (getD ps m home)
   unfolding placesAt
   stands-at m l =
       ap (λ (qs : List S.Position). L.positionOf m qs) (sym (stand .is)) ∙ List·getD-map (positionOf row) (take (a .messages) ps) m home ∙
@@ -74,14 +74,14 @@ module _ (row table : List ℕ) (a : Asked) (p : Picked) (y : Playable row table
   risks-are =
       sum-same (λ m. riskIf (harm (entryFrom table (m + 1)) (cutsOf p) (pairs (cutsOf p))) (getD ps m home))
       (λ m. oneIf (ltb 0 (harm (hers (tableOf (planOf row)) m) (cutsOf p) (pairs (cutsOf p))) &&
-      not (S.atTarget (L.positionOf m (positions byNumber (isCut (cutsOf p)) (tableOf (planOf row)) 0 s (start (planOf row))))))) (a .messages)
+      not (S.atTarget (L.positionOf m (positions (orderOf (planOf row)) (isCut (planOf row) (cutsOf p)) (tableOf (planOf row)) 0 s (start (planOf row))))))) (a .messages)
       (λ m l.
       let q : Position = getD ps m home in
-      let there : eqb (q .left) 0 ≡ S.atTarget (L.positionOf m (positions byNumber (isCut (cutsOf p)) (tableOf (planOf row)) 0 s (start (planOf row)))) =
+      let there : eqb (q .left) 0 ≡ S.atTarget (L.positionOf m (positions (orderOf (planOf row)) (isCut (planOf row) (cutsOf p)) (tableOf (planOf row)) 0 s (start (planOf row)))) =
       home-is row (q .at) (q .left) (q .turned) ∙ ap S.atTarget (sym (stands-at m l)) in
       ap₂ (λ (w : ℕ) (b : Bool). oneIf (ltb 0 w && not b)) (touched-is m) there) ∙
       ap (sumOf (λ m. oneIf (ltb 0 (harm (hers (tableOf (planOf row)) m) (cutsOf p) (pairs (cutsOf p))) &&
-      not (S.atTarget (L.positionOf m (positions byNumber (isCut (cutsOf p)) (tableOf (planOf row)) 0 s (start (planOf row)))))))) (y .messages)
+      not (S.atTarget (L.positionOf m (positions (orderOf (planOf row)) (isCut (planOf row) (cutsOf p)) (tableOf (planOf row)) 0 s (start (planOf row)))))))) (y .messages)
 
 -- counted by their marks
 pub risk-is : (row table marks : List ℕ) (a : Asked) (p : Picked) → Playable row table a → Holding row a p → Marks table (cutsOf p) marks → (s : ℕ) (ps : List Position) →

@@ -8,7 +8,7 @@ use lib.Dec.{leb, eqb}
 use Rattle.scope.specs.Plan.{planOf}
 use Rattle.scope.specs.Cuts.{isCut}
 use Rattle.scope.specs.Verdict.{FirstFailing}
-use Rattle.scope.specs.Cycle.{byNumber, tableOf, start, positions, arrivals}
+use Rattle.scope.specs.Cycle.{orderOf, tableOf, start, positions, arrivals}
 use Rattle.cuts.specs.From.{Tells}
 use Rattle.step.specs.declared.Position.{Position}
 use Rattle.cycle.specs.Stand.{Become}
@@ -73,7 +73,7 @@ pub record Holding (row : List ℕ) (a : Asked) (p : Picked) : Type 0 where
 
 -- the messages stand where they do at time s under a cut list
 abbrev pub StandAt : List ℕ → ℕ → List ℕ → ℕ → List Position → Type 0
-StandAt row n cuts s ps = Become row n (positions byNumber (isCut cuts) (tableOf (planOf row)) 0 s (start (planOf row))) ps
+StandAt row n cuts s ps = Become row n (positions (orderOf (planOf row)) (isCut (planOf row) cuts) (tableOf (planOf row)) 0 s (start (planOf row))) ps
 
 -- a list may be played to the end, and one slot on
 pub record MayPlayOut (row table marks : List ℕ) (a : Asked) (ps : List Position) (p : Picked) : Type 0 where

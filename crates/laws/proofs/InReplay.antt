@@ -7,7 +7,7 @@ use Rattle.scope.specs.Outcome.{gives}
 use Rattle.scope.specs.Plan.{Plan}
 use Rattle.scope.specs.Good.{rules}
 use Rattle.scope.specs.Cuts.{isCut}
-use Rattle.scope.specs.Cycle.{positions, start, tableOf, byNumber}
+use Rattle.scope.specs.Cycle.{positions, start, tableOf, orderOf}
 use Rattle.laws.specs.Message.{positionOf, triesLink}
 use Rattle.laws.specs.Links.{TableGivesLeft, NoLinkTwiceLeft, AtMostOneInReplay, AtMostOneUnderCuts, NeverTriesAgainInReplay}
 use Rattle.laws.proofs.Replay.{positions-follow}
@@ -34,7 +34,7 @@ at-most-one-in-replay rank down plan g differ i e a b la lb =
     (differ a b la lb) (table-at rank down plan g a i) (table-at rank down plan g b i)
 
 pub at-most-one-under-cuts : AtMostOneUnderCuts
-at-most-one-under-cuts plan cuts g = at-most-one-in-replay byNumber (isCut cuts) plan g (λ a b la lb same. same)
+at-most-one-under-cuts plan cuts g = at-most-one-in-replay (orderOf plan) (isCut plan cuts) plan g (λ a b la lb same. same)
 
 pub never-tries-again-in-replay : NeverTriesAgainInReplay
 never-tries-again-in-replay rank down plan g m i e kind number j l =

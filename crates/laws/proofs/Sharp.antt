@@ -5,20 +5,21 @@ use mathlib.Core.Path.{_≡_, refl, sym, _∙_, ap}
 use mathlib.Core.Bool.{true, false, true≢false}
 use mathlib.Core.List.{List, [], _∷_}
 use lib.ListN.{getD}
+use borrow.Author.Tests.{eqb-true}
 use Rattle.scope.specs.Lowest.{seek}
 use Rattle.scope.specs.Plan.{numbersAt, linksAt, placesAt, afterPlaces, messagesAt, planOf}
 use Rattle.scope.specs.Good.{has, different, areLinks, joins, visited, slotsRise, holds, taken, goodSeconds, rules}
 use Rattle.scope.specs.Cuts.{pairs, cutLink, isCut}
-use Rattle.scope.specs.Cycle.{foremost, tableOf, moves, slot, numbers, positions, events, eventRow, byNumber}
+use Rattle.scope.specs.Cycle.{foremost, tableOf, moves, slot, numbers, positions, events, eventRow, orderOf}
 use Rattle.scope.specs.Spare.{entriesOf, entries, hasSecondThrough, lowerThrough, delay, placeOf}
 use Rattle.laws.specs.Diverted.{WholeUntilArrival}
 use Rattle.laws.specs.Sharp.{planB, cutAtOnce, Sharp}
 use Rattle.laws.proofs.Cuts.{not-cut}
 
 -- the list names link 0 alone, and the second path is links 1 and 2
-whole : WholeUntilArrival byNumber (isCut cutAtOnce) planB 0 0 (placeOf planB 0 0 .second)
+whole : WholeUntilArrival (orderOf planB) (isCut planB cutAtOnce) planB 0 0 (placeOf planB 0 0 .second)
 unfolding has planOf linksAt messagesAt placesAt afterPlaces numbersAt
-whole i from before away e h = not-cut cutAtOnce i e (λ j l link. absurd (other j l link))
+whole i from before away e h = not-cut planB cutAtOnce i e (λ j l link. absurd (other j l (eqb-true (cutLink cutAtOnce j) e link)))
   where
     only : (j : ℕ) → j < pairs cutAtOnce → j ≡ 0
     only j l = omega arith

@@ -13,7 +13,7 @@ use borrow.Author.Tests.{ltb-false}
 use Rattle.scope.specs.Plan.{Plan, Place, pathOf}
 use Rattle.scope.specs.Slot.{onFirst, onSecond, atTarget, turned, turn}
 use Rattle.scope.specs.Cuts.{isCut}
-use Rattle.scope.specs.Cycle.{positions, start, tableOf, byNumber}
+use Rattle.scope.specs.Cycle.{positions, start, tableOf, orderOf}
 use Rattle.scope.specs.Spare.{delay, placeOf, noSecond}
 use Rattle.laws.specs.Message.{hasTurned}
 use Rattle.laws.specs.Diverted.{standing, OnSecondPath, Leaves, ArrivesFromPlace, LeavesInTime, LeavesSomewhere, SlackMeansArrival, ArrivesUnderCuts, SlackUnderCuts}
@@ -103,7 +103,7 @@ leaves-somewhere rank down plan m s path before turns =
         )
 
 pub arrives-under-cuts : ArrivesUnderCuts
-arrives-under-cuts plan cuts = arrives-from-place byNumber (isCut cuts) plan
+arrives-under-cuts plan cuts = arrives-from-place (orderOf plan) (isCut plan cuts) plan
 
 pub slack-under-cuts : SlackUnderCuts
-slack-under-cuts plan cuts = slack-means-arrival byNumber (isCut cuts) plan
+slack-under-cuts plan cuts = slack-means-arrival (orderOf plan) (isCut plan cuts) plan

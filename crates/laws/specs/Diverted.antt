@@ -11,7 +11,7 @@ use Rattle.scope.specs.Plan.{Plan, Place, pathOf}
 use Rattle.scope.specs.Good.{has, slotsRise, rules}
 use Rattle.scope.specs.Slot.{Position, onFirst, onSecond, atTarget, turn}
 use Rattle.scope.specs.Cuts.{isCut}
-use Rattle.scope.specs.Cycle.{start, tableOf, byNumber}
+use Rattle.scope.specs.Cycle.{start, tableOf, orderOf}
 use Rattle.scope.specs.Spare.{delay, slackOf, placeOf, noSecond}
 use Rattle.laws.specs.Message.{positionOf, hasTurned, standsAt}
 use Rattle.laws.specs.Links.{NoLinkTwice}
@@ -81,13 +81,13 @@ SlackMeansArrival =
 -- with a list of cuts, and the lower number first
 abbrev pub ArrivesUnderCuts : Type 0
 ArrivesUnderCuts =
-    (plan : Plan) (cuts : List ℕ) (m p s : ℕ) → rules plan ≡ gives 0 → Leaves byNumber (isCut cuts) plan m p s →
-    WholeUntilArrival byNumber (isCut cuts) plan m s (placeOf plan m p .second) →
-    s + delay byNumber (plan .messages) m (placeOf plan m p .second) ≤ plan .timeout →
-    atTarget (standing byNumber (isCut cuts) plan m (s + delay byNumber (plan .messages) m (placeOf plan m p .second))) ≡ true
+    (plan : Plan) (cuts : List ℕ) (m p s : ℕ) → rules plan ≡ gives 0 → Leaves (orderOf plan) (isCut plan cuts) plan m p s →
+    WholeUntilArrival (orderOf plan) (isCut plan cuts) plan m s (placeOf plan m p .second) →
+    s + delay (orderOf plan) (plan .messages) m (placeOf plan m p .second) ≤ plan .timeout →
+    atTarget (standing (orderOf plan) (isCut plan cuts) plan m (s + delay (orderOf plan) (plan .messages) m (placeOf plan m p .second))) ≡ true
 
 abbrev pub SlackUnderCuts : Type 0
 SlackUnderCuts =
-    (plan : Plan) (cuts : List ℕ) (m p s n : ℕ) → rules plan ≡ gives 0 → Leaves byNumber (isCut cuts) plan m p s →
-    WholeUntilArrival byNumber (isCut cuts) plan m s (placeOf plan m p .second) → slackOf byNumber plan m (placeOf plan m p) ≡ pos n →
-    atTarget (standing byNumber (isCut cuts) plan m (plan .timeout)) ≡ true
+    (plan : Plan) (cuts : List ℕ) (m p s n : ℕ) → rules plan ≡ gives 0 → Leaves (orderOf plan) (isCut plan cuts) plan m p s →
+    WholeUntilArrival (orderOf plan) (isCut plan cuts) plan m s (placeOf plan m p .second) → slackOf (orderOf plan) plan m (placeOf plan m p) ≡ pos n →
+    atTarget (standing (orderOf plan) (isCut plan cuts) plan m (plan .timeout)) ≡ true

@@ -10,7 +10,7 @@ use Rattle.scope.specs.Plan.{Plan, Place}
 use Rattle.scope.specs.Good.{rules, different}
 use Rattle.scope.specs.Slot.{Position, onFirst, onSecond, Moved, turn}
 use Rattle.scope.specs.Cuts.{isCut}
-use Rattle.scope.specs.Cycle.{positions, start, tableOf, byNumber}
+use Rattle.scope.specs.Cycle.{positions, start, tableOf, orderOf}
 use Rattle.laws.specs.Message.{positionOf, moveIn, eventOf, crosses, triesLink}
 
 -- kind 3: message m crosses link e of its second path, and has the links after it left
@@ -69,8 +69,8 @@ AtMostOneInReplay =
 abbrev pub AtMostOneUnderCuts : Type 0
 AtMostOneUnderCuts =
     (plan : Plan) (cuts : List ℕ) → rules plan ≡ gives 0 → (i e a b : ℕ) → a < length (plan .messages) → b < length (plan .messages) →
-    crosses e (eventOf byNumber (isCut cuts) (tableOf plan) a i (start plan)) ≡ true →
-    crosses e (eventOf byNumber (isCut cuts) (tableOf plan) b i (start plan)) ≡ true → a ≡ b
+    crosses e (eventOf (orderOf plan) (isCut plan cuts) (tableOf plan) a i (start plan)) ≡ true →
+    crosses e (eventOf (orderOf plan) (isCut plan cuts) (tableOf plan) b i (start plan)) ≡ true → a ≡ b
 
 -- no link stands twice on a second path that a message may still take, or is on
 abbrev pub NoLinkTwice : List Place → Type 0

@@ -10,7 +10,7 @@ use Rattle.scope.specs.Plan.{Plan, planOf}
 use Rattle.scope.specs.Good.{rules}
 use Rattle.scope.specs.Slot.{atTarget}
 use Rattle.scope.specs.Cuts.{isCut}
-use Rattle.scope.specs.Cycle.{byNumber, eventRow}
+use Rattle.scope.specs.Cycle.{orderOf, eventRow}
 use Rattle.scope.specs.Spare.{delay, placeOf}
 use Rattle.scope.specs.Cases.{rowB}
 use Rattle.laws.specs.Diverted.{standing, WholeUntilArrival, Leaves}
@@ -23,10 +23,10 @@ cutAtOnce = 0 ∷ 0 ∷ []
 
 pub record Sharp : Type 0 where
   pub good : rules planB ≡ gives 0
-  pub leaves : Leaves byNumber (isCut cutAtOnce) planB 0 0 0
-  pub whole : WholeUntilArrival byNumber (isCut cutAtOnce) planB 0 0 (placeOf planB 0 0 .second)
-  pub d : delay byNumber (planB .messages) 0 (placeOf planB 0 0 .second) ≡ 2
-  pub notSooner : atTarget (standing byNumber (isCut cutAtOnce) planB 0 1) ≡ false
-  pub arrives : atTarget (standing byNumber (isCut cutAtOnce) planB 0 2) ≡ true
+  pub leaves : Leaves (orderOf planB) (isCut planB cutAtOnce) planB 0 0 0
+  pub whole : WholeUntilArrival (orderOf planB) (isCut planB cutAtOnce) planB 0 0 (placeOf planB 0 0 .second)
+  pub d : delay (orderOf planB) (planB .messages) 0 (placeOf planB 0 0 .second) ≡ 2
+  pub notSooner : atTarget (standing (orderOf planB) (isCut planB cutAtOnce) planB 0 1) ≡ false
+  pub arrives : atTarget (standing (orderOf planB) (isCut planB cutAtOnce) planB 0 2) ≡ true
   pub kindWithout : getD (eventRow planB []) 0 0 ≡ 2
   pub kindWith : getD (eventRow planB cutAtOnce) 0 0 ≡ 3

@@ -9,7 +9,7 @@ use Rattle.scope.specs.Outcome.{gives}
 use Rattle.scope.specs.Plan.{Plan, Place, pathOf}
 use Rattle.scope.specs.Good.{slotsRise, rules}
 use Rattle.scope.specs.Slot.{Position, onFirst, atTarget}
-use Rattle.scope.specs.Cuts.{pairs, cutSlot, cutLink}
+use Rattle.scope.specs.Cuts.{pairs, cutSlot, cutLink, cutsLink}
 use Rattle.scope.specs.Cycle.{events, eventRow, arrivals, positions, arrived, start}
 use Rattle.laws.specs.Message.{positionOf, standsAt, eventOf}
 
@@ -49,14 +49,14 @@ UntouchedRow =
     SameEvent (length ps) m i (events rank down owner 0 n ps) (events rank nothingDown owner 0 n ps)
 
 -- no pair of a list cuts a link of a first path at or before its slot there
-abbrev pub NotCutInTime : List ℕ → List Place → Type 0
-NotCutInTime cuts [] = Unit {0}
-NotCutInTime cuts (p ∷ ps) =
-    ((j : ℕ) → j < pairs cuts → cutLink cuts j ≡ p .link → p .slot < cutSlot cuts j) × NotCutInTime cuts ps
+abbrev pub NotCutInTime : Plan → List ℕ → List Place → Type 0
+NotCutInTime plan cuts [] = Unit {0}
+NotCutInTime plan cuts (p ∷ ps) =
+    ((j : ℕ) → j < pairs cuts → cutsLink plan (cutLink cuts j) (p .link) ≡ true → p .slot < cutSlot cuts j) × NotCutInTime plan cuts ps
 
 abbrev pub UntouchedByCuts : Type 0
 UntouchedByCuts =
-    (plan : Plan) (cuts : List ℕ) (m : ℕ) → rules plan ≡ gives 0 → m < length (plan .messages) → NotCutInTime cuts (pathOf plan m) →
+    (plan : Plan) (cuts : List ℕ) (m : ℕ) → rules plan ≡ gives 0 → m < length (plan .messages) → NotCutInTime plan cuts (pathOf plan m) →
     (i : ℕ) → i < plan .timeout → SameEvent (length (plan .messages)) m i (eventRow plan cuts) (eventRow plan [])
 
 -- in a replay without cuts all messages arrive by t, if their slots rise below t

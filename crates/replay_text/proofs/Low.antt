@@ -13,7 +13,7 @@ use Rattle.scope.specs.Lowest.{lowest}
 use Rattle.scope.specs.Good.{holds}
 use Rattle.scope.specs.Slot.{Position, onFirst, onSecond, Moved, moved, turn, turned, tries, nextSecond, act}
 use Rattle.scope.specs.Cuts.{isCut}
-use Rattle.scope.specs.Cycle.{byNumber, foremost, tableOf, moves, slot, nexts, numbers, events, start, eventRow}
+use Rattle.scope.specs.Cycle.{orderOf, foremost, tableOf, moves, slot, nexts, numbers, events, start, eventRow}
 use Rattle.view.specs.Lies.{PlanLies, MessageLies, PlaceLies, SecondLies}
 use Rattle.view.proofs.Parts.{numbers-length, numbers-at, places-length, places-at, message-count, path-at}
 
@@ -206,4 +206,4 @@ module _ (row : List ℕ) where
       let few : (j e : ℕ) → tableOf (planOf row) j e ≤ 64 = λ j e. omega (arith, table-low (planOf row) j e) in
       let l : length (start (planOf row)) ≡ length (planOf row .messages) = length-map (planOf row .messages) onFirst in
       all-at (eventRow (planOf row) cuts)
-      (events-low byNumber (isCut cuts) (tableOf (planOf row)) few 0 (planOf row .timeout) (start (planOf row)) (start-low h) (omega arith)) i
+      (events-low (orderOf (planOf row)) (isCut (planOf row) cuts) (tableOf (planOf row)) few 0 (planOf row .timeout) (start (planOf row)) (start-low h) (omega arith)) i

@@ -16,7 +16,8 @@ use Rattle.scope.specs.File.{rowOf}
 use Rattle.scope.specs.Cycle.{eventRow}
 use Rattle.scope.specs.Questions.{after, judge, readFile, replay}
 use Rattle.scope.specs.Cuts.{checkCuts}
-use Rattle.scope.specs.Lines.{cutsFrom, cutsOf, header, eventLine, eventLines, arrivedLine, refusedLine, listing, longestRow, longestEvents, replayText}
+use Rattle.scope.specs.Limits.{longestRow, longestEvents}
+use Rattle.scope.specs.Lines.{cutsFrom, cutsOf, header, eventLine, eventLines, arrivedLine, refusedLine, listing, replayText}
 use Rattle.cut_lines.specs.Reads.{Cuts}
 use Rattle.cut_lines.proofs.Enough.{enough, enough-cuts}
 use Rattle.cut_lines.proofs.Replay.{few-links, replay-enough}

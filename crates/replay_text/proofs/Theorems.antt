@@ -15,8 +15,8 @@ use Rattle.scope.specs.File.{walkFile, rowOf}
 use Rattle.scope.specs.Plan.{planOf}
 use Rattle.scope.specs.Cycle.{eventRow}
 use Rattle.scope.specs.Questions.{readFile, replay}
-use Rattle.scope.specs.Lines.{cutsFrom, cutsOf, refusedLine, longestRow, longestEvents, replayText}
-use Rattle.flow.specs.Longest.{longestFile}
+use Rattle.scope.specs.Lines.{cutsFrom, cutsOf, refusedLine, replayText}
+use Rattle.scope.specs.Limits.{longestFile, longestRow, longestEvents}
 use Rattle.flow.proofs.Theorems.{file-most, front-decides}
 use Rattle.view.proofs.Walked.{walked}
 use Rattle.view.proofs.Parts.{message-count, timeout-is}

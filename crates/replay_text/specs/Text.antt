@@ -6,7 +6,8 @@ use Rattle.scope.specs.File.{rowOf}
 use Rattle.scope.specs.Plan.{planOf}
 use Rattle.scope.specs.Cycle.{eventRow}
 use Rattle.scope.specs.Questions.{readFile, replay}
-use Rattle.scope.specs.Lines.{cutsOf, listing, longestRow, longestEvents}
+use Rattle.scope.specs.Limits.{longestRow, longestEvents}
+use Rattle.scope.specs.Lines.{cutsOf, listing}
 
 -- for a row and a cut list: the listing of the replay, or its refusal
 abbrev pub textOf : List ℕ → List ℕ → List ℕ

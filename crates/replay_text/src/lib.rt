@@ -4,22 +4,20 @@
 // input print what the whole prints is in proofs/Theorems.
 ghost use Rattle.listing.specs.Prints.{Says};
 ghost use Rattle.scope.specs.Questions.{replay};
-ghost use Rattle.scope.specs.Lines.{cutsOf, replayText, longestEvents};
+ghost use Rattle.scope.specs.Limits.{longestEvents};
+ghost use Rattle.scope.specs.Lines.{cutsOf, replayText};
 ghost use Rattle.replay_text.specs.Text.{textOf, mayList};
 use scope::Answer;
+use scope::limits;
 
-// The longest row, the longest row of events, and the numbers of 65 cuts, which are as many as can matter.
-const LONGEST_ROW: usize = 10405;
-
-const LONGEST_EVENTS: usize = 4096;
-
+// The numbers of 65 cuts, which are as many as can matter.
 const MOST_CUTS: usize = 130;
 
 // The listing of the replay of a row under a cut list: how many bytes, or refusal 1 to 10, 12, 13.
 fn played(row: &[u16], cuts: &[u16], out: &mut [u8]) -> Answer
     ensures { λ r. ⌜ Says (replay (now (row .entry)) (now (cuts .entry)) longestEvents) (textOf (now (row .entry)) (now (cuts .entry))) (now (out .entry)) (now (out .exit)) r ⌝ }
 {
-    let mut events = [0u16; LONGEST_EVENTS];
+    let mut events = [0u16; limits::EVENTS];
     let answer = replays::replay(row, cuts, &mut events);
     match answer {
         Answer::Gives(n) => listing::listing(n, row, &events, out),
@@ -41,7 +39,7 @@ fn played_input(row: &[u16], input: &[u8], out: &mut [u8]) -> Answer
 pub fn replay_text(file: &[u8], input: &[u8], out: &mut [u8]) -> Answer
     ensures { λ r. ⌜ Says (mayList (now (file .entry)) (now (input .entry))) (replayText (now (file .entry)) (now (input .entry))) (now (out .entry)) (now (out .exit)) r ⌝ }
 {
-    let mut row = [0u16; LONGEST_ROW];
+    let mut row = [0u16; limits::ROW];
     let read = plan::read_file(file, &mut row);
     match read {
         Answer::Gives(n) => played_input(&row[..n], input, out),

@@ -13,7 +13,7 @@ use Rattle.scope.specs.Outcome.{gives, refused}
 use Rattle.scope.specs.Plan.{Plan, messageCount, timeoutOf, planOf}
 use Rattle.scope.specs.Cuts.{checkCuts, isCut}
 use Rattle.scope.specs.Slot as S
-use Rattle.scope.specs.Cycle.{byNumber, tableOf, positions, events, arrived, start, arrivals, eventRow}
+use Rattle.scope.specs.Cycle.{byNumber, orderOf, tableOf, positions, events, arrived, start, arrivals, eventRow}
 use Rattle.scope.specs.Questions.{judge, replay}
 use Rattle.view.specs.Lies.{PlanLies}
 use Rattle.view.proofs.Parts.{message-count, link-count, timeout-is}
@@ -43,7 +43,7 @@ judged-may row room j h =
 pub numbers-needed : (plan : Plan) (cuts : List ℕ) → length (eventRow plan cuts) ≡ 2 * plan .timeout * length (plan .messages)
 unfolding eventRow
 numbers-needed plan cuts =
-    events-length byNumber (isCut cuts) (tableOf plan) (plan .timeout) 0 (start plan)
+    events-length (orderOf plan) (isCut plan cuts) (tableOf plan) (plan .timeout) 0 (start plan)
     ∙ ap (λ k. plan .timeout * (2 * k)) (length-map (plan .messages) S.onFirst)
     ∙ sym (mul-assoc (plan .timeout) 2 (length (plan .messages)))
     ∙ ap (λ k. k * length (plan .messages)) (mul-comm (plan .timeout) 2)
@@ -51,7 +51,7 @@ numbers-needed plan cuts =
 row-length : (row cuts : List ℕ) → length (eventRow (planOf row) cuts) ≡ timeoutOf row * (2 * messageCount row)
 unfolding eventRow
 row-length row cuts =
-    events-length byNumber (isCut cuts) (tableOf (planOf row)) (planOf row .timeout) 0 (start (planOf row))
+    events-length (orderOf (planOf row)) (isCut (planOf row) cuts) (tableOf (planOf row)) (planOf row .timeout) 0 (start (planOf row))
     ∙ ap (λ k. planOf row .timeout * (2 * k)) (length-map (planOf row .messages) S.onFirst ∙ message-count row)
     ∙ ap (λ k. k * (2 * messageCount row)) (timeout-is row)
 
@@ -88,7 +88,7 @@ module _ (row cuts entry : List ℕ) (good : Checked row cuts) (needed : ℕ) (n
   -- the arrivals, with the row of events
   module _ (h : needed ≤ length entry) (table from exit : List ℕ) (count : ℕ) (t : Table (tableOf (planOf row)) table) (f : Tells cuts 64 from)
       (p : Played row table from entry exit count) where
-    same : (j : ℕ) → j < 0 + timeoutOf row → (downOf from j ≡ isCut cuts j) × (ownerOf table j ≡ tableOf (planOf row) j)
+    same : (j : ℕ) → j < 0 + timeoutOf row → (downOf from j ≡ isCut (planOf row) cuts j) × (ownerOf table j ≡ tableOf (planOf row) j)
     same j g =
         let l = judged-lies row (good .judged) in
         let k : j < 64 = omega (arith, l .timeout) in (
@@ -100,14 +100,14 @@ module _ (row cuts entry : List ℕ) (good : Checked row cuts) (needed : ℕ) (n
     unfolding arrivals
     ends =
         p .arrivals
-        ∙ ap arrived (positions-same byNumber (downOf from) (isCut cuts) (ownerOf table) (tableOf (planOf row)) (timeoutOf row) 0 (start (planOf row)) same)
-        ∙ ap (λ u. arrived (positions byNumber (isCut cuts) (tableOf (planOf row)) 0 u (start (planOf row)))) (sym (timeout-is row))
+        ∙ ap arrived (positions-same byNumber (downOf from) (isCut (planOf row) cuts) (ownerOf table) (tableOf (planOf row)) (timeoutOf row) 0 (start (planOf row)) same)
+        ∙ ap (λ u. arrived (positions (orderOf (planOf row)) (isCut (planOf row) cuts) (tableOf (planOf row)) 0 u (start (planOf row)))) (sym (timeout-is row))
 
     tells-row : events byNumber (downOf from) (ownerOf table) 0 (timeoutOf row) (start (planOf row)) ≡ eventRow (planOf row) cuts
     unfolding eventRow
     tells-row =
-        events-same byNumber (downOf from) (isCut cuts) (ownerOf table) (tableOf (planOf row)) (timeoutOf row) 0 (start (planOf row)) same
-        ∙ ap (λ u. events byNumber (isCut cuts) (tableOf (planOf row)) 0 u (start (planOf row))) (sym (timeout-is row))
+        events-same byNumber (downOf from) (isCut (planOf row) cuts) (ownerOf table) (tableOf (planOf row)) (timeoutOf row) 0 (start (planOf row)) same
+        ∙ ap (λ u. events (orderOf (planOf row)) (isCut (planOf row) cuts) (tableOf (planOf row)) 0 u (start (planOf row))) (sym (timeout-is row))
 
     pub replay-gives : Replays row cuts entry exit (Gives count)
     unfolding replay

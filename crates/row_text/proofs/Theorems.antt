@@ -12,7 +12,8 @@ use Rattle.scope.specs.declared.Answer.{Answer}
 use Rattle.scope.specs.Outcome.{Outcome, gives, refused}
 use Rattle.scope.specs.File.{rowOf}
 use Rattle.scope.specs.Questions.{readFile}
-use Rattle.scope.specs.Lines.{decimal, refusedLine, longestRow}
+use Rattle.scope.specs.Limits.{longestRow}
+use Rattle.scope.specs.Lines.{decimal, refusedLine}
 use Rattle.text.proofs.Decimal.{decimal-small, decimal-large, decimal-most, decimal-all}
 use Rattle.listing.specs.Prints.{Prints}
 use Rattle.listing.proofs.Printing.{prints-only}

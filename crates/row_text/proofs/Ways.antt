@@ -9,7 +9,8 @@ use Rattle.scope.specs.declared.Answer.{Answer}
 use Rattle.scope.specs.Outcome.{gives, refused}
 use Rattle.scope.specs.File.{rowOf}
 use Rattle.scope.specs.Questions.{readFile}
-use Rattle.scope.specs.Lines.{refusedLine, longestRow}
+use Rattle.scope.specs.Limits.{longestRow}
+use Rattle.scope.specs.Lines.{refusedLine}
 use Rattle.text.specs.Text.{laid, Puts}
 use Rattle.text.proofs.Laid.{laid-front, laid-append, laid-none, length-laid}
 use Rattle.plan.specs.Answers.{Writes}

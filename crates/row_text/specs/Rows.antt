@@ -6,7 +6,8 @@ use lib.Dec.{ltb, leb, eqb}
 use Rattle.scope.specs.Outcome.{Outcome, gives, refused}
 use Rattle.scope.specs.File.{rowOf}
 use Rattle.scope.specs.Questions.{readFile}
-use Rattle.scope.specs.Lines.{decimal, isDigit, refusedLine, longestRow}
+use Rattle.scope.specs.Limits.{longestRow}
+use Rattle.scope.specs.Lines.{decimal, isDigit, refusedLine}
 
 -- the byte after a number of a row: a space, or a line feed after the last
 abbrev pub mark : List ℕ → ℕ

@@ -11,7 +11,7 @@ use Rattle.scope.specs.File.{rowOf, fileOf}
 use Rattle.scope.specs.Plan.{planOf}
 use Rattle.scope.specs.Cuts.{isCut}
 use Rattle.scope.specs.Slot.{onSecond, atTarget}
-use Rattle.scope.specs.Cycle.{byNumber, tableOf, start, positions, events, eventRow}
+use Rattle.scope.specs.Cycle.{orderOf, tableOf, start, positions, events, eventRow}
 use Rattle.scope.specs.Verdict.{FirstFailing}
 use Rattle.scope.specs.Questions.{readFile, writeFile, replay, slack, maySpare}
 
@@ -73,12 +73,12 @@ kindsOf messages m (suc slots) row = getD row (m * 2) 0 ∷ kindsOf messages m s
 abbrev pub kindsUnder : (ℕ → ℕ → Bool) → List ℕ → ℕ → List ℕ
 kindsUnder down row m =
     kindsOf (length (planOf row .messages)) m (planOf row .timeout)
-    (events byNumber down (tableOf (planOf row)) 0 (planOf row .timeout) (start (planOf row)))
+    (events (orderOf (planOf row)) down (tableOf (planOf row)) 0 (planOf row .timeout) (start (planOf row)))
 
 -- message m is at its target at a time
 abbrev pub thereAt : List ℕ → List ℕ → ℕ → ℕ → Bool
 thereAt row cuts m time =
-    atTarget (getD (positions byNumber (isCut cuts) (tableOf (planOf row)) 0 time (start (planOf row))) m (onSecond (0 ∷ [])))
+    atTarget (getD (positions (orderOf (planOf row)) (isCut (planOf row) cuts) (tableOf (planOf row)) 0 time (start (planOf row))) m (onSecond (0 ∷ [])))
 
 -- a row of the table: a question with its answer
 pub data Case : Type 0 where
@@ -106,7 +106,7 @@ Holds (same file row) =
 Holds (plays row cuts n events) =
     (replay row cuts (length events) ≡ gives n) × (eventRow (planOf row) cuts ≡ events)
 Holds (follows row cuts n m kinds) =
-    (replay row cuts 16 ≡ gives n) × (kindsUnder (isCut cuts) row m ≡ kinds)
+    (replay row cuts 16 ≡ gives n) × (kindsUnder (isCut (planOf row) cuts) row m ≡ kinds)
 Holds (arrives row cuts m time) = (thereAt row cuts m (time - 1) ≡ false) × (thereAt row cuts m time ≡ true)
 Holds (comesAndGoes row down m kinds) = kindsUnder down row m ≡ kinds
 Holds (spares row m p z) = (maySpare row m p ≡ gives 0) × (slack row m p ≡ z)

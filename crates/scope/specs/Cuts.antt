@@ -43,6 +43,10 @@ checkCuts plan cuts = unlessSome 12 (badPair plan cuts) (pairs cuts) (gives (pai
 abbrev pub isCutList : Plan → List ℕ → Bool
 isCutList plan cuts = not (some (badPair plan cuts) (pairs cuts))
 
+-- a pair that names link d cuts link e
+abbrev pub cutsLink : Plan → ℕ → ℕ → Bool
+cutsLink plan d e = eqb d e
+
 -- "A link is cut in its slot and every later one"
-unfoldable pub isCut : List ℕ → ℕ → ℕ → Bool
-isCut cuts i e = some (λ j. eqb (cutLink cuts j) e && leb (cutSlot cuts j) i) (pairs cuts)
+unfoldable pub isCut : Plan → List ℕ → ℕ → ℕ → Bool
+isCut plan cuts i e = some (λ j. cutsLink plan (cutLink cuts j) e && leb (cutSlot cuts j) i) (pairs cuts)

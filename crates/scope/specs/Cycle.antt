@@ -1,5 +1,5 @@
 -- The events of a cycle: every message in every slot, over any function that says which link is down in which slot, any table and any
--- order of the messages. "Message a comes before message b if its number is lower" is the order `byNumber`.
+-- order of the messages. "Message a comes before message b if its number is lower" is the order `byNumber`, which every plan has.
 use Prim.Native.Nat.{ℕ, zero, suc, _+_}
 use mathlib.Core.Bool.{Bool, cond, _&&_}
 use mathlib.Core.List.{List, [], _∷_, _++_, map}
@@ -14,6 +14,10 @@ use Rattle.scope.specs.Cuts.{isCut}
 -- the rank of a message: who has the lower rank goes first
 abbrev pub byNumber : ℕ → ℕ
 byNumber m = m
+
+-- the order of a plan's messages
+abbrev pub orderOf : Plan → ℕ → ℕ
+orderOf plan = byNumber
 
 -- of message m and those that try link e, the one that goes first: `tried` are the links tried, plus one, by message j and those after it
 unfoldable pub foremost : (ℕ → ℕ) → ℕ → ℕ → ℕ → List ℕ → ℕ
@@ -72,7 +76,7 @@ start plan = map onFirst (plan .messages)
 
 -- "The replay's answer is the number of messages at their targets at time t, with the row of events"
 unfoldable pub arrivals : Plan → List ℕ → ℕ
-arrivals plan cuts = arrived (positions byNumber (isCut cuts) (tableOf plan) 0 (plan .timeout) (start plan))
+arrivals plan cuts = arrived (positions (orderOf plan) (isCut plan cuts) (tableOf plan) 0 (plan .timeout) (start plan))
 
 unfoldable pub eventRow : Plan → List ℕ → List ℕ
-eventRow plan cuts = events byNumber (isCut cuts) (tableOf plan) 0 (plan .timeout) (start plan)
+eventRow plan cuts = events (orderOf plan) (isCut plan cuts) (tableOf plan) 0 (plan .timeout) (start plan)

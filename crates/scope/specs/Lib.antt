@@ -1,4 +1,5 @@
 -- Document 01, one module a section. A reader who believes these believes every promise of the code: each contract cites them.
+pub mod Limits
 pub mod Lowest
 pub mod Outcome
 pub mod Fields

@@ -6,11 +6,12 @@ use mathlib.Core.List.{List, [], _∷_, _++_}
 use lib.ListN.{length, getD}
 use lib.IntN.{ℤ, pos, negsuc}
 use lib.Dec.{ltb, leb, eqb}
+use Rattle.scope.specs.Limits.{longestRow, longestEvents}
 use Rattle.scope.specs.Outcome.{Outcome, gives, refused}
 use Rattle.scope.specs.File.{rowOf}
 use Rattle.scope.specs.Plan.{Plan, Place, planOf}
 use Rattle.scope.specs.Questions.{readFile, replay}
-use Rattle.scope.specs.Cycle.{eventRow, byNumber}
+use Rattle.scope.specs.Cycle.{eventRow, orderOf}
 use Rattle.scope.specs.Spare.{slackOf}
 use Rattle.scope.specs.Verdict.{Resistant, FirstFailing}
 
@@ -147,13 +148,6 @@ listing (gives n) plan row =
     header ++ (eventLines (length (plan .messages)) row 0 (plan .timeout * length (plan .messages)) ++ arrivedLine n (length (plan .messages)))
 listing (refused k p) plan row = refusedLine k p
 
--- the longest row, and the longest row of events
-abbrev pub longestRow : ℕ
-longestRow = 10405
-
-abbrev pub longestEvents : ℕ
-longestEvents = 4096
-
 -- what the replay program prints for a plan file and an input: the plan's refusal comes before the cuts'
 unfoldable pub replayText : List ℕ → List ℕ → List ℕ
 replayText file input = said (readFile file longestRow)
@@ -193,7 +187,7 @@ slackLine m p z =
 -- the slack lines of a message from place p on: "for each message and place with a second path, in order"
 abbrev pub slackLineOf : Plan → ℕ → ℕ → Place → List ℕ → List ℕ
 slackLineOf plan m p here [] = []
-slackLineOf plan m p here (e ∷ es) = slackLine m p (slackOf byNumber plan m here)
+slackLineOf plan m p here (e ∷ es) = slackLine m p (slackOf (orderOf plan) plan m here)
 
 unfoldable pub messageSlacks : Plan → ℕ → ℕ → List Place → List ℕ
 messageSlacks plan m p [] = []

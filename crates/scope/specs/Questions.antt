@@ -12,7 +12,7 @@ use Rattle.scope.specs.Row.{walkRow}
 use Rattle.scope.specs.Plan.{Plan, Place, planOf}
 use Rattle.scope.specs.Good.{rules}
 use Rattle.scope.specs.Cuts.{checkCuts, pairs}
-use Rattle.scope.specs.Cycle.{arrivals, eventRow, byNumber}
+use Rattle.scope.specs.Cycle.{arrivals, eventRow, orderOf}
 use Rattle.scope.specs.Verdict.{Resistant, FirstFailing}
 use Rattle.scope.specs.Spare.{slackOf, placeOf, noSecond}
 use Rattle.scope.specs.SecondPath.{shown}
@@ -55,7 +55,7 @@ maySpare row m p = andThen (judge row) (λ _. cond (noSecond (placeOf (planOf ro
 
 -- the slack of the second path of message m from place p
 unfoldable pub slack : List ℕ → ℕ → ℕ → ℤ
-slack row m p = slackOf byNumber (planOf row) m (placeOf (planOf row) m p)
+slack row m p = slackOf (orderOf (planOf row)) (planOf row) m (placeOf (planOf row) m p)
 
 -- the second path of message m from place p, as a part of the row
 unfoldable pub secondPath : List ℕ → ℕ → ℕ → List ℕ

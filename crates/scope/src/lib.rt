@@ -1,6 +1,8 @@
 // The words of document 01 that code and definitions share: what the next field of a plan is, and what an answer can be. The
 // rules themselves are in specs/, one file for each section of the document; docs/TRACE.md leads from each sentence to its name.
 
+pub mod limits;
+
 // A refusal: its number, and its place. One struct in every answer.
 pub struct Refusal {
     pub no: usize,

@@ -14,7 +14,7 @@ use Rattle.scope.specs.Outcome.{Outcome, gives, refused}
 use Rattle.scope.specs.Plan.{Place, numbersAt, secondStart, secondCount, placeCount, messageAt, planOf, pathOf}
 use Rattle.scope.specs.SecondPath.{messageIndex, placeIndex}
 use Rattle.scope.specs.Good.{rules, slotsRise}
-use Rattle.scope.specs.Cycle.{byNumber}
+use Rattle.scope.specs.Cycle.{byNumber, orderOf}
 use Rattle.scope.specs.Spare.{hasSecondThrough, entries, lowerThrough, delay, placeOf, noSecond}
 use Rattle.scope.specs.Questions.{judge, maySpare, slack}
 use Rattle.laws.proofs.Good.{good-rises}
@@ -64,8 +64,8 @@ slot-below t least d (q ∷ ps) (suc p) h l = slot-below t (q .slot + 1) d ps p 
 pub record Small (row : List ℕ) (m p : ℕ) : Type 0 where
   pub timeout : planOf row .timeout ≤ 64
   pub slot : placeOf (planOf row) m p .slot < planOf row .timeout
-  pub some : 1 ≤ delay byNumber (planOf row .messages) m (placeOf (planOf row) m p .second)
-  pub most : delay byNumber (planOf row .messages) m (placeOf (planOf row) m p .second) ≤ 1536
+  pub some : 1 ≤ delay (orderOf (planOf row)) (planOf row .messages) m (placeOf (planOf row) m p .second)
+  pub most : delay (orderOf (planOf row)) (planOf row .messages) m (placeOf (planOf row) m p .second) ≤ 1536
 
 pub small : (row : List ℕ) (m p : ℕ) → GoodRow row → There row m p → Small row m p
 small row m p g t =
@@ -126,7 +126,7 @@ unfolding slack
 slack-lies row m p h =
     let a = asked row m p h in
     let s = small row m p (a .good) (a .second) in
-    between (planOf row .timeout) (placeOf (planOf row) m p .slot) (delay byNumber (planOf row .messages) m (placeOf (planOf row) m p .second))
+    between (planOf row .timeout) (placeOf (planOf row) m p .slot) (delay (orderOf (planOf row)) (planOf row .messages) m (placeOf (planOf row) m p .second))
     (s .timeout) (s .slot) (s .some) (s .most)
 
 pub answer-lies : AnswerLies

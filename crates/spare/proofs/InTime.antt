@@ -12,7 +12,7 @@ use Rattle.scope.specs.Outcome.{Outcome, gives, refused, andThen, room}
 use Rattle.scope.specs.Plan.{Plan, planOf}
 use Rattle.scope.specs.Slot.{onFirst}
 use Rattle.scope.specs.Cuts.{pairs, badPair, checkCuts, isCut, isCutList}
-use Rattle.scope.specs.Cycle.{byNumber, tableOf, start, arrivals, eventRow}
+use Rattle.scope.specs.Cycle.{orderOf, tableOf, start, arrivals, eventRow}
 use Rattle.scope.specs.Questions.{judge, slack, replay}
 use Rattle.laws.proofs.Replay.{lengths-kept}
 use Rattle.laws.proofs.Slack.{slack-under-cuts}
@@ -27,7 +27,7 @@ slack-in-time row cuts m p s n may is list d =
     let a = asked row m p may in
     let plan = planOf row in
     let kept : length (atTimeout plan cuts) ≡ length (start plan) =
-    lengths-kept .ofPositions byNumber (isCut cuts) (tableOf plan) 0 (plan .timeout) (start plan) in
+    lengths-kept .ofPositions (orderOf plan) (isCut plan cuts) (tableOf plan) 0 (plan .timeout) (start plan) in
     let all : length (start plan) ≡ length (plan .messages) = length-map (plan .messages) onFirst in
     record {
       among = omega (arith, kept, all, message-count row, a .second .message);

@@ -9,7 +9,7 @@ use lib.Dec.{eqb, ltb}
 use Rattle.scope.specs.Plan.{Place, at, placeCount, numbersAt, placeAt, placesAt, placeSize, secondAt, messageAt, messagesAt, afterMessage, afterMessages, planOf, firstMessage, messageCount}
 use Rattle.scope.specs.SecondPath.{messageIndex}
 use Rattle.scope.specs.Good.{has}
-use Rattle.scope.specs.Cycle.{byNumber}
+use Rattle.scope.specs.Cycle.{byNumber, orderOf}
 use Rattle.scope.specs.Spare.{entriesOf, entries, hasSecondThrough, lowerThrough, delay}
 use Rattle.view.proofs.Parts.{places-all, places-more, places-none}
 
@@ -154,20 +154,20 @@ module _ (row : List ℕ) where
 
   -- D over the links left
   module _ (m : ℕ) where
-    pub delay-all : (i n : ℕ) → 0 + delay byNumber (planOf row .messages) m (numbersAt row (i + 0) (n - 0)) ≡ delay byNumber (planOf row .messages) m (numbersAt row i n)
+    pub delay-all : (i n : ℕ) → 0 + delay (orderOf (planOf row)) (planOf row .messages) m (numbersAt row (i + 0) (n - 0)) ≡ delay (orderOf (planOf row)) (planOf row .messages) m (numbersAt row i n)
     delay-all i n = let a : i + 0 ≡ i = omega arith in let b : n - 0 ≡ n = omega arith in rw (a, b) (omega arith)
 
     pub delay-on : (i n k e a b sum all : ℕ) → k < n → e ≡ at row (i + k) → a ≡ entries e (planOf row .messages) → b ≡ lowerThrough byNumber m e 0 (planOf row .messages) →
-        sum + delay byNumber (planOf row .messages) m (numbersAt row (i + k) (n - k)) ≡ all →
-        sum + 1 + a + b + delay byNumber (planOf row .messages) m (numbersAt row (i + (k + 1)) (n - (k + 1))) ≡ all
+        sum + delay (orderOf (planOf row)) (planOf row .messages) m (numbersAt row (i + k) (n - k)) ≡ all →
+        sum + 1 + a + b + delay (orderOf (planOf row)) (planOf row .messages) m (numbersAt row (i + (k + 1)) (n - (k + 1))) ≡ all
     unfolding delay
     delay-on i n k e a b sum all h is entered lower inv =
         let f : i + (k + 1) ≡ i + k + 1 = omega arith in
         let now : sum + (1 + entries (at row (i + k)) (planOf row .messages) + lowerThrough byNumber m (at row (i + k)) 0 (planOf row .messages) +
-        delay byNumber (planOf row .messages) m (numbersAt row (i + k + 1) (n - (k + 1)))) ≡ all = rw (numbers-more (i + k) n k h) at inv in
+        delay (orderOf (planOf row)) (planOf row .messages) m (numbersAt row (i + k + 1) (n - (k + 1)))) ≡ all = rw (numbers-more (i + k) n k h) at inv in
         rw (entered, lower, is, f) (omega arith)
 
-    pub delay-none : (i n k sum all : ℕ) → n ≤ k → sum + delay byNumber (planOf row .messages) m (numbersAt row i (n - k)) ≡ all → sum ≡ all
+    pub delay-none : (i n k sum all : ℕ) → n ≤ k → sum + delay (orderOf (planOf row)) (planOf row .messages) m (numbersAt row i (n - k)) ≡ all → sum ≡ all
     unfolding delay
     delay-none i n k sum all h inv =
         let done : sum + 0 ≡ all = rw (numbers-none i n k h) at inv in

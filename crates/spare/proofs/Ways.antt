@@ -13,7 +13,7 @@ use Rattle.scope.specs.declared.Refusal.{Refusal}
 use Rattle.scope.specs.Outcome.{Outcome, gives, refused}
 use Rattle.scope.specs.Plan.{at, numbersAt, secondStart, secondCount, afterPlaces, placeCount, messageCount, timeoutOf, planOf}
 use Rattle.scope.specs.SecondPath.{messageIndex, placeIndex}
-use Rattle.scope.specs.Cycle.{byNumber}
+use Rattle.scope.specs.Cycle.{orderOf}
 use Rattle.scope.specs.Spare.{delay, placeOf, noSecond}
 use Rattle.scope.specs.Questions.{judge, maySpare, slack}
 use Rattle.view.proofs.Parts.{timeout-is}
@@ -98,8 +98,8 @@ module _ (row : List ℕ) (m p : ℕ) where
 
     -- a second path is there, at index a, and of the timeout t so much is used
     module _ (there : There row m p) (a t u : ℕ) (stands : a ≡ placeIndex row m p) (time : t ≡ timeoutOf row)
-        (uses : u ≡ at row (a + 1) + delay byNumber (planOf row .messages) m (numbersAt row (secondStart a) (secondCount row a))) where
-      used-is : u ≡ placeOf (planOf row) m p .slot + delay byNumber (planOf row .messages) m (placeOf (planOf row) m p .second)
+        (uses : u ≡ at row (a + 1) + delay (orderOf (planOf row)) (planOf row .messages) m (numbersAt row (secondStart a) (secondCount row a))) where
+      used-is : u ≡ placeOf (planOf row) m p .slot + delay (orderOf (planOf row)) (planOf row .messages) m (placeOf (planOf row) m p .second)
       used-is = rw (slot-is row m p there, second-is row m p there, ← stands) uses
 
       pub fits : (t < 2 ^ 30) × (u < 2 ^ 30)

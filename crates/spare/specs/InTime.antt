@@ -10,7 +10,7 @@ use Rattle.scope.specs.Outcome.{gives}
 use Rattle.scope.specs.Plan.{Plan, planOf}
 use Rattle.scope.specs.Slot.{Position, atTarget}
 use Rattle.scope.specs.Cuts.{isCut, isCutList}
-use Rattle.scope.specs.Cycle.{byNumber, tableOf, start, positions, arrived}
+use Rattle.scope.specs.Cycle.{orderOf, tableOf, start, positions, arrived}
 use Rattle.scope.specs.Spare.{placeOf}
 use Rattle.scope.specs.Questions.{maySpare, slack, replay}
 use Rattle.laws.specs.Message.{positionOf}
@@ -20,7 +20,7 @@ use Rattle.spare.specs.Slack.{Slacks}
 
 -- where the messages stand at time t
 abbrev pub atTimeout : Plan → List ℕ → List Position
-atTimeout plan cuts = positions byNumber (isCut cuts) (tableOf plan) 0 (plan .timeout) (start plan)
+atTimeout plan cuts = positions (orderOf plan) (isCut plan cuts) (tableOf plan) 0 (plan .timeout) (start plan)
 
 -- message m is one of those that stand there, and it is at its target
 pub record InTime (plan : Plan) (cuts : List ℕ) (m : ℕ) : Type 0 where
@@ -29,8 +29,8 @@ pub record InTime (plan : Plan) (cuts : List ℕ) (m : ℕ) : Type 0 where
 
 -- in slot s message m leaves its first path at place p under these cuts, and that second path stays whole until it arrives
 pub record Diverted (plan : Plan) (cuts : List ℕ) (m p s : ℕ) : Type 0 where
-  pub leaves : Leaves byNumber (isCut cuts) plan m p s
-  pub whole : WholeUntilArrival byNumber (isCut cuts) plan m s (placeOf plan m p .second)
+  pub leaves : Leaves (orderOf plan) (isCut plan cuts) plan m p s
+  pub whole : WholeUntilArrival (orderOf plan) (isCut plan cuts) plan m s (placeOf plan m p .second)
 
 abbrev pub SlackInTime : Type 0
 SlackInTime =

@@ -10,7 +10,7 @@ ghost use lib.Dec.{eqb};
 ghost use lib.IntN.{subℕ};
 ghost use Rattle.scope.specs.Plan.{at, numbersAt, placesAt, secondAt, secondStart, secondCount, messageAt, messageCount, planOf};
 ghost use Rattle.scope.specs.Good.{has};
-ghost use Rattle.scope.specs.Cycle.{byNumber};
+ghost use Rattle.scope.specs.Cycle.{orderOf};
 ghost use Rattle.scope.specs.Spare.{entriesOf, entries, hasSecondThrough, lowerThrough, delay};
 ghost use Rattle.view.specs.View.{Is};
 ghost use Rattle.plan.specs.Answers.{GoodRow};
@@ -120,7 +120,7 @@ fn message_through(row: &[u16], e: usize, i: usize) -> usize
 // b(m, e): how many messages lower than m have a second path through link e.
 fn lower_through(row: &[u16], m: usize, e: usize) -> usize
     requires { ⌜ m ≤ messageCount (now row) ⌝ }
-    ensures { λ r. ⌜ Is (lowerThrough byNumber m e 0 (planOf (now (row .entry)) .messages)) m r ⌝ }
+    ensures { λ r. ⌜ Is (lowerThrough (orderOf (planOf (now (row .entry)))) m e 0 (planOf (now (row .entry)) .messages)) m r ⌝ }
 {
     let mut sum: usize = 0;
     let mut at = view::message_index(row, 0);
@@ -136,7 +136,7 @@ fn lower_through(row: &[u16], m: usize, e: usize) -> usize
 // D: the sum, over the links of a second path at an index, of 1 + a(e) + b(m, e).
 fn delay(row: &[u16], m: usize, i: usize, n: usize) -> usize
     requires { ⌜ (i < 2 ^ 60) × ((n ≤ 65536) × (m ≤ messageCount (now row))) ⌝ }
-    ensures { λ r. ⌜ Is (delay byNumber (planOf (now (row .entry)) .messages) m (numbersAt (now (row .entry)) i n)) (n * 4295032833) r ⌝ }
+    ensures { λ r. ⌜ Is (delay (orderOf (planOf (now (row .entry)))) (planOf (now (row .entry)) .messages) m (numbersAt (now (row .entry)) i n)) (n * 4295032833) r ⌝ }
 {
     let mut sum: usize = 0;
     let mut k = 0;
@@ -159,7 +159,7 @@ fn less(t: usize, used: usize) -> i32
 // The slot of the place at an index, and D of its second path for message m: what of the timeout is used.
 fn used(row: &[u16], m: usize, i: usize) -> usize
     requires { ⌜ (i < 2 ^ 59) × (m ≤ messageCount (now row)) ⌝ }
-    ensures { λ r. ⌜ r ≡ at (now (row .entry)) (i + 1) + delay byNumber (planOf (now (row .entry)) .messages) m (numbersAt (now (row .entry)) (secondStart i) (secondCount (now (row .entry)) i)) ⌝ }
+    ensures { λ r. ⌜ r ≡ at (now (row .entry)) (i + 1) + delay (orderOf (planOf (now (row .entry)))) (planOf (now (row .entry)) .messages) m (numbersAt (now (row .entry)) (secondStart i) (secondCount (now (row .entry)) i)) ⌝ }
 {
     view::number(row, i + 1) + delay(row, m, i + 4, view::number(row, i + 3) + 1)
 }

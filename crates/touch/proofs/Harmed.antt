@@ -13,7 +13,7 @@ use Rattle.scope.specs.Plan.{Plan, pathOf}
 use Rattle.scope.specs.Good.{rules}
 use Rattle.scope.specs.Slot.{Position, onFirst, atTarget}
 use Rattle.scope.specs.Cuts.{pairs, isCut}
-use Rattle.scope.specs.Cycle.{byNumber, tableOf, start, positions, arrivals}
+use Rattle.scope.specs.Cycle.{orderOf, tableOf, start, positions, arrivals}
 use Rattle.laws.specs.Message.{positionOf}
 use Rattle.laws.proofs.Good.{good-rises}
 use Rattle.laws.proofs.Table.{table-gives}
@@ -33,16 +33,16 @@ module _ (plan : Plan) (pre x : List ℕ) (d n s : ℕ) (g : rules plan ≡ give
   stays-there : atTarget (stands plan pre s m) ≡ true → atTarget (stands plan (pre ++ x) (plan .timeout) m) ≡ true
   stays-there h =
       let t = plan .timeout in
-      let down = isCut (pre ++ x) in
-      let ps = positions byNumber down (tableOf plan) 0 s (start plan) in
-      let same : ps ≡ positions byNumber (isCut pre) (tableOf plan) 0 s (start plan) =
-      depends-on-these-slots byNumber down (isCut pre) (tableOf plan) 0 s (start plan)
-      (λ i e a b. cut-before pre x d n s long rest later i e (omega arith)) .positionsAgree in
+      let down = isCut plan (pre ++ x) in
+      let ps = positions (orderOf plan) down (tableOf plan) 0 s (start plan) in
+      let same : ps ≡ positions (orderOf plan) (isCut plan pre) (tableOf plan) 0 s (start plan) =
+      depends-on-these-slots (orderOf plan) down (isCut plan pre) (tableOf plan) 0 s (start plan)
+      (λ i e a b. cut-before plan pre x d n s long rest later i e (omega arith)) .positionsAgree in
       let e : t ≡ s + (t - s) = omega arith in
       let now : atTarget (positionOf m ps) ≡ true = ap (λ (qs : List Position). atTarget (positionOf m qs)) same ∙ h in
       ap (λ (k : ℕ). atTarget (stands plan (pre ++ x) k m)) e ∙
-      ap (λ (qs : List Position). atTarget (positionOf m qs)) (positions-follow byNumber down (tableOf plan) 0 s (t - s) (start plan)) ∙
-      ap atTarget (at-target-stays byNumber down (tableOf plan) m (0 + s) ps now .there (t - s)) ∙ now
+      ap (λ (qs : List Position). atTarget (positionOf m qs)) (positions-follow (orderOf plan) down (tableOf plan) 0 s (t - s) (start plan)) ∙
+      ap atTarget (at-target-stays (orderOf plan) down (tableOf plan) m (0 + s) ps now .there (t - s)) ∙ now
 
   -- whom no pair touches arrives
   arrives : harm (hers (tableOf plan) m) pre (pairs pre) ≡ 0 → harm (hers (tableOf plan) m) x n ≡ 0 →
@@ -53,9 +53,9 @@ module _ (plan : Plan) (pre x : List ℕ) (d n s : ℕ) (g : rules plan ≡ give
       let none : harm weight (pre ++ x) (pairs (pre ++ x)) ≡ 0 =
       ap (harm weight (pre ++ x)) (pairs-both pre x d long n rest) ∙ harm-both weight pre x d long n ∙
       omega (arith, a, b, ap (harm weight pre) k) in
-      untouched-arrives byNumber (isCut (pre ++ x)) (tableOf plan) (plan .timeout) m (pathOf plan m) (start plan)
+      untouched-arrives (orderOf plan) (isCut plan (pre ++ x)) (tableOf plan) (plan .timeout) m (pathOf plan m) (start plan)
       (List·getD-map onFirst (plan .messages) m []) (good-rises plan g m)
-      (unharmed (tableOf plan) (plan .timeout) m 0 (pre ++ x) (pathOf plan m) small (good-rises plan g m) (table-gives plan g m) none)
+      (unharmed plan (tableOf plan) (plan .timeout) m 0 (pre ++ x) (pathOf plan m) small (good-rises plan g m) (table-gives plan g m) none)
 
   pub each-counts : 1 ≤ oneIf (atTarget (stands plan (pre ++ x) (plan .timeout) m)) +
       (oneIf (isTouched plan pre m && not (atTarget (stands plan pre s m))) + harm (hers (tableOf plan) m) x n)
@@ -76,12 +76,12 @@ pub loses-no-more-from : LosesNoMoreFrom
 unfolding arrivals
 loses-no-more-from plan pre x d n s g small early long rest later =
     let owner = tableOf plan in
-    let qs = positions byNumber (isCut (pre ++ x)) owner 0 (plan .timeout) (start plan) in
+    let qs = positions (orderOf plan) (isCut plan (pre ++ x)) owner 0 (plan .timeout) (start plan) in
     let there : ℕ → ℕ = λ m. oneIf (atTarget (positionOf m qs)) in
     let risk : ℕ → ℕ = λ m. oneIf (isTouched plan pre m && not (atTarget (stands plan pre s m))) in
     let more : ℕ → ℕ = λ m. harm (hers owner m) x n in
     let size : length qs ≡ length (plan .messages) =
-    lengths-kept .ofPositions byNumber (isCut (pre ++ x)) owner 0 (plan .timeout) (start plan) ∙ length-map (plan .messages) onFirst in
+    lengths-kept .ofPositions (orderOf plan) (isCut plan (pre ++ x)) owner 0 (plan .timeout) (start plan) ∙ length-map (plan .messages) onFirst in
     let each = sum-le (λ m. 1) (λ m. there m + (risk m + more m)) (length qs) (λ m l. each-counts plan pre x d n s g small early long rest later m) in
     omega (
       arith,

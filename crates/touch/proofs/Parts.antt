@@ -7,8 +7,9 @@ use mathlib.Core.List.{List, _++_}
 use lib.ListN.{length, getD, length-append, List·getD-append}
 use lib.Seq.{getD-append-add}
 use lib.Dec.{ltb, leb, eqb}
-use borrow.Author.Tests.{ltb-true, ltb-false, le-leb, eq-eqb}
-use Rattle.scope.specs.Cuts.{pairs, cutSlot, cutLink, isCut}
+use borrow.Author.Tests.{ltb-true, ltb-false, le-leb}
+use Rattle.scope.specs.Plan.{Plan}
+use Rattle.scope.specs.Cuts.{pairs, cutSlot, cutLink, cutsLink, isCut}
 use Rattle.laws.proofs.Cuts.{cut-pair, not-cut}
 use Rattle.touch.specs.Sums.{sumOf}
 use Rattle.touch.specs.Touch.{harm}
@@ -53,30 +54,31 @@ module _ (weight : ℕ → ℕ → ℕ) (pre x : List ℕ) (d : ℕ) (long : len
       rw e (omega (arith, harm-both n, last))
 
 -- a link that a pair names, at or before this slot
-is-cut : (cuts : List ℕ) (i e j : ℕ) → j < pairs cuts → cutLink cuts j ≡ e → cutSlot cuts j ≤ i → isCut cuts i e ≡ true
+is-cut : (plan : Plan) (cuts : List ℕ) (i e j : ℕ) → j < pairs cuts → cutsLink plan (cutLink cuts j) e ≡ true → cutSlot cuts j ≤ i → isCut plan cuts i e ≡ true
 unfolding isCut
-is-cut cuts i e j l same early =
-    some-one (λ k. eqb (cutLink cuts k) e && leb (cutSlot cuts k) i) (pairs cuts) j l (rw (eq-eqb (cutLink cuts j) e same, le-leb (cutSlot cuts j) i early))
+is-cut plan cuts i e j l same early =
+    some-one (λ k. cutsLink plan (cutLink cuts k) e && leb (cutSlot cuts k) i) (pairs cuts) j l (rw (same, le-leb (cutSlot cuts j) i early))
 
 -- before slot s a list cuts what its first part does
-pub cut-before : (pre x : List ℕ) (d n s : ℕ) → length pre ≡ 2 * d → length x ≡ 2 * n → NotBefore s x n → (i e : ℕ) → i < s →
-    isCut (pre ++ x) i e ≡ isCut pre i e
-cut-before pre x d n s long rest later i e h = by (isCut pre i e) refl
+pub cut-before : (plan : Plan) (pre x : List ℕ) (d n s : ℕ) → length pre ≡ 2 * d → length x ≡ 2 * n → NotBefore s x n → (i e : ℕ) → i < s →
+    isCut plan (pre ++ x) i e ≡ isCut plan pre i e
+cut-before plan pre x d n s long rest later i e h = by (isCut plan pre i e) refl
   where
-    by : (b : Bool) → isCut pre i e ≡ b → isCut (pre ++ x) i e ≡ b
+    by : (b : Bool) → isCut plan pre i e ≡ b → isCut plan (pre ++ x) i e ≡ b
     by true t =
-        let c = cut-pair pre i e t in
+        let c = cut-pair plan pre i e t in
         let l : c .0 < d = omega (arith, c .1) in
-        is-cut (pre ++ x) i e (c .0) (omega (arith, l, length-append pre x)) (link-left pre x d long (c .0) l ∙ c .2)
+        is-cut plan (pre ++ x) i e (c .0) (omega (arith, l, length-append pre x))
+        (ap (λ (k : ℕ). cutsLink plan k e) (link-left pre x d long (c .0) l) ∙ c .2)
         (omega (arith, slot-left pre x d long (c .0) l, c .3))
-    by false t = not-cut (pre ++ x) i e (λ j l same. each j l same (ltb j d) refl (ltb i (cutSlot pre j)) refl)
+    by false t = not-cut plan (pre ++ x) i e (λ j l same. each j l same (ltb j d) refl (ltb i (cutSlot pre j)) refl)
       where
-        each : (j : ℕ) → j < pairs (pre ++ x) → cutLink (pre ++ x) j ≡ e → (b : Bool) → ltb j d ≡ b → (a : Bool) → ltb i (cutSlot pre j) ≡ a →
+        each : (j : ℕ) → j < pairs (pre ++ x) → cutsLink plan (cutLink (pre ++ x) j) e ≡ true → (b : Bool) → ltb j d ≡ b → (a : Bool) → ltb i (cutSlot pre j) ≡ a →
             i < cutSlot (pre ++ x) j
         each j l same true u true v = omega (arith, ltb-true i (cutSlot pre j) v, slot-left pre x d long j (ltb-true j d u))
         each j l same true u false v =
             let low : j < d = ltb-true j d u in
-            absurd (true≢false (sym (is-cut pre i e j (omega arith) (sym (link-left pre x d long j low) ∙ same) (ltb-false i (cutSlot pre j) v)) ∙ t))
+            absurd (true≢false (sym (is-cut plan pre i e j (omega arith) (ap (λ (k : ℕ). cutsLink plan k e) (sym (link-left pre x d long j low)) ∙ same) (ltb-false i (cutSlot pre j) v)) ∙ t))
         each j l same false u a v =
             let at : d + (j - d) ≡ j = omega (arith, ltb-false j d u) in
             let right : cutSlot (pre ++ x) j ≡ cutSlot x (j - d) = rw at at (slot-right pre x d long (j - d)) in

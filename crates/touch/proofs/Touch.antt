@@ -7,13 +7,13 @@ use mathlib.Core.Bool.{Bool, true, false}
 use mathlib.Core.List.{List, [], _∷_}
 use lib.ListN.{length, length-map, List·getD-map}
 use lib.Dec.{ltb, eqb}
-use borrow.Author.Tests.{ltb-true, ltb-false, eq-eqb}
+use borrow.Author.Tests.{ltb-true, ltb-false, eq-eqb, eqb-true}
 use Rattle.scope.specs.Outcome.{gives}
-use Rattle.scope.specs.Plan.{Place, pathOf}
+use Rattle.scope.specs.Plan.{Plan, Place, pathOf}
 use Rattle.scope.specs.Good.{slotsRise}
 use Rattle.scope.specs.Slot.{Position, onFirst, atTarget}
 use Rattle.scope.specs.Cuts.{pairs, cutSlot, cutLink, isCut}
-use Rattle.scope.specs.Cycle.{byNumber, tableOf, start, positions, arrived, arrivals}
+use Rattle.scope.specs.Cycle.{orderOf, tableOf, start, positions, arrived, arrivals}
 use Rattle.laws.specs.Message.{positionOf}
 use Rattle.laws.specs.Untouched.{WholeInTime}
 use Rattle.laws.specs.Links.{TableGives}
@@ -52,12 +52,12 @@ counts owner m s i e a b h =
     omega (arith, term, ap oneIf (eq-eqb (owner (s + (i - s)) e) (m + 1) here))
 
 -- no pair that counts an entry of message m: its first path is not cut in time
-pub unharmed : (owner : ℕ → ℕ → ℕ) (t m least : ℕ) (cuts : List ℕ) (path : List Place) → t ≤ 64 → slotsRise t least path ≡ true → TableGives owner m path →
-    harm (hers owner m) cuts (pairs cuts) ≡ 0 → WholeInTime (isCut cuts) path
-unharmed owner t m least cuts [] small r own none = tt
-unharmed owner t m least cuts (p ∷ ps) small r own none = (
-  λ i l. not-cut cuts i (p .link) (λ j a b. by j a b (ltb i (cutSlot cuts j)) refl l),
-  unharmed owner t m (p .slot + 1) cuts ps small (rises t least p ps r .rest) (own .1) none,
+pub unharmed : (plan : Plan) (owner : ℕ → ℕ → ℕ) (t m least : ℕ) (cuts : List ℕ) (path : List Place) → t ≤ 64 → slotsRise t least path ≡ true → TableGives owner m path →
+    harm (hers owner m) cuts (pairs cuts) ≡ 0 → WholeInTime (isCut plan cuts) path
+unharmed plan owner t m least cuts [] small r own none = tt
+unharmed plan owner t m least cuts (p ∷ ps) small r own none = (
+  λ i l. not-cut plan cuts i (p .link) (λ j a b. by j a (eqb-true (cutLink cuts j) (p .link) b) (ltb i (cutSlot cuts j)) refl l),
+  unharmed plan owner t m (p .slot + 1) cuts ps small (rises t least p ps r .rest) (own .1) none,
 )
   where
     by : (j : ℕ) → j < pairs cuts → cutLink cuts j ≡ p .link → {i : ℕ} (b : Bool) → ltb i (cutSlot cuts j) ≡ b → i ≤ p .slot → i < cutSlot cuts j
@@ -81,9 +81,9 @@ unfolding arrivals
 loses-no-more plan cuts g small =
     let owner = tableOf plan in
     let t = plan .timeout in
-    let qs = positions byNumber (isCut cuts) owner 0 t (start plan) in
+    let qs = positions (orderOf plan) (isCut plan cuts) owner 0 t (start plan) in
     let size : length qs ≡ length (plan .messages) =
-    lengths-kept .ofPositions byNumber (isCut cuts) owner 0 t (start plan) ∙ length-map (plan .messages) onFirst in
+    lengths-kept .ofPositions (orderOf plan) (isCut plan cuts) owner 0 t (start plan) ∙ length-map (plan .messages) onFirst in
     let each = sum-le (λ m. 1) (λ m. oneIf (atTarget (positionOf m qs)) + harm (hers owner m) cuts (pairs cuts)) (length qs) (λ m l. fine m) in
     omega (
       arith,
@@ -96,17 +96,17 @@ loses-no-more plan cuts g small =
     )
   where
     fine : (m : ℕ) → 1 ≤
-        oneIf (atTarget (positionOf m (positions byNumber (isCut cuts) (tableOf plan) 0 (plan .timeout) (start plan)))) +
+        oneIf (atTarget (positionOf m (positions (orderOf plan) (isCut plan cuts) (tableOf plan) 0 (plan .timeout) (start plan)))) +
         harm (hers (tableOf plan) m) cuts (pairs cuts)
     fine m = by (ltb 0 (harm (hers (tableOf plan) m) cuts (pairs cuts))) refl
       where
         by : (b : Bool) → ltb 0 (harm (hers (tableOf plan) m) cuts (pairs cuts)) ≡ b → 1 ≤
-            oneIf (atTarget (positionOf m (positions byNumber (isCut cuts) (tableOf plan) 0 (plan .timeout) (start plan)))) +
+            oneIf (atTarget (positionOf m (positions (orderOf plan) (isCut plan cuts) (tableOf plan) 0 (plan .timeout) (start plan)))) +
             harm (hers (tableOf plan) m) cuts (pairs cuts)
         by true h = omega (arith, ltb-true 0 (harm (hers (tableOf plan) m) cuts (pairs cuts)) h)
         by false h =
             let none : harm (hers (tableOf plan) m) cuts (pairs cuts) ≡ 0 = omega (arith, ltb-false 0 (harm (hers (tableOf plan) m) cuts (pairs cuts)) h) in
-            let there = untouched-arrives byNumber (isCut cuts) (tableOf plan) (plan .timeout) m (pathOf plan m) (start plan)
+            let there = untouched-arrives (orderOf plan) (isCut plan cuts) (tableOf plan) (plan .timeout) m (pathOf plan m) (start plan)
             (List·getD-map onFirst (plan .messages) m []) (good-rises plan g m)
-            (unharmed (tableOf plan) (plan .timeout) m 0 cuts (pathOf plan m) small (good-rises plan g m) (table-gives plan g m) none) in
+            (unharmed plan (tableOf plan) (plan .timeout) m 0 cuts (pathOf plan m) small (good-rises plan g m) (table-gives plan g m) none) in
             omega (arith, ap oneIf there)

@@ -11,7 +11,7 @@ use Rattle.scope.specs.Plan.{Plan}
 use Rattle.scope.specs.Good.{rules}
 use Rattle.scope.specs.Slot.{Position, atTarget}
 use Rattle.scope.specs.Cuts.{pairs, cutSlot, isCut}
-use Rattle.scope.specs.Cycle.{byNumber, tableOf, start, positions, arrivals}
+use Rattle.scope.specs.Cycle.{orderOf, tableOf, start, positions, arrivals}
 use Rattle.laws.specs.Message.{positionOf}
 use Rattle.touch.specs.Sums.{sumOf, oneIf}
 use Rattle.touch.specs.Touch.{harm, touches}
@@ -26,7 +26,7 @@ isTouched plan cuts m = ltb 0 (harm (hers (tableOf plan) m) cuts (pairs cuts))
 
 -- where message m stands at time s
 abbrev pub stands : Plan → List ℕ → ℕ → ℕ → Position
-stands plan cuts s m = positionOf m (positions byNumber (isCut cuts) (tableOf plan) 0 s (start plan))
+stands plan cuts s m = positionOf m (positions (orderOf plan) (isCut plan cuts) (tableOf plan) 0 s (start plan))
 
 -- how many messages the list touches that are not at their targets at time s
 abbrev pub harmed : Plan → List ℕ → ℕ → ℕ

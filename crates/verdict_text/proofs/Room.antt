@@ -13,7 +13,7 @@ use borrow.Author.Tests.{le-leb, lt-leb}
 use Rattle.scope.specs.declared.Answer.{Answer}
 use Rattle.scope.specs.Plan.{Plan, Place, planOf, pathOf, placeCount, messageCount, linkCount, timeoutOf}
 use Rattle.scope.specs.SecondPath.{messageIndex}
-use Rattle.scope.specs.Cycle.{byNumber}
+use Rattle.scope.specs.Cycle.{orderOf}
 use Rattle.scope.specs.Spare.{slackOf}
 use Rattle.scope.specs.Lines.{resistantLine, failingLine, spaced, signed, slackLine, slackLineOf, messageSlacks, slackLines, highestK}
 use Rattle.view.specs.Lies.{PlanLies}
@@ -119,7 +119,7 @@ slack-size m p z g h =
 
 place-size : (plan : Plan) (m p : ℕ) (here : Place) (es : List ℕ) → m < 100 → p < 100 → length (slackLineOf plan m p here es) ≤ 34
 place-size plan m p here [] g h = omega arith
-place-size plan m p here (e ∷ es) g h = slack-size m p (slackOf byNumber plan m here) g h
+place-size plan m p here (e ∷ es) g h = slack-size m p (slackOf (orderOf plan) plan m here) g h
 
 message-size : (plan : Plan) (m p : ℕ) (path : List Place) → m < 100 → p + length path ≤ 100 → length (messageSlacks plan m p path) ≤ 34 * length path
 unfolding messageSlacks

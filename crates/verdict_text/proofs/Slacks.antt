@@ -16,7 +16,7 @@ use Rattle.scope.specs.declared.Refusal.{Refusal}
 use Rattle.scope.specs.Outcome.{gives, refused}
 use Rattle.scope.specs.Plan.{Plan, Place, planOf, pathOf, placeCount, messageCount}
 use Rattle.scope.specs.SecondPath.{messageIndex}
-use Rattle.scope.specs.Cycle.{byNumber}
+use Rattle.scope.specs.Cycle.{orderOf}
 use Rattle.scope.specs.Spare.{placeOf, noSecond, slackOf}
 use Rattle.scope.specs.Questions.{maySpare, slack}
 use Rattle.scope.specs.Lines.{slackLine, slackLineOf, messageSlacks, slackLines}
@@ -37,7 +37,7 @@ module _ (plan : Plan) (m p : ℕ) (here : Place) where
   none [] e = refl
   none (x ∷ es) e = absurd (let z : _≡_ {A = ℕ} 0 1 = cc in omega arith)
 
-  some : (es : List ℕ) → noSecond es ≡ false → slackLineOf plan m p here es ≡ slackLine m p (slackOf byNumber plan m here)
+  some : (es : List ℕ) → noSecond es ≡ false → slackLineOf plan m p here es ≡ slackLine m p (slackOf (orderOf plan) plan m here)
   some [] e = absurd (let z : _≡_ {A = ℕ} 0 1 = cc in omega arith)
   some (x ∷ es) e = refl
 

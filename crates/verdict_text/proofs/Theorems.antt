@@ -15,9 +15,9 @@ use Rattle.scope.specs.Outcome.{Outcome, gives, refused, outcomeOf}
 use Rattle.scope.specs.File.{walkFile, rowOf}
 use Rattle.scope.specs.Plan.{Plan, planOf}
 use Rattle.scope.specs.Questions.{readFile}
-use Rattle.scope.specs.Lines.{VerdictLine, resistant, failing, failingLine, UnderK, VerdictLines, VerdictText, slackLines, highestK, refusedLine, longestRow}
+use Rattle.scope.specs.Lines.{VerdictLine, resistant, failing, failingLine, UnderK, VerdictLines, VerdictText, slackLines, highestK, refusedLine}
 use Rattle.scope.proofs.Order.{first-once, resistant-or-failing}
-use Rattle.flow.specs.Longest.{longestFile}
+use Rattle.scope.specs.Limits.{longestFile, longestRow}
 use Rattle.flow.proofs.Theorems.{file-most, front-decides}
 use Rattle.text.specs.Text.{laid}
 use Rattle.text.proofs.Decimal.{decimal-all}

@@ -2,7 +2,7 @@
 use Prim.Native.Nat.{_+_, _-_, _*_, _≤_}
 use mathlib.Core.Path.{_≡_, sym, _∙_}
 use Rattle.scope.specs.Plan.{numbersAt, planOf}
-use Rattle.scope.specs.Cycle.{byNumber}
+use Rattle.scope.specs.Cycle.{orderOf}
 use Rattle.scope.specs.Spare.{delay}
 use borrow.Author.Needs.{needs}
 use native.Mathlib.Omega.{arith}
@@ -11,7 +11,7 @@ use Rattle.spare.proofs.delay.Statement.{statement}
 use Rattle.spare.proofs.delay.Tie as tie
 
 abbrev Inv-loop : tie.InvT-loop
-Inv-loop row m i n sum₀ k₀ sum k = (sum + delay byNumber (planOf row .messages) m (numbersAt row (i + k) (n - k)) ≡ delay byNumber (planOf row .messages) m (numbersAt row i n)) × (k ≤ n) × (sum ≤ k * 4295032833) × (m ≤ 65536)
+Inv-loop row m i n sum₀ k₀ sum k = (sum + delay (orderOf (planOf row)) (planOf row .messages) m (numbersAt row (i + k) (n - k)) ≡ delay (orderOf (planOf row)) (planOf row .messages) m (numbersAt row i n)) × (k ≤ n) × (sum ≤ k * 4295032833) × (m ≤ 65536)
 
 abbrev μ-loop : tie.MeasureT-loop
 μ-loop row m i n sum₀ k₀ sum k = n - k

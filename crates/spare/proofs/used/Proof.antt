@@ -3,7 +3,7 @@ use Prim.Native.Nat.{ℕ, _+_}
 use mathlib.Core.Path.{_∙_, ap, ap₂}
 use borrow.Author.Needs.{needs}
 use Rattle.scope.specs.Plan.{numbersAt, planOf}
-use Rattle.scope.specs.Cycle.{byNumber}
+use Rattle.scope.specs.Cycle.{orderOf}
 use Rattle.scope.specs.Spare.{delay}
 use Rattle.spare.proofs.used.Statement.{statement}
 use Rattle.spare.proofs.used.Tie as tie
@@ -37,7 +37,7 @@ returns c =
     let a = c .before .before .before .before .args in
     let row = a .row .now in
     ap₂ (λ (x y : ℕ). x + y) (c .before .before .number .ensures .is)
-    (c .delay .ensures .is ∙ ap (λ (k : ℕ). delay byNumber (planOf row .messages) (a .m) (numbersAt row (a .i + 4) (k + 1))) (c .before .number2 .ensures .is))
+    (c .delay .ensures .is ∙ ap (λ (k : ℕ). delay (orderOf (planOf row)) (planOf row .messages) (a .m) (numbersAt row (a .i + 4) (k + 1))) (c .before .number2 .ensures .is))
 
 pub used-spec : {M : Type 1} → statement M
 used-spec =

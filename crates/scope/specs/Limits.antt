@@ -1,0 +1,50 @@
+-- "V switches and hosts ("vertices", 1 to 64), E directed links (1 to 64), M messages (1 to 32) and a timeout t (1 to 64)", and what
+-- follows from these sizes. src/limits.rt has the same for code.
+use Prim.Native.Nat.{ℕ, _*_}
+
+abbrev pub mostVertices : ℕ
+mostVertices = 64
+
+abbrev pub mostLinks : ℕ
+mostLinks = 64
+
+abbrev pub mostMessages : ℕ
+mostMessages = 32
+
+abbrev pub mostSlots : ℕ
+mostSlots = 64
+
+-- the links of a path: their number less one has 4 bits
+abbrev pub mostPlaces : ℕ
+mostPlaces = 16
+
+-- a number for each slot and link, slot by slot
+abbrev pub tableSize : ℕ
+tableSize = 4096
+
+-- "The longest file is 7,348 bytes"; "the plan's row, at most 10,405 numbers"
+abbrev pub longestFile : ℕ
+longestFile = 7348
+
+abbrev pub longestRow : ℕ
+longestRow = 10405
+
+-- the bits of the fields of the longest file
+abbrev pub longestBits : ℕ
+longestBits = 58779
+
+-- "2 × t × M numbers"
+abbrev pub longestEvents : ℕ
+longestEvents = 4096
+
+-- "k (0 to 3)"
+abbrev pub mostCuts : ℕ
+mostCuts = 3
+
+-- a byte more than the longest file, so that a longer one is seen to be too long
+abbrev pub planRoom : ℕ
+planRoom = 7349
+
+-- a byte more than 65 cut lines can have: a list of more than 64 pairs names a link twice, so no more can matter
+abbrev pub cutsRoom : ℕ
+cutsRoom = 651

@@ -1,0 +1,33 @@
+// The sizes of document 01 and what follows from them, for code. specs/Limits has the same names for definitions and theorems: where
+// one of the two is changed alone, no proof that leans on it goes through.
+
+// "vertices", "directed links", "messages", "a timeout"; and how many links a first or second path may have.
+pub const VERTICES: usize = 64;
+
+pub const LINKS: usize = 64;
+
+pub const MESSAGES: usize = 32;
+
+pub const SLOTS: usize = 64;
+
+pub const PLACES: usize = 16;
+
+// A number for each slot and link, slot by slot.
+pub const TABLE: usize = SLOTS * LINKS;
+
+// The longest file in bytes, the longest row and the longest row of events in numbers.
+pub const FILE: usize = 7348;
+
+pub const ROW: usize = 10405;
+
+pub const EVENTS: usize = 2 * SLOTS * MESSAGES;
+
+// The most cuts that a verdict tries, and the numbers of their pairs.
+pub const CUTS: usize = 3;
+
+pub const CUT_NUMBERS: usize = 2 * CUTS;
+
+// What the programs read at most: a byte more than the longest file, and a byte more than 65 cut lines can have.
+pub const PLAN_ROOM: usize = FILE + 1;
+
+pub const CUTS_ROOM: usize = 651;
