@@ -110,10 +110,10 @@ lines-may row input =
     let whole : take (650 + length input) input ≡ input = take-all (650 + length input) input (omega arith) in
     ap (λ (t : List ℕ). replay row (cutsFrom 65 t 0) longestEvents) (sym whole) ∙ input-may row input (650 + length input) (omega arith)
 
-pub input-says : {row input entry exit : List ℕ} {n : ℕ} → length entry ≡ 130 → Cuts input entry exit n → {out out′ : List ℕ} {r : Answer} →
+pub input-says : (row : List ℕ) {input entry exit : List ℕ} {n : ℕ} → length entry ≡ 130 → Cuts input entry exit n → {out out′ : List ℕ} {r : Answer} →
     Says (replay row (take n exit) longestEvents) (textOf row (take n exit)) out out′ r →
     Says (replay row (cutsOf input) longestEvents) (textOf row (cutsOf input)) out out′ r
-input-says {row} {input} {entry} {exit} {n} l h s =
+input-says row {input} {entry} {exit} {n} l h s =
     let is = cuts-read input entry exit n l h in
     says-as (ap (λ (cuts : List ℕ). replay row cuts longestEvents) is ∙ lines-may row input) (ap (textOf row) is ∙ input-text row input) s
 

@@ -25,7 +25,8 @@ same-length : tie.Need-same-length
 same-length c = search needs
 
 returns : tie.Need-returns
-returns c = input-says (search needs) (c .before .before .before .before .before .before .cuts .ensures) (c .before .before .played .ensures)
+returns c =
+    input-says (c .before .before .before .before .before .before .before .before .before .before .before .args .row .now) (search needs) (c .before .before .before .before .before .before .cuts .ensures) (c .before .before .played .ensures)
 
 pub played-input-spec : {M : Type 1} → statement M
 played-input-spec =
