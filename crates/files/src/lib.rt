@@ -11,12 +11,6 @@ use libc::STDIN_FILENO;
 use libc::STDOUT_FILENO;
 use scope::Answer;
 
-// A byte more than the longest plan file has, so that a longer one is seen to be too long.
-pub const PLAN_ROOM: usize = 7349;
-
-// A byte more than 65 cut lines can have, which are as many as can matter (proofs/Enough of `cut_lines`).
-pub const INPUT_ROOM: usize = 651;
-
 // How many bytes came, or that a read failed: an error is never an end.
 pub enum Read {
     Bytes(usize),

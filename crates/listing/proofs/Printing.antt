@@ -1,6 +1,6 @@
 -- A text that was first laid over nothing, which tells how long it is, and then, where there is room, over the whole buffer.
 use Prim.Native.Nat.{ℕ, _+_, _≤_, _<_}
-use mathlib.Core.Path.{_≡_, refl, sym, _∙_, ap}
+use mathlib.Core.Path.{_≡_, refl, sym, _∙_, ap, subst}
 use mathlib.Core.List.{List, [], _++_}
 use native.Mathlib.Omega.{arith}
 use lib.ListN.{length}
@@ -72,20 +72,29 @@ module _ (text entry : List ℕ) (fits : length text ≤ length entry) where
       let e : outcomeOf r ≡ gives (length text) = p .answer ∙ has-room in
       record { answer = e; buffer = p .buffer ∙ ap (λ (o : Outcome). after o text entry) e }
 
-  pub printed-given : (may : Outcome) (n : ℕ) {exit : List ℕ} → Says may text entry exit (Gives n) → Printed text entry exit (Gives n)
-  printed-given (gives m) n s = printed (record { answer = s .answer; buffer = s .buffer })
-  printed-given (refused k p) n s = absurd (let e : gives n ≡ refused k p = s .answer in let z : _≡_ {A = ℕ} 0 1 = cc in omega arith)
+  gave : (may : Outcome) (n : ℕ) {exit : List ℕ} → Says may text entry exit (Gives n) → Printed text entry exit (Gives n)
+  gave (gives m) n s = printed (record { answer = s .answer; buffer = s .buffer })
+  gave (refused k p) n s = absurd (let e : gives n ≡ refused k p = s .answer in let z : _≡_ {A = ℕ} 0 1 = cc in omega arith)
 
-  pub printed-refused : (may : Outcome) → ((k p : ℕ) → may ≡ refused k p → text ≡ refusedLine k p) → (r : Refusal) {exit exit′ : List ℕ} {a : Answer} →
+  refuses : (may : Outcome) → ((k p : ℕ) → may ≡ refused k p → text ≡ refusedLine k p) → (r : Refusal) {exit exit′ : List ℕ} {a : Answer} →
       Says may text entry exit (Refused r) → Prints (refusedLine (r .no) (r .place)) exit exit′ a → Printed text entry exit′ a
   unfolding after
-  printed-refused (gives m) line r s p =
+  refuses (gives m) line r s p =
       absurd (let e : refused (r .no) (r .place) ≡ gives (length text) = s .answer ∙ has-room in let z : _≡_ {A = ℕ} 0 1 = cc in omega arith)
-  printed-refused (refused k q) line r {exit} {exit′} {a} s p =
+  refuses (refused k q) line r {exit} {exit′} {a} s p =
       let e : refused (r .no) (r .place) ≡ refused k q = s .answer in
       let is : text ≡ refusedLine (r .no) (r .place) = line (r .no) (r .place) (sym e) in
       let same : exit ≡ entry = s .buffer in
       printed (prints-as (sym is) (rw same at p))
+
+  -- under the name that the text has for the whole of what was read
+  module _ (may : Outcome) (whole : List ℕ) (is : text ≡ whole) (a : Answer) {exit : List ℕ} (s : Says may text entry exit a) where
+    pub printed-given : (n : ℕ) → a ≡ Gives n → Printed whole entry exit (Gives n)
+    printed-given n e = subst (λ (t : List ℕ). Printed t entry exit (Gives n)) is (gave may n (rw e at s))
+
+    pub printed-refused : (r : Refusal) → a ≡ Refused r → ((k p : ℕ) → may ≡ refused k p → text ≡ refusedLine k p) →
+        {exit′ : List ℕ} {b : Answer} → Prints (refusedLine (r .no) (r .place)) exit exit′ b → Printed whole entry exit′ b
+    printed-refused r e line {exit′} {b} p = subst (λ (t : List ℕ). Printed t entry exit′ b) is (refuses may line r (rw e at s) p)
 
 -- two outcomes that the statement allows are equal
 same-answer : (r s : Answer) → outcomeOf r ≡ outcomeOf s → r ≡ s
