@@ -8,7 +8,7 @@ use Rattle.files.specs.declared.Read.{Read}
 use Rattle.files.specs.declared.Read.the-variants.{Bytes, Failed}
 use Rattle.files.specs.Came.{Source, standardInput, Came, Reads}
 
-module _ {source : Source} {n : ℕ} {buffer : List ℕ} (c : Came source n buffer) where
+module _ (source : Source) (n : ℕ) (buffer : List ℕ) (c : Came source n buffer) where
   pub came-fits : n ≤ length buffer
   unfolding Came
   came-fits = c
@@ -16,5 +16,5 @@ module _ {source : Source} {n : ℕ} {buffer : List ℕ} (c : Came source n buff
   pub came-whole : n ≡ length (take n buffer)
   came-whole = sym (length-take-le n buffer came-fits)
 
-pub bytes-came : {r : Read} {n : ℕ} {buffer : List ℕ} → r ≡ Bytes n → Reads r buffer → Came standardInput n buffer
-bytes-came e h = (rw e at h) .0
+pub bytes-came : (r : Read) (n : ℕ) (buffer : List ℕ) → r ≡ Bytes n → Reads r buffer → Came standardInput n buffer
+bytes-came r n buffer e h = (rw e at h) .0
