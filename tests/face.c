@@ -128,6 +128,8 @@ static int lay_text(const char *which, const char *path) {
     if (strcmp(which, "replay") == 0) number = nuthatchet_replay_text(plan, long_plan, input, long_input, text, MOST, &place, &result);
     else if (strcmp(which, "row") == 0) number = nuthatchet_row_text(plan, long_plan, text, MOST, &place, &result);
     else number = nuthatchet_pack_text(input, long_input, text, MOST, &place, &result);
+    if (number != 0 && text[0] != 0) printf("a refusal has written ");
+    if (number != 0) number = nuthatchet_refusal_text(number, place, text, MOST, &place, &result);
     if (!refused(number)) fwrite(text, 1, result, stdout);
     else puts("");
     return 0;

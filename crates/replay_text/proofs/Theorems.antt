@@ -16,7 +16,7 @@ use Rattle.scope.specs.Plan.{planOf}
 use Rattle.scope.specs.Cycle.{eventRow}
 use Rattle.scope.specs.Questions.{readFile, replay}
 use Rattle.scope.specs.Lines.{cutsFrom, cutsOf, refusedLine, replayText}
-use Rattle.scope.specs.Limits.{longestFile, longestRow, longestEvents}
+use Rattle.scope.specs.Limits.{longestRow, longestEvents, planRoom, cutsRoom}
 use Rattle.view.proofs.Walked.{walked}
 use Rattle.view.proofs.Parts.{message-count, timeout-is}
 use Rattle.plan.proofs.Ways.{good-row}
