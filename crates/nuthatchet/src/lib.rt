@@ -230,7 +230,13 @@ pub extern "C" fn nuthatchet_refusal_text(
 ) -> usize
     ensures { λ r. ⌜ TellsText (gives 0) (refusedLine number at) (now (out .entry)) (now (out .exit)) r (now (place .exit)) (now (result .exit)) ⌝ }
 {
-    let answer = listing::refusal_text(Refusal { no: number, place: at }, out);
+    let answer = listing::refusal_text(
+        Refusal {
+            no: number,
+            place: at,
+        },
+        out,
+    );
     tell(answer, place, result)
 }
 

@@ -16,7 +16,6 @@ use Rattle.replay_text.specs.Text.{mayList}
 use Rattle.replay_text.proofs.Text.{text-line}
 use Rattle.replay_text.proofs.Theorems.{text-room, fronts}
 
-
 module _ (plan : List ℕ) (p : ℕ) (input : List ℕ) (i : ℕ) (entry exit : List ℕ) (a : Answer)
     (l : length plan ≡ planRoom) (m : length input ≡ cutsRoom) (room : length entry ≡ listingRoom)
     (s : Says (mayList (take p plan) (take i input)) (replayText (take p plan) (take i input)) entry exit a) where

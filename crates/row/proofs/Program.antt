@@ -16,7 +16,6 @@ use Rattle.row_text.specs.Rows.{rowText, rowTextRoom}
 use Rattle.row_text.proofs.Ways.{text-refused}
 use Rattle.row_text.proofs.Theorems.{text-room, front}
 
-
 module _ (plan : List ℕ) (p : ℕ) (entry exit : List ℕ) (a : Answer) (l : length plan ≡ planRoom) (room : length entry ≡ rowTextRoom)
     (s : Says (readFile (take p plan) longestRow) (rowText (take p plan)) entry exit a) where
   fits : length (rowText (take p plan)) ≤ length entry

@@ -33,7 +33,7 @@ same-length : tie.Need-same-length
 same-length c = search needs
 
 returns : tie.Need-returns
-returns c = 
+returns c =
     let known = c .before .before .before .before .before in
     let read = known .before .before .before .before .read-file .ensures in
     let gave = known .before .read .given .1 in

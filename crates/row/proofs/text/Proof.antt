@@ -32,7 +32,7 @@ same-length-2 : tie.Need-same-length-2
 same-length-2 c = search needs
 
 returns-2 : tie.Need-returns-2
-returns-2 c = 
+returns-2 c =
     let s = c .before .before .before .before .before .before .before .before .before .before .before .before .before .before in
     refuses (s .args .plan .now) (s .args .p) _ _ _ (s .pre .1) (s .pre .2) (c .before .before .before .before .before .before .before .before .before .row-text .ensures) _ (c .before .before .before .before .before .answer2 .given .1) _ _ (c .before .before .refusal-text .ensures)
 

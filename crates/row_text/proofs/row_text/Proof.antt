@@ -21,11 +21,11 @@ array-share-prefix-row : tie.Need-array-share-prefix-row
 array-share-prefix-row c = read-fit _ _ _ _ (c .before .before .before .before .read-file .ensures) _ (c .before .read .given .1)
 
 slice-aggregate-listed : tie.Need-slice-aggregate-listed
-slice-aggregate-listed c = 
+slice-aggregate-listed c =
     sym (length-take-le _ _ (read-fit _ _ _ _ (c .before .before .before .before .before .read-file .ensures) _ (c .before .before .read .given .1)))
 
 listed-requires : tie.Need-listed-requires
-listed-requires c κs = 
+listed-requires c κs =
     let known = c .before .before in
     let read = known .before .before .before .before .read-file .ensures in
     let gave = known .before .read .given .1 in
@@ -38,7 +38,7 @@ same-length : tie.Need-same-length
 same-length c = search needs
 
 returns : tie.Need-returns
-returns c = 
+returns c =
     let known = c .before .before .before .before .before in
     let read = known .before .before .before .before .read-file .ensures in
     let gave = known .before .read .given .1 in
