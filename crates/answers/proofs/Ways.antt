@@ -12,7 +12,7 @@ use borrow.Author.Tests.{lt-ltb, le-ltb, le-leb, lt-leb}
 use Rattle.scope.specs.declared.Answer.{Answer}
 use Rattle.scope.specs.declared.Answer.the-variants.{Gives, Refused}
 use Rattle.scope.specs.declared.Refusal.{Refusal}
-use Rattle.scope.specs.Outcome.{Outcome, gives, refused, outcomeOf}
+use Rattle.scope.specs.Outcome.{Outcome, gives, refused, refuse, outcomeOf}
 use Rattle.scope.specs.Plan.{Plan, planOf, messageCount, linkCount, timeoutOf, firstMessage, messagesAt}
 use Rattle.scope.specs.Slot.{onFirst}
 use Rattle.scope.specs.Cycle.{tableOf}
@@ -44,31 +44,29 @@ module _ (row : List ℕ) (k room : ℕ) (m : MayFillAll row k room) (t e n : �
       }
 
 -- the answers
-written : (o : Outcome) (plan : Plan) (k n p : ℕ) (entry : List ℕ) → o ≡ refused n p → After o plan k entry entry
-written o plan k n p entry e = rw e refl
+written : (o : Outcome) (plan : Plan) (k : ℕ) (entry : List ℕ) (r : Refusal) → o ≡ refused r → After o plan k entry entry
+written o plan k entry r e = rw e refl
 
-pub bad-row : (row : List ℕ) (k : ℕ) (entry : List ℕ) (r : Refusal) → judge row ≡ refused (r .no) (r .place) → AnswersAll row k entry entry (Refused r)
+refuses : (row : List ℕ) (k : ℕ) (entry : List ℕ) (r : Refusal) (a : Answer) → mayAnswer row k (length entry) ≡ refused r → outcomeOf a ≡ refused r →
+    AnswersAll row k entry entry a
+refuses row k entry r a e is = record { answer = is ∙ sym e; buffer = written (mayAnswer row k (length entry)) (planOf row) k entry r e }
+
+pub bad-row : (row : List ℕ) (k : ℕ) (entry : List ℕ) (r : Refusal) → judge row ≡ refused r → AnswersAll row k entry entry (Refused r)
 unfolding mayAnswer
-bad-row row k entry r e =
-    let o : mayAnswer row k (length entry) ≡ refused (r .no) (r .place) = rw e in
-    record { answer = sym o; buffer = written (mayAnswer row k (length entry)) (planOf row) k (r .no) (r .place) entry o }
+bad-row row k entry r e = refuses row k entry r (Refused r) (rw e) refl
 
 module _ (row : List ℕ) (k : ℕ) (entry : List ℕ) (j : Judged row) where
-  pub k-too-large : 3 < k → AnswersAll row k entry entry (Refused (record { no = 11; place = 0 }))
+  pub k-too-large : (a : Answer) → 3 < k → outcomeOf a ≡ refuse 11 0 → AnswersAll row k entry entry a
   unfolding mayAnswer
-  k-too-large h =
-      let o : mayAnswer row k (length entry) ≡ refused 11 0 = rw (j .good, lt-ltb 3 k h) in
-      record { answer = sym o; buffer = written (mayAnswer row k (length entry)) (planOf row) k 11 0 entry o }
+  k-too-large a h is = refuses row k entry _ a (rw (j .good, lt-ltb 3 k h)) is
 
   module _ (few : k ≤ 3) (m n : ℕ) (hm : m ≡ messageCount row) (hn : n ≡ 7 * (m + 1)) where
     room-is : needed (planOf row) ≡ n
     room-is = omega (arith, message-count row)
 
-    pub too-short : length entry < n → AnswersAll row k entry entry (Refused (record { no = 13; place = n }))
+    pub too-short : (a : Answer) → length entry < n → outcomeOf a ≡ refuse 13 n → AnswersAll row k entry entry a
     unfolding mayAnswer
-    too-short h =
-        let o : mayAnswer row k (length entry) ≡ refused 13 n = rw (j .good, le-ltb 3 k few, room-is, lt-leb n (length entry) h) in
-        record { answer = sym o; buffer = written (mayAnswer row k (length entry)) (planOf row) k 13 n entry o }
+    too-short a h is = refuses row k entry _ a (rw (j .good, le-ltb 3 k few, room-is, lt-leb n (length entry) h)) is
 
     module _ (enough : n ≤ length entry) where
       pub may-fill-all : MayFillAll row k (length entry)
@@ -101,7 +99,7 @@ said-once (gives n) plan k entry x y a b =
     sym (take-append-drop (needed plan) x) ∙
     ap₂ _++_ (fronts plan k x y (a .each) (b .each) (length (plan .messages) + 1) (omega arith)) (a .rest ∙ sym (b .rest)) ∙
     take-append-drop (needed plan) y
-said-once (refused n p) plan k entry x y a b = a ∙ sym b
+said-once (refused r) plan k entry x y a b = a ∙ sym b
 
 -- two outcomes that the statement allows are equal
 pub one-outcome : (row : List ℕ) (k : ℕ) (entry x y : List ℕ) (r s : Answer) → AnswersAll row k entry x r → AnswersAll row k entry y s → (r ≡ s) × (x ≡ y)

@@ -8,7 +8,7 @@ use mathlib.Core.List.{List, _∷_, _++_}
 use lib.ListN.{length, take, drop, replicate}
 use lib.Dec.{ltb}
 use Rattle.scope.specs.declared.Answer.{Answer}
-use Rattle.scope.specs.Outcome.{Outcome, gives, refused, outcomeOf, andThen, room}
+use Rattle.scope.specs.Outcome.{Outcome, gives, refused, refuse, outcomeOf, andThen, room}
 use Rattle.scope.specs.Plan.{Plan, planOf}
 use Rattle.scope.specs.Cuts.{pairs}
 use Rattle.scope.specs.Verdict.{Resistant, FirstFailing}
@@ -43,7 +43,7 @@ needed plan = 7 * (length (plan .messages) + 1)
 
 -- refusals 1 to 10; 11, "k above 3"; 13
 unfoldable pub mayAnswer : List ℕ → ℕ → ℕ → Outcome
-mayAnswer row k lent = andThen (judge row) (λ _. cond (ltb 3 k) (refused 11 0) (room (needed (planOf row)) lent))
+mayAnswer row k lent = andThen (judge row) (λ _. cond (ltb 3 k) (refuse 11 0) (room (needed (planOf row)) lent))
 
 -- every answer is there, and the rest is as it was
 pub record AllSaid (plan : Plan) (k : ℕ) (entry exit : List ℕ) : Type 0 where
@@ -52,7 +52,7 @@ pub record AllSaid (plan : Plan) (k : ℕ) (entry exit : List ℕ) : Type 0 wher
 
 abbrev pub After : Outcome → Plan → ℕ → List ℕ → List ℕ → Type 0
 After (gives n) plan k entry exit = AllSaid plan k entry exit
-After (refused number place) plan k entry exit = exit ≡ entry
+After (refused r) plan k entry exit = exit ≡ entry
 
 pub record AnswersAll (row : List ℕ) (k : ℕ) (entry exit : List ℕ) (r : Answer) : Type 0 where
   pub answer : outcomeOf r ≡ mayAnswer row k (length entry)

@@ -4,7 +4,7 @@
 use hunt::Asked;
 use hunt::Hunted;
 use scope::Answer;
-use scope::Refusal;
+use scope::refuse;
 use step::Position;
 ghost use Prim.Native.Nat.{_+_, _-_, _*_, _≤_, _<_};
 ghost use mathlib.Core.Path.{_≡_};
@@ -139,14 +139,11 @@ fn all_good(row: &[u16], k: usize, out: &mut [u16]) -> Answer
     ensures { λ r. ⌜ AnswersAll (now (row .entry)) k (now (out .entry)) (now (out .exit)) r ⌝ }
 {
     if 3 < k {
-        return Answer::Refused(Refusal { no: 11, place: 0 });
+        return refuse(11, 0);
     }
     let needed = 7 * (view::messages(row) + 1);
     if out.len() < needed {
-        return Answer::Refused(Refusal {
-            no: 13,
-            place: needed,
-        });
+        return refuse(13, needed);
     }
     fill(row, k, out);
     Answer::Gives(needed)

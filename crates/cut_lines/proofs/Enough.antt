@@ -10,7 +10,8 @@ use lib.Seq.{getD-take, take-all, length-take-le}
 use lib.Dec.{ltb, leb, eqb}
 use borrow.Author.Tests.{lt-ltb, ltb-true, ltb-false, ne-eqb, eqb-false, not-false}
 use Rattle.scope.specs.Lowest.{seek, lowest, some}
-use Rattle.scope.specs.Outcome.{Outcome, gives, refused, unlessSome}
+use Rattle.scope.proofs.Outcomes.{not-both}
+use Rattle.scope.specs.Outcome.{Outcome, gives, refuse, unlessSome}
 use Rattle.scope.specs.Plan.{Plan}
 use Rattle.scope.specs.Cuts.{pairs, cutSlot, cutLink, falls, badPair, checkCuts}
 use Rattle.scope.specs.Lines.{byteAt, isDigit, numberAt, numberSize, hasWord, isCutLine, slotIndex, spaceIndex, linkIndex, feedIndex, cutsFrom, cutsOf}
@@ -206,8 +207,8 @@ bad-front plan cuts many j h =
     five : {a a′ b b′ c c′ d d′ e e′ : Bool} → a ≡ a′ → b ≡ b′ → c ≡ c′ → d ≡ d′ → e ≡ e′ → (a || b || c || d || e) ≡ (a′ || b′ || c′ || d′ || e′)
     five p q r s t = rw (p, q, r, s, t)
 
-refuses : (test : ℕ → Bool) (n j : ℕ) (after : Outcome) → lowest test n ≡ j → j < n → unlessSome 12 test n after ≡ refused 12 j
-refuses test n j after e h = ap (λ (k : ℕ). cond (ltb k n) (refused 12 k) after) e ∙ rw (lt-ltb j n h)
+refuses : (test : ℕ → Bool) (n j : ℕ) (after : Outcome) → lowest test n ≡ j → j < n → unlessSome 12 test n after ≡ refuse 12 j
+refuses test n j after e h = ap (λ (k : ℕ). cond (ltb k n) (refuse 12 k) after) e ∙ rw (lt-ltb j n h)
 
 module _ (plan : Plan) (few : length (plan .links) ≤ 64) where
   -- among the first 65 pairs one is bad
@@ -241,7 +242,7 @@ module _ (plan : Plan) (few : length (plan .links) ≤ 64) where
       by false e = absurd (none (ltb-false (lowest (badPair plan cuts) 65) 65 e))
 
   -- a list of more than 65 pairs is refused as its first 65 are
-  many-refused : (cuts : List ℕ) → 130 < length cuts → checkCuts plan cuts ≡ refused 12 (lowest (badPair plan (take 130 cuts)) 65)
+  many-refused : (cuts : List ℕ) → 130 < length cuts → checkCuts plan cuts ≡ refuse 12 (lowest (badPair plan (take 130 cuts)) 65)
   unfolding checkCuts
   many-refused cuts many =
       let k = pairs cuts - 65 in
@@ -255,7 +256,7 @@ module _ (plan : Plan) (few : length (plan .links) ≤ 64) where
       in
       refuses (badPair plan cuts) (pairs cuts) _ (gives (pairs cuts)) low (omega arith)
 
-  front-refused : (cuts : List ℕ) → 130 < length cuts → checkCuts plan (take 130 cuts) ≡ refused 12 (lowest (badPair plan (take 130 cuts)) 65)
+  front-refused : (cuts : List ℕ) → 130 < length cuts → checkCuts plan (take 130 cuts) ≡ refuse 12 (lowest (badPair plan (take 130 cuts)) 65)
   unfolding checkCuts
   front-refused cuts many =
       let size = length-take-le 130 cuts (omega arith) in
@@ -275,8 +276,7 @@ module _ (plan : Plan) (few : length (plan .links) ≤ 64) where
     where
       by : (t : Bool) → ltb 130 (length cuts) ≡ t → take 130 cuts ≡ cuts
       by true e =
-          let r = many-refused cuts (ltb-true 130 (length cuts) e) in
-          absurd (let z : _≡_ {A = ℕ} 0 1 = cc in omega arith)
+          not-both (sym (many-refused cuts (ltb-true 130 (length cuts) e)) ∙ g)
       by false e = take-all 130 cuts (ltb-false 130 (length cuts) e)
 
   -- the first 65 lines of the first 650 bytes or more are refused as the whole text is, and give the same cuts where it is not

@@ -8,7 +8,9 @@ use lib.ListN.{length, getD, take}
 use lib.Dec.{ltb, eqb}
 use borrow.Author.Tests.{ltb-true}
 use Rattle.scope.specs.declared.Fields.{Fields}
-use Rattle.scope.specs.Outcome.{Outcome, gives, refused, andThen, room}
+use Rattle.scope.proofs.Outcomes.{not-both}
+use Rattle.scope.specs.declared.Refusal.{Refusal}
+use Rattle.scope.specs.Outcome.{Outcome, gives, refused, refuse, andThen, room}
 use Rattle.scope.specs.Fields.{opening, edition, step, width}
 use Rattle.scope.specs.Row.{walkFrom, walkRow}
 use Rattle.scope.specs.Plan.{Plan, planOf, at, linksAt, linkCount, firstLink}
@@ -25,22 +27,22 @@ unfolding walkFrom
 walk-more s i v vs n h = by (eqb (width s) 0) (ltb v (2 ^ width s)) refl h
   where
     by : (t u : Bool) → ltb v (2 ^ width s) ≡ u →
-        cond t (refused 4 i) (cond u (walkFrom (step s v) (i + 1) vs) (refused 3 i)) ≡ gives n →
+        cond t (refuse 4 i) (cond u (walkFrom (step s v) (i + 1) vs) (refuse 3 i)) ≡ gives n →
         (v < 2 ^ width s) × (walkFrom (step s v) (i + 1) vs ≡ gives n)
-    by true u p h = absurd (let z : _≡_ {A = ℕ} 0 1 = cc in omega arith)
+    by true u p h = not-both h
     by false true p h = (ltb-true v (2 ^ width s) p, h)
-    by false false p h = absurd (let z : _≡_ {A = ℕ} 0 1 = cc in omega arith)
+    by false false p h = not-both h
 
 few-first : (row : List ℕ) (n : ℕ) → walkRow row ≡ gives n → at row 2 < 64
 unfolding walkRow walkFrom
-few-first [] n h = absurd (let z : _≡_ {A = ℕ} 0 1 = cc in omega arith)
+few-first [] n h = not-both h
 few-first (e ∷ []) n h = omega arith
 few-first (e ∷ v ∷ []) n h = omega arith
 few-first (e ∷ v ∷ l ∷ row) n h = by (eqb e edition) h
   where
-    by : (t : Bool) → cond t (walkFrom opening 1 (v ∷ l ∷ row)) (refused 1 0) ≡ gives n → l < 64
+    by : (t : Bool) → cond t (walkFrom opening 1 (v ∷ l ∷ row)) (refuse 1 0) ≡ gives n → l < 64
     by true h = walk-more (step opening v) 2 l row n (walk-more opening 1 v (l ∷ row) n h .1) .0
-    by false h = absurd (let z : _≡_ {A = ℕ} 0 1 = cc in omega arith)
+    by false h = not-both h
 
 count-links : (row : List ℕ) (i n : ℕ) → length (linksAt row i n) ≡ n
 unfolding linksAt
@@ -56,7 +58,7 @@ few-links row n h = by (walkRow row) refl h
         let l = few-first row m e in
         let c = count-links row firstLink (linkCount row) in
         omega arith
-    by (refused k p) e h = absurd (let z : _≡_ {A = ℕ} 0 1 = cc in omega arith)
+    by (refused r) e h = not-both h
 
 -- the text of a replay of a row, from the outcome of its check of the cuts on
 finish : List ℕ → ℕ → List ℕ → Outcome → List ℕ
@@ -65,17 +67,17 @@ finish row lent cuts o =
     (planOf row) (eventRow (planOf row) cuts)
 
 -- it is the same for cuts that are refused, whatever they are
-finish-refused : (row : List ℕ) (lent : ℕ) (c d : List ℕ) (k p : ℕ) → finish row lent c (refused k p) ≡ finish row lent d (refused k p)
+finish-refused : (row : List ℕ) (lent : ℕ) (c d : List ℕ) (r : Refusal) → finish row lent c (refused r) ≡ finish row lent d (refused r)
 unfolding finish listing
-finish-refused row lent c d k p = refl
+finish-refused row lent c d r = refl
 
 -- the text of a replay
 abbrev textOf : List ℕ → ℕ → List ℕ → List ℕ
 textOf row lent cuts = listing (replay row cuts lent) (planOf row) (eventRow (planOf row) cuts)
 
-text-refused : (row : List ℕ) (lent : ℕ) (cuts : List ℕ) (k p : ℕ) → judge row ≡ refused k p → textOf row lent cuts ≡ refusedLine k p
+text-refused : (row : List ℕ) (lent : ℕ) (cuts : List ℕ) (r : Refusal) → judge row ≡ refused r → textOf row lent cuts ≡ refusedLine r
 unfolding replay listing
-text-refused row lent cuts k p e = rw e
+text-refused row lent cuts r e = rw e
 
 text-given : (row : List ℕ) (lent : ℕ) (cuts : List ℕ) (n : ℕ) → judge row ≡ gives n → textOf row lent cuts ≡ finish row lent cuts (checkCuts (planOf row) cuts)
 unfolding replay finish
@@ -88,9 +90,9 @@ module _ (row input : List ℕ) (lent m : ℕ) (enoughBytes : 650 ≤ m) where
   alike few (gives n) e =
       let same = enough-cuts (planOf row) few input m n enoughBytes e in
       ap (λ (c : List ℕ). finish row lent c (checkCuts (planOf row) c)) same
-  alike few (refused k p) e =
+  alike few (refused r) e =
       ap (finish row lent (cutsFrom 65 (take m input) 0)) (enough (planOf row) few input m enoughBytes ∙ e)
-      ∙ finish-refused row lent (cutsFrom 65 (take m input) 0) (cutsOf input) k p
+      ∙ finish-refused row lent (cutsFrom 65 (take m input) 0) (cutsOf input) r
       ∙ ap (finish row lent (cutsOf input)) (sym e)
 
   pub replay-enough :
@@ -103,4 +105,4 @@ module _ (row input : List ℕ) (lent m : ℕ) (enoughBytes : 650 ≤ m) where
           text-given row lent (cutsFrom 65 (take m input) 0) n e
           ∙ alike (few-links row n e) (checkCuts (planOf row) (cutsOf input)) refl
           ∙ sym (text-given row lent (cutsOf input) n e)
-      by (refused k p) e = text-refused row lent (cutsFrom 65 (take m input) 0) k p e ∙ sym (text-refused row lent (cutsOf input) k p e)
+      by (refused r) e = text-refused row lent (cutsFrom 65 (take m input) 0) r e ∙ sym (text-refused row lent (cutsOf input) r e)

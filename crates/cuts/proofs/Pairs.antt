@@ -8,7 +8,7 @@ use lib.ListN.{length}
 use lib.Dec.{ltb, leb, eqb}
 use borrow.Author.Tests.{lt-ltb, le-ltb, eq-eqb, ne-eqb, leb-true, leb-false}
 use Rattle.scope.specs.Lowest.{lowest}
-use Rattle.scope.specs.Outcome.{gives, refused}
+use Rattle.scope.specs.Outcome.{gives, refuse}
 use Rattle.scope.specs.Plan.{linkCount, timeoutOf, planOf}
 use Rattle.scope.specs.Cuts.{cutSlot, cutLink, pairs, falls, badPair, checkCuts}
 use Rattle.scope.proofs.Lowest.{seek-same}
@@ -77,7 +77,7 @@ module _ (row cuts : List ℕ) (n i t e : ℕ) (p : n ≡ pairs cuts) (q : t ≡
   first-is : lowest (badPair (planOf row) cuts) (pairs cuts) ≡ i
   first-is = seek-same (badPair (planOf row) cuts) (isBad t e cuts) (pairs cuts) 0 (λ j h g. bad-is j) ∙ sym s
 
-  pub check-some : i < n → refused 12 i ≡ checkCuts (planOf row) cuts
+  pub check-some : i < n → refuse 12 i ≡ checkCuts (planOf row) cuts
   unfolding checkCuts
   check-some h = rw (first-is, ← p, lt-ltb i n h)
 

@@ -2,7 +2,7 @@
 // It leans on specs/ of `scope` (Cuts, Outcome) and on the total read of `view`. No function but `bad_pair` and its parts asks
 // anything of the list, and no list is passed over further than its first bad pair.
 use scope::Answer;
-use scope::Refusal;
+use scope::refuse;
 use view::number;
 ghost use Prim.Native.Nat.{_+_, _*_, _<_, _^_};
 ghost use mathlib.Core.Path.{_≡_};
@@ -143,7 +143,7 @@ pub fn check(row: &[u16], cuts: &[u16]) -> Answer
     let n = count(cuts);
     let i = first_bad(view::timeout(row), view::links(row), cuts);
     if i < n {
-        Answer::Refused(Refusal { no: 12, place: i })
+        refuse(12, i)
     } else {
         Answer::Gives(n)
     }

@@ -9,7 +9,8 @@ use lib.ListN.{length, List·getD-eq-default}
 use lib.Dec.{ltb, leb, eqb}
 use borrow.Author.Tests.{lt-leb, ne-eqb, ltb-true, ltb-false, not-false}
 use Rattle.scope.specs.Lowest.{lowest, some}
-use Rattle.scope.specs.Outcome.{gives, refused}
+use Rattle.scope.proofs.Outcomes.{not-both}
+use Rattle.scope.specs.Outcome.{gives, refuse}
 use Rattle.scope.specs.Plan.{Plan, at, placesAt, placeSize, placeCount, afterPlaces, messageCount, planOf, pathOf}
 use Rattle.scope.specs.SecondPath.{messageIndex}
 use Rattle.scope.specs.Good.{holds}
@@ -61,9 +62,9 @@ module _ (plan : Plan) (cuts : List ℕ) (n : ℕ) (good : checkCuts plan cuts �
   unfolding checkCuts
   none-bad = by (some (badPair plan cuts) (pairs cuts)) refl good
     where
-      by : (t : Bool) → some (badPair plan cuts) (pairs cuts) ≡ t → cond t (refused 12 (lowest (badPair plan cuts) (pairs cuts))) (gives (pairs cuts)) ≡ gives n →
+      by : (t : Bool) → some (badPair plan cuts) (pairs cuts) ≡ t → cond t (refuse 12 (lowest (badPair plan cuts) (pairs cuts))) (gives (pairs cuts)) ≡ gives n →
           some (badPair plan cuts) (pairs cuts) ≡ false
-      by true e g = absurd (let z : _≡_ {A = ℕ} 0 1 = cc in omega arith)
+      by true e g = not-both g
       by false e g = e
 
   link-small : (j : ℕ) → j < pairs cuts → cutLink cuts j < length (plan .links)

@@ -8,7 +8,8 @@ use lib.ListN.{length, getD, length-append}
 use lib.Dec.{ltb, leb, eqb}
 use borrow.Author.Tests.{eq-eqb, ne-eqb, lt-ltb, eqb-true, eqb-false, ltb-true, leb-true}
 use Rattle.scope.specs.declared.Fields.{Fields}
-use Rattle.scope.specs.Outcome.{gives, refused}
+use Rattle.scope.proofs.Outcomes.{not-both}
+use Rattle.scope.specs.Outcome.{gives, refuse}
 use Rattle.scope.specs.Fields.{width, step}
 use Rattle.scope.specs.Row.{walkFrom}
 use Rattle.scope.specs.Bits.{bitsOf, fieldAt}
@@ -16,9 +17,6 @@ use Rattle.scope.specs.File.{walkBits, fieldsOf, packed}
 use Rattle.bits.proofs.Laws.{AreBits, field-small, length-bitsOf}
 use Rattle.grammar.proofs.Most.{most, numbers, wide, falls, width-most, number-small}
 use Rattle.flow.proofs.Walk.{fields-end, fields-step}
-
-pub not-both : {A : Type 0} (n k p : ℕ) → refused k p ≡ gives n → A
-not-both n k p e = let z : _≡_ {A = ℕ} 0 1 = cc in absurd (omega arith)
 
 -- the numbers of a row from a field on
 pub data Walks : Fields → List ℕ → Type 0 where
@@ -29,16 +27,16 @@ pub walks : (s : Fields) (i n : ℕ) (vs : List ℕ) → walkFrom s i vs ≡ giv
 unfolding walkFrom
 walks s i n [] e = by (eqb (width s) 0) refl e
   where
-    by : (t : Bool) → eqb (width s) 0 ≡ t → cond t (gives i) (refused 2 i) ≡ gives n → Walks s []
+    by : (t : Bool) → eqb (width s) 0 ≡ t → cond t (gives i) (refuse 2 i) ≡ gives n → Walks s []
     by true z e = done (eqb-true (width s) 0 z)
-    by false z e = not-both n 2 i e
+    by false z e = not-both e
 walks s i n (v ∷ vs) e = by (eqb (width s) 0) refl (ltb v (2 ^ width s)) refl (walks (step s v) (i + 1) n vs) e
   where
     by : (t : Bool) → eqb (width s) 0 ≡ t → (u : Bool) → ltb v (2 ^ width s) ≡ u → (walkFrom (step s v) (i + 1) vs ≡ gives n → Walks (step s v) vs) →
-        cond t (refused 4 i) (cond u (walkFrom (step s v) (i + 1) vs) (refused 3 i)) ≡ gives n → Walks s (v ∷ vs)
-    by true z u l more e = not-both n 4 i e
+        cond t (refuse 4 i) (cond u (walkFrom (step s v) (i + 1) vs) (refuse 3 i)) ≡ gives n → Walks s (v ∷ vs)
+    by true z u l more e = not-both e
     by false z true l more e = next (eqb-false (width s) 0 z) (ltb-true v (2 ^ width s) l) (more e)
-    by false z false l more e = not-both n 3 i e
+    by false z false l more e = not-both e
 
 pub walks-back : {s : Fields} {vs : List ℕ} (i : ℕ) → Walks s vs → walkFrom s i vs ≡ gives (i + length vs)
 unfolding walkFrom
@@ -101,18 +99,18 @@ pub goes : (bs : List ℕ) (end n : ℕ) (s : Fields) (p : ℕ) → walkBits n s
 unfolding walkBits
 goes bs end zero s p e = by (eqb (width s) 0) refl e
   where
-    by : (t : Bool) → eqb (width s) 0 ≡ t → cond t (gives p) (refused 2 p) ≡ gives end → Goes bs end zero s p
+    by : (t : Bool) → eqb (width s) 0 ≡ t → cond t (gives p) (refuse 2 p) ≡ gives end → Goes bs end zero s p
     by true z e = stop (eqb-true (width s) 0 z) (same-end p end e)
-    by false z e = not-both end 2 p e
+    by false z e = not-both e
 goes bs end (suc n) s p e =
     by (eqb (width s) 0) refl (leb (p + width s) (length bs)) refl (goes bs end n (step s (fieldAt bs p (width s))) (p + width s)) e
   where
     by : (t : Bool) → eqb (width s) 0 ≡ t → (u : Bool) → leb (p + width s) (length bs) ≡ u →
         (walkBits n (step s (fieldAt bs p (width s))) (p + width s) bs ≡ gives end → Goes bs end n (step s (fieldAt bs p (width s))) (p + width s)) →
-        cond t (gives p) (cond u (walkBits n (step s (fieldAt bs p (width s))) (p + width s) bs) (refused 2 p)) ≡ gives end → Goes bs end (suc n) s p
+        cond t (gives p) (cond u (walkBits n (step s (fieldAt bs p (width s))) (p + width s) bs) (refuse 2 p)) ≡ gives end → Goes bs end (suc n) s p
     by true z u l more e = stop (eqb-true (width s) 0 z) (same-end p end e)
     by false z true l more e = on (eqb-false (width s) 0 z) (leb-true (p + width s) (length bs) l) (more e)
-    by false z false l more e = not-both end 2 p e
+    by false z false l more e = not-both e
 
 -- it ends within the bits, and within what can follow
 pub goes-inside : {bs : List ℕ} {end n : ℕ} {s : Fields} {p : ℕ} → Goes bs end n s p → p ≤ length bs → end ≤ length bs

@@ -10,7 +10,7 @@ use lib.Dec.{eqb}
 use lib.Pow.{pow-pos}
 use borrow.Author.Tests.{eqb-true, eqb-false, le-ltb}
 use Rattle.scope.specs.declared.Fields.{Fields}
-use Rattle.scope.specs.Outcome.{Outcome, gives, refused, andThen}
+use Rattle.scope.specs.Outcome.{Outcome, gives, refused, refuse, andThen}
 use Rattle.scope.specs.Fields.{width, step, opening, edition}
 use Rattle.scope.specs.Bits.{bits, fieldAt, numberFrom}
 use Rattle.scope.specs.File.{walkBits, endsAt, walkFile}
@@ -74,7 +74,7 @@ walk-front bs k (suc n) (suc m) s p b l room f g =
         ∙ sym (bits-step bs s p m some inside)
 
 -- where so much follows the last field, it is refused
-far : (bs : List ℕ) (end : ℕ) → end + 8 ≤ length bs → endsAt bs end ≡ refused 4 end
+far : (bs : List ℕ) (end : ℕ) → end + 8 ≤ length bs → endsAt bs end ≡ refuse 4 end
 unfolding endsAt
 far bs end l = rw (le-ltb (length bs) (end + 8) l)
 
@@ -118,7 +118,7 @@ front-decides file more = by (eqb (fieldAt (bits file) 0 4) edition) refl
     after (gives end) w =
         let most : end ≤ 4 + wide opening = goes-bound (are-bits file) (goes (bits file) end (length (bits file)) opening 4 w) in
         far (bits short) end (omega (arith, long, wide-opening)) ∙ sym (far (bits file) end (omega (arith, kept, wide-opening)))
-    after (refused k p) w = refl
+    after (refused r) w = refl
 
     by : (t : Bool) → eqb (fieldAt (bits file) 0 4) edition ≡ t → walkFile short ≡ walkFile file
     by true t =

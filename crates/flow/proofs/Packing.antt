@@ -9,7 +9,8 @@ use lib.ListN.{length, getD, take, drop, replicate, length-append, drop-of-lengt
 use lib.Seq.{drop-cons, take-at, sets, sets-eq, length-take-le}
 use lib.Dec.{eqb}
 use Rattle.scope.specs.declared.Fields.{Fields}
-use Rattle.scope.specs.Outcome.{gives, refused}
+use Rattle.scope.proofs.Outcomes.{not-both}
+use Rattle.scope.specs.Outcome.{gives, refuse}
 use Rattle.scope.specs.Fields.{width, step, opening, edition}
 use Rattle.scope.specs.Row.{walkFrom, walkRow}
 use Rattle.scope.specs.Bits.{bitsOf, bits, bytesOf}
@@ -18,17 +19,17 @@ use Rattle.bits.proofs.Laws.{AreBytes, length-bitsOf, length-bits, bytes-bits, 
 use Rattle.scope.specs.Limits.{longestBits}
 use Rattle.flow.specs.Pack.{Fitting, Packed}
 use Rattle.grammar.proofs.Most.{wide-opening}
-use Rattle.flow.proofs.Accepted.{Walks, next, walks, walks-wide, not-both}
+use Rattle.flow.proofs.Accepted.{Walks, next, walks, walks-wide}
 
 -- an accepted row: its edition, and a walk over the rest
 pub row-walks : (row : List ℕ) (n : ℕ) → walkRow row ≡ gives n → Walks opening (drop 1 row)
 unfolding walkRow
-row-walks [] n e = not-both n 2 0 e
+row-walks [] n e = not-both e
 row-walks (v ∷ vs) n e = by (eqb v edition) e
   where
-    by : (t : Bool) → cond t (walkFrom opening 1 vs) (refused 1 0) ≡ gives n → Walks opening vs
+    by : (t : Bool) → cond t (walkFrom opening 1 vs) (refuse 1 0) ≡ gives n → Walks opening vs
     by true e = walks opening 1 n vs e
-    by false e = not-both n 1 0 e
+    by false e = not-both e
 
 pub row-bits-most : (row : List ℕ) → Walks opening (drop 1 row) → length (rowBits row) ≤ longestBits
 row-bits-most row h =

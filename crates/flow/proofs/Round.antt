@@ -10,7 +10,8 @@ use lib.Seq.{take-add, take-at, drop-at, drop-drop, length-take-le}
 use lib.Dec.{ltb, eqb}
 use borrow.Author.Tests.{eqb-true, ltb-true, ltb-false, lt-ltb}
 use Rattle.scope.specs.declared.Fields.{Fields}
-use Rattle.scope.specs.Outcome.{Outcome, gives, refused, andThen}
+use Rattle.scope.proofs.Outcomes.{not-both}
+use Rattle.scope.specs.Outcome.{Outcome, gives, refused, refuse, andThen}
 use Rattle.scope.specs.Fields.{width, step, opening, edition}
 use Rattle.scope.specs.Row.{walkFrom, walkRow}
 use Rattle.scope.specs.Bits.{bitsOf, bits, fieldAt, numberFrom, bytesOf}
@@ -20,7 +21,7 @@ use Rattle.scope.specs.Limits.{longestRow, longestFile}
 use Rattle.grammar.proofs.Most.{numbers-opening, wide-opening}
 use Rattle.flow.proofs.Walk.{bits-end, bits-step, fields-end, fields-step}
 use Rattle.flow.proofs.Tail.{and-split, zeros-are}
-use Rattle.flow.proofs.Accepted.{Walks, done, next, walks-back, walks-numbers, walks-turns, walks-small, Goes, stop, on, goes, goes-inside, goes-bound, goes-walks, not-both, same-end}
+use Rattle.flow.proofs.Accepted.{Walks, done, next, walks-back, walks-numbers, walks-turns, walks-small, Goes, stop, on, goes, goes-inside, goes-bound, goes-walks, same-end}
 use Rattle.flow.proofs.Whole.{file-opens}
 use Rattle.flow.proofs.Packing.{row-walks, row-bits-most, length-file}
 
@@ -36,10 +37,10 @@ pub ends-are : (bs : List ℕ) (e end : ℕ) → endsAt bs e ≡ gives end → (
 unfolding endsAt
 ends-are bs e end h = by (ltb (length bs) (e + 8) && zeros (drop e bs)) refl h
   where
-    by : (t : Bool) → (ltb (length bs) (e + 8) && zeros (drop e bs)) ≡ t → cond t (gives e) (refused 4 e) ≡ gives end →
+    by : (t : Bool) → (ltb (length bs) (e + 8) && zeros (drop e bs)) ≡ t → cond t (gives e) (refuse 4 e) ≡ gives end →
         (e ≡ end) × (length bs < e + 8) × (zeros (drop e bs) ≡ true)
     by true t h = let both = and-split (ltb (length bs) (e + 8)) (zeros (drop e bs)) t in (same-end e end h, ltb-true (length bs) (e + 8) (both .0), both .1)
-    by false t h = not-both end 4 e h
+    by false t h = not-both h
 
 pub accepts : (file : List ℕ) (end : ℕ) → walkFile file ≡ gives end → Accepts file end
 unfolding walkFile
@@ -59,15 +60,15 @@ accepts file end e = by (ltb (length (bits file)) 4) refl (eqb (fieldAt (bits fi
           last = omega (arith, are .0, are .1);
           fill = rw (are .0) at (are .2);
         }
-    walked (refused k p) l f w e = not-both end k p e
+    walked (refused r) l f w e = not-both e
 
     by : (t : Bool) → ltb (length (bits file)) 4 ≡ t → (u : Bool) → eqb (fieldAt (bits file) 0 4) edition ≡ u →
-        cond t (refused 2 0) (cond u (andThen (walkBits (length (bits file)) opening 4 (bits file)) (endsAt (bits file))) (refused 1 0)) ≡ gives end →
+        cond t (refuse 2 0) (cond u (andThen (walkBits (length (bits file)) opening 4 (bits file)) (endsAt (bits file))) (refuse 1 0)) ≡ gives end →
         Accepts file end
-    by true t u v e = not-both end 2 0 e
+    by true t u v e = not-both e
     by false t true v e =
         walked (walkBits (length (bits file)) opening 4 (bits file)) (ltb-false (length (bits file)) 4 t) (eqb-true (fieldAt (bits file) 0 4) edition v) refl e
-    by false t false v e = not-both end 1 0 e
+    by false t false v e = not-both e
 
 -- the fields of the bits, packed again, are those bits
 goes-packed : {bs : List ℕ} {end n : ℕ} {s : Fields} {p : ℕ} → AreBits bs → Goes bs end n s p → take p bs ++ packed s (fieldsOf n s p bs) ≡ take end bs
@@ -168,12 +169,12 @@ module _ (row : List ℕ) (n : ℕ) (walked : walkRow row ≡ gives n) where
   unfolding walkRow
   split = by row walked
     where
-      head : (t : Bool) (v : ℕ) (vs : List ℕ) → eqb v edition ≡ t → cond t (walkFrom opening 1 vs) (refused 1 0) ≡ gives n → v ∷ vs ≡ edition ∷ vs
+      head : (t : Bool) (v : ℕ) (vs : List ℕ) → eqb v edition ≡ t → cond t (walkFrom opening 1 vs) (refuse 1 0) ≡ gives n → v ∷ vs ≡ edition ∷ vs
       head true v vs t e = ap (λ (x : ℕ). x ∷ vs) (eqb-true v edition t)
-      head false v vs t e = not-both n 1 0 e
+      head false v vs t e = not-both e
 
       by : (r : List ℕ) → walkRow r ≡ gives n → r ≡ edition ∷ drop 1 r
-      by [] e = not-both n 2 0 e
+      by [] e = not-both e
       by (v ∷ vs) e = head (eqb v edition) v vs refl e
 
   long : length row ≡ suc (length (drop 1 row))

@@ -9,7 +9,7 @@ use lib.Seq.{take-all}
 use lib.Dec.{ltb, eqb}
 use lib.Pow.{pow-pos}
 use borrow.Author.Tests.{lt-ltb, le-ltb, eq-eqb, eqb-true}
-use Rattle.scope.specs.Outcome.{gives, refused}
+use Rattle.scope.specs.Outcome.{gives, refuse}
 use Rattle.scope.specs.Bits.{bits, numberFrom, fieldAt}
 use Rattle.scope.specs.File.{zeros, endsAt, wholeBytes}
 use Rattle.bits.proofs.Laws.{number-from, length-bits}
@@ -47,7 +47,7 @@ number-zeros (b ∷ bs) z =
     none (suc a) e = absurd (omega (arith, number-from (suc a) bs, pow-pos (length bs)))
 
 module _ (file : List ℕ) (end : ℕ) where
-  pub ends-more : wholeBytes end < length file → endsAt (bits file) end ≡ refused 4 end
+  pub ends-more : wholeBytes end < length file → endsAt (bits file) end ≡ refuse 4 end
   unfolding endsAt
   ends-more l = rw (le-ltb (length (bits file)) (end + 8) (rw length-bits (omega arith)))
 
@@ -62,10 +62,10 @@ module _ (file : List ℕ) (end : ℕ) where
         number-zeros (drop end (bits file)) (ap (numberFrom 0) (sym (rest e)) ∙ z),
       )
 
-  pub ends-one : wholeBytes end ≡ length file → (fieldAt (bits file) end (8 * wholeBytes end - end) ≡ 0 → ⊥) → endsAt (bits file) end ≡ refused 4 end
+  pub ends-one : wholeBytes end ≡ length file → (fieldAt (bits file) end (8 * wholeBytes end - end) ≡ 0 → ⊥) → endsAt (bits file) end ≡ refuse 4 end
   unfolding endsAt
   ends-one e h = by (zeros (drop end (bits file))) refl
     where
-      by : (t : Bool) → zeros (drop end (bits file)) ≡ t → cond (ltb (length (bits file)) (end + 8) && zeros (drop end (bits file))) (gives end) (refused 4 end) ≡ refused 4 end
+      by : (t : Bool) → zeros (drop end (bits file)) ≡ t → cond (ltb (length (bits file)) (end + 8) && zeros (drop end (bits file))) (gives end) (refuse 4 end) ≡ refuse 4 end
       by true z = absurd (h (ap (numberFrom 0) (rest e) ∙ zeros-number (drop end (bits file)) z))
       by false z = rw (z, lt-ltb (length (bits file)) (end + 8) (rw length-bits (omega arith)))

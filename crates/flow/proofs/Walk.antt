@@ -8,7 +8,7 @@ use lib.ListN.{length, getD, drop, drop-of-length-le}
 use lib.Seq.{drop-cons}
 use borrow.Author.Tests.{lt-ltb, le-ltb, le-leb, lt-leb, eq-eqb, ne-eqb}
 use Rattle.scope.specs.declared.Fields.{Fields}
-use Rattle.scope.specs.Outcome.{gives, refused}
+use Rattle.scope.specs.Outcome.{gives, refuse}
 use Rattle.scope.specs.Fields.{width, step, opening, edition}
 use Rattle.scope.specs.Row.{walkFrom, walkRow}
 use Rattle.scope.specs.Bits.{fieldAt}
@@ -20,15 +20,15 @@ module _ (row : List ℕ) (s : Fields) (i : ℕ) where
   unfolding walkFrom
   from-end l w = rw (drop-of-length-le row l, eq-eqb (width s) 0 w)
 
-  pub from-short : length row ≤ i → (width s ≡ 0 → ⊥) → walkFrom s i (drop i row) ≡ refused 2 i
+  pub from-short : length row ≤ i → (width s ≡ 0 → ⊥) → walkFrom s i (drop i row) ≡ refuse 2 i
   unfolding walkFrom
   from-short l w = rw (drop-of-length-le row l, ne-eqb (width s) 0 w)
 
-  pub from-more : i < length row → width s ≡ 0 → walkFrom s i (drop i row) ≡ refused 4 i
+  pub from-more : i < length row → width s ≡ 0 → walkFrom s i (drop i row) ≡ refuse 4 i
   unfolding walkFrom
   from-more l w = rw (drop-cons row i 0 l, eq-eqb (width s) 0 w)
 
-  pub from-large : i < length row → (width s ≡ 0 → ⊥) → 2 ^ width s ≤ getD row i 0 → walkFrom s i (drop i row) ≡ refused 3 i
+  pub from-large : i < length row → (width s ≡ 0 → ⊥) → 2 ^ width s ≤ getD row i 0 → walkFrom s i (drop i row) ≡ refuse 3 i
   unfolding walkFrom
   from-large l w v = rw (drop-cons row i 0 l, ne-eqb (width s) 0 w, le-ltb (getD row i 0) (2 ^ width s) v)
 
@@ -40,12 +40,12 @@ module _ (row : List ℕ) (s : Fields) (i : ℕ) where
       (ap (λ (n : ℕ). walkFrom (step s (getD row i 0)) (i + 1) (drop n row)) (sym (add-one i)))
 
 -- a row's first number
-pub row-none : (row : List ℕ) → length row ≡ 0 → walkRow row ≡ refused 2 0
+pub row-none : (row : List ℕ) → length row ≡ 0 → walkRow row ≡ refuse 2 0
 unfolding walkRow
 row-none [] l = refl
 row-none (v ∷ row) l = absurd (omega arith)
 
-pub row-edition : (row : List ℕ) → 0 < length row → (getD row 0 0 ≡ edition → ⊥) → walkRow row ≡ refused 1 0
+pub row-edition : (row : List ℕ) → 0 < length row → (getD row 0 0 ≡ edition → ⊥) → walkRow row ≡ refuse 1 0
 unfolding walkRow
 row-edition [] l h = absurd (omega arith)
 row-edition (v ∷ row) l h = rw (ne-eqb v 1 h)
@@ -65,11 +65,11 @@ module _ (bs : List ℕ) (s : Fields) (p n : ℕ) where
       by zero = rw (eq-eqb (width s) 0 w)
       by (suc n) = rw (eq-eqb (width s) 0 w)
 
-  pub bits-short : (width s ≡ 0 → ⊥) → length bs < p + width s → walkBits n s p bs ≡ refused 2 p
+  pub bits-short : (width s ≡ 0 → ⊥) → length bs < p + width s → walkBits n s p bs ≡ refuse 2 p
   unfolding walkBits
   bits-short w l = by n
     where
-      by : (n : ℕ) → walkBits n s p bs ≡ refused 2 p
+      by : (n : ℕ) → walkBits n s p bs ≡ refuse 2 p
       by zero = rw (ne-eqb (width s) 0 w)
       by (suc n) = rw (ne-eqb (width s) 0 w, lt-leb (p + width s) (length bs) l)
 

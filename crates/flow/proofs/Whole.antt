@@ -7,7 +7,7 @@ use native.Mathlib.Omega.{arith}
 use lib.ListN.{length, set}
 use lib.Dec.{ltb}
 use borrow.Author.Tests.{le-ltb, eq-eqb, ne-eqb}
-use Rattle.scope.specs.Outcome.{Outcome, gives, refused, andThen, outcomeOf}
+use Rattle.scope.specs.Outcome.{Outcome, gives, refuse, andThen, outcomeOf}
 use Rattle.scope.specs.Fields.{opening, edition}
 use Rattle.scope.specs.Bits.{bits, fieldAt}
 use Rattle.scope.specs.File.{walkBits, fieldsOf, endsAt, walkFile, rowOf}
@@ -18,7 +18,7 @@ use Rattle.flow.specs.Unpack.{Unpacks}
 use Rattle.grammar.proofs.Most.{wide-opening}
 use Rattle.flow.proofs.Accepted.{Goes, goes, goes-inside, goes-bound}
 
-pub empty-file : (file row : List ℕ) (r : Unpacked) → length file ≡ 0 → longestRow ≤ length row → outcomeOf (r .answer) ≡ refused 2 0 → r .count ≡ 1 →
+pub empty-file : (file row : List ℕ) (r : Unpacked) → length file ≡ 0 → longestRow ≤ length row → outcomeOf (r .answer) ≡ refuse 2 0 → r .count ≡ 1 →
     Unpacks file row (set row 0 edition) (walkFile file) r
 unfolding walkFile rowOf fieldsOf bits
 empty-file [] [] r none room is count = absurd (omega arith)
@@ -29,7 +29,7 @@ module _ (file : List ℕ) (some : length file ≡ 0 → ⊥) where
   enough : ltb (length (bits file)) 4 ≡ false
   enough = le-ltb (length (bits file)) 4 (rw length-bits (omega arith))
 
-  pub other-edition : (fieldAt (bits file) 0 4 ≡ edition → ⊥) → walkFile file ≡ refused 1 0
+  pub other-edition : (fieldAt (bits file) 0 4 ≡ edition → ⊥) → walkFile file ≡ refuse 1 0
   unfolding walkFile
   other-edition h = rw (enough, ne-eqb (fieldAt (bits file) 0 4) edition h)
 

@@ -5,11 +5,11 @@ use grammar::opening;
 use grammar::step;
 use grammar::width;
 use scope::Answer;
-use scope::Refusal;
+use scope::refuse;
 ghost use mathlib.Core.Path.{_≡_};
 ghost use Prim.Native.Nat.{_*_, _^_, _≤_, _<_};
 ghost use lib.ListN.{length};
-ghost use Rattle.scope.specs.Outcome.{outcomeOf, refused};
+ghost use Rattle.scope.specs.Outcome.{outcomeOf};
 ghost use Rattle.scope.specs.Row.{walkRow};
 ghost use Rattle.scope.specs.Bits.{bits};
 ghost use Rattle.scope.specs.File.{endsAt, walkFile, rowBits, fileOf};
@@ -21,13 +21,6 @@ ghost use Rattle.flow.specs.Pack.{Complete, Sized, Fitting, Packed};
 pub const LONGEST_ROW: usize = 10405;
 
 pub const LONGEST_FILE: usize = 7348;
-
-// A refusal, with its number and place.
-fn refuse(no: usize, place: usize) -> Answer
-    ensures { λ r. ⌜ outcomeOf r ≡ refused no place ⌝ }
-{
-    Answer::Refused(Refusal { no, place })
-}
 
 // Refusals 1 to 4 of a row, or how many numbers it has.
 pub fn walk_row(row: &[u16]) -> Answer

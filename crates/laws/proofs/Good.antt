@@ -8,7 +8,8 @@ use lib.ListN.{length, List·getD-eq-default}
 use lib.Dec.{ltb}
 use borrow.Author.Tests.{ltb-true, ltb-false, not-false}
 use Rattle.scope.specs.Lowest.{lowest}
-use Rattle.scope.specs.Outcome.{Outcome, gives, refused, unlessSome}
+use Rattle.scope.proofs.Outcomes.{not-both}
+use Rattle.scope.specs.Outcome.{Outcome, gives, refuse, unlessSome}
 use Rattle.scope.specs.Plan.{Plan, Place, pathOf}
 use Rattle.scope.specs.Good.{rules, badEnds, repeats, badFirstPath, badSlots, badTable, badSecondPath, slotsRise}
 use Rattle.scope.proofs.Lowest.{seek-low}
@@ -24,8 +25,8 @@ not-refused : (k : ℕ) (broken : ℕ → Bool) (n : ℕ) (after : Outcome) → 
     Keeps broken n × (after ≡ gives 0)
 not-refused k broken n after h = by (ltb (lowest broken n) n) refl h
   where
-    by : (b : Bool) → ltb (lowest broken n) n ≡ b → cond b (refused k (lowest broken n)) after ≡ gives 0 → Keeps broken n × (after ≡ gives 0)
-    by true e g = let z : _≡_ {A = ℕ} 0 1 = cc in absurd (omega arith)
+    by : (b : Bool) → ltb (lowest broken n) n ≡ b → cond b (refuse k (lowest broken n)) after ≡ gives 0 → Keeps broken n × (after ≡ gives 0)
+    by true e g = not-both g
     by false e g = (none-below broken n e, g)
 
 pub record KeepsRules (plan : Plan) : Type 0 where

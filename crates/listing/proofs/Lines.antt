@@ -6,6 +6,7 @@ use native.Mathlib.Omega.{arith}
 use native.Mathlib.Nat.{mul-le-mul}
 use lib.ListN.{length, getD, length-append}
 use Rattle.scope.specs.Lines.{decimal, header, eventLine, eventLines, arrivedLine, refusedLine, listing}
+use Rattle.scope.specs.declared.Refusal.{Refusal}
 use Rattle.scope.specs.Outcome.{gives, refused}
 use Rattle.scope.specs.Plan.{Plan, planOf, messageCount, timeoutOf, firstMessage, messagesAt, afterMessage}
 use Rattle.text.specs.Text.{Told}
@@ -63,11 +64,14 @@ arrived-size n m =
     let b = decimal-all m in
     simp length-append (omega arith)
 
-pub refused-told : (k p : ℕ) → Told 0 (refusedLine k p)
-refused-told k p =
-    let a = decimal-all k in
-    let b = decimal-all p in
-    record { fits = simp length-append (omega arith) }
+pub refused-size : (r : Refusal) → length (refusedLine r) ≤ 56
+refused-size r =
+    let a = decimal-all (r .no) in
+    let b = decimal-all (r .place) in
+    simp length-append (omega arith)
+
+pub refused-told : (r : Refusal) → Told 0 (refusedLine r)
+refused-told r = record { fits = omega (arith, refused-size r) }
 
 -- the parts of a listing with n arrivals, with m messages and timeout t
 abbrev pub replayText : ℕ → ℕ → ℕ → List ℕ → List ℕ
@@ -96,6 +100,6 @@ unfolding listing planOf
 replay-parts n row events m t p q =
     rw (count-messages row (firstMessage row) (messageCount row), p, q)
 
-pub refused-parts : (k p : ℕ) (plan : Plan) (events : List ℕ) → listing (refused k p) plan events ≡ refusedLine k p
+pub refused-parts : (r : Refusal) (plan : Plan) (events : List ℕ) → listing (refused r) plan events ≡ refusedLine r
 unfolding listing
-refused-parts k p plan events = refl
+refused-parts r plan events = refl

@@ -8,7 +8,8 @@ use borrow.Author.Tests.{le-leb, lt-leb}
 use Rattle.scope.specs.declared.Answer.{Answer}
 use Rattle.scope.specs.declared.Answer.the-variants.{Gives, Refused}
 use Rattle.scope.specs.declared.Refusal.{Refusal}
-use Rattle.scope.specs.Outcome.{Outcome, outcomeOf, gives, refused, andThen, room}
+use Rattle.scope.proofs.Outcomes.{not-both}
+use Rattle.scope.specs.Outcome.{Outcome, outcomeOf, gives, refused, refuse, andThen, room}
 use Rattle.scope.specs.Lines.{refusedLine}
 use Rattle.scope.specs.Questions.{after}
 use Rattle.text.specs.Text.{Puts, laid}
@@ -26,13 +27,13 @@ module _ {text b : List ℕ} {n : ℕ} (p : Puts text [] b 0 n) where
   same : (entry : List ℕ) → length (b ++ entry) ≡ length entry
   same entry = rw counted
 
-  pub prints-short : (entry : List ℕ) → length (b ++ entry) < n → Prints text entry (b ++ entry) (Refused (record { no = 13; place = n }))
+  pub prints-short : (entry : List ℕ) (a : Answer) → length (b ++ entry) < n → outcomeOf a ≡ refuse 13 n → Prints text entry (b ++ entry) a
   unfolding after
-  prints-short entry h =
+  prints-short entry a h is =
       let short : length entry < length text = omega (arith, needed, same entry) in
       record {
-        answer = rw (needed, lt-leb (length text) (length entry) short);
-        buffer = rw counted;
+        answer = is ∙ rw (needed, lt-leb (length text) (length entry) short);
+        buffer = rw (is, counted);
       }
 
   pub prints-whole : (entry : List ℕ) {c : List ℕ} {m : ℕ} → n ≤ length (b ++ entry) → Puts text (b ++ entry) c 0 m → Prints text entry c (Gives n)
@@ -57,7 +58,7 @@ pub says-given : {may : Outcome} {text entry exit : List ℕ} {r : Answer} (n : 
 says-given {may} {text} {entry} n e p =
     record { answer = p .answer ∙ sym (ap (λ (o : Outcome). andThen o (λ _. room (length text) (length entry))) e); buffer = p .buffer }
 
-pub says-refused : {may : Outcome} (text entry : List ℕ) (r : Refusal) → may ≡ refused (r .no) (r .place) → Says may text entry entry (Refused r)
+pub says-refused : {may : Outcome} (text entry : List ℕ) (r : Refusal) → may ≡ refused r → Says may text entry entry (Refused r)
 unfolding after
 says-refused text entry r e = record { answer = rw e; buffer = refl }
 
@@ -74,16 +75,14 @@ module _ (text entry : List ℕ) (fits : length text ≤ length entry) where
 
   gave : (may : Outcome) (n : ℕ) {exit : List ℕ} → Says may text entry exit (Gives n) → Printed text entry exit (Gives n)
   gave (gives m) n s = printed (record { answer = s .answer; buffer = s .buffer })
-  gave (refused k p) n s = absurd (let e : gives n ≡ refused k p = s .answer in let z : _≡_ {A = ℕ} 0 1 = cc in omega arith)
+  gave (refused r) n s = not-both (sym (s .answer))
 
-  refuses : (may : Outcome) → ((k p : ℕ) → may ≡ refused k p → text ≡ refusedLine k p) → (r : Refusal) {exit exit′ : List ℕ} {a : Answer} →
-      Says may text entry exit (Refused r) → Prints (refusedLine (r .no) (r .place)) exit exit′ a → Printed text entry exit′ a
+  refuses : (may : Outcome) → ((r : Refusal) → may ≡ refused r → text ≡ refusedLine r) → (r : Refusal) {exit exit′ : List ℕ} {a : Answer} →
+      Says may text entry exit (Refused r) → Prints (refusedLine r) exit exit′ a → Printed text entry exit′ a
   unfolding after
-  refuses (gives m) line r s p =
-      absurd (let e : refused (r .no) (r .place) ≡ gives (length text) = s .answer ∙ has-room in let z : _≡_ {A = ℕ} 0 1 = cc in omega arith)
-  refuses (refused k q) line r {exit} {exit′} {a} s p =
-      let e : refused (r .no) (r .place) ≡ refused k q = s .answer in
-      let is : text ≡ refusedLine (r .no) (r .place) = line (r .no) (r .place) (sym e) in
+  refuses (gives m) line r s p = not-both (s .answer ∙ has-room)
+  refuses (refused q) line r {exit} {exit′} {a} s p =
+      let is : text ≡ refusedLine r = line r (sym (s .answer)) in
       let same : exit ≡ entry = s .buffer in
       printed (prints-as (sym is) (rw same at p))
 
@@ -92,19 +91,16 @@ module _ (text entry : List ℕ) (fits : length text ≤ length entry) where
     pub printed-given : (n : ℕ) → a ≡ Gives n → Printed whole entry exit (Gives n)
     printed-given n e = subst (λ (t : List ℕ). Printed t entry exit (Gives n)) is (gave may n (rw e at s))
 
-    pub printed-refused : (r : Refusal) → a ≡ Refused r → ((k p : ℕ) → may ≡ refused k p → text ≡ refusedLine k p) →
-        {exit′ : List ℕ} {b : Answer} → Prints (refusedLine (r .no) (r .place)) exit exit′ b → Printed whole entry exit′ b
+    pub printed-refused : (r : Refusal) → a ≡ Refused r → ((r : Refusal) → may ≡ refused r → text ≡ refusedLine r) →
+        {exit′ : List ℕ} {b : Answer} → Prints (refusedLine r) exit exit′ b → Printed whole entry exit′ b
     printed-refused r e line {exit′} {b} p = subst (λ (t : List ℕ). Printed t entry exit′ b) is (refuses may line r (rw e at s) p)
 
 -- two outcomes that the statement allows are equal
 same-answer : (r s : Answer) → outcomeOf r ≡ outcomeOf s → r ≡ s
 same-answer (Gives n) (Gives m) e = cc
-same-answer (Gives n) (Refused y) e = absurd (let z : _≡_ {A = ℕ} 0 1 = cc in omega arith)
-same-answer (Refused x) (Gives m) e = absurd (let z : _≡_ {A = ℕ} 0 1 = cc in omega arith)
-same-answer (Refused x) (Refused y) e =
-    let p : x .no ≡ y .no = cc in
-    let q : x .place ≡ y .place = cc in
-    λ i. Refused (record { no = p i; place = q i })
+same-answer (Gives n) (Refused y) e = not-both (sym e)
+same-answer (Refused x) (Gives m) e = not-both e
+same-answer (Refused x) (Refused y) e = ap Refused (let f : x ≡ y = cc in f)
 
 pub says-only : {may : Outcome} {text entry exit exit′ : List ℕ} {r r′ : Answer} → Says may text entry exit r → Says may text entry exit′ r′ → (r ≡ r′) × (exit ≡ exit′)
 says-only {may} {text} {entry} {exit} {exit′} {r} {r′} p q =

@@ -9,6 +9,7 @@ use Rattle.scope.specs.Plan.{Plan}
 use Rattle.scope.specs.Lines.{header, eventLine, eventLines, arrivedLine, listing}
 use Rattle.listing.specs.Room.{listingRoom}
 use Rattle.text.proofs.Decimal.{decimal-all, decimal-most}
+use Rattle.listing.proofs.Lines.{refused-size}
 
 -- slots below 64, messages below 32, and numbers of 16 bits
 event-room : (i m k n : ℕ) → i < 100 → m < 100 → k < 65536 → n < 65536 → length (eventLine i m k n) ≤ 18
@@ -44,7 +45,4 @@ listing-room (gives n) plan row z h g small =
     let c = length-append (eventLines m row 0 (t * m)) (arrivedLine n m) in
     let d = length-append header (eventLines m row 0 (t * m) ++ arrivedLine n m) in
     omega arith
-listing-room (refused k p) plan row z h g small =
-    let a = decimal-all k in
-    let b = decimal-all p in
-    simp length-append (omega arith)
+listing-room (refused r) plan row z h g small = omega (arith, refused-size r)

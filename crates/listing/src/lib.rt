@@ -11,6 +11,7 @@ ghost use Rattle.scope.specs.Outcome.{gives};
 ghost use Rattle.scope.specs.Plan.{planOf};
 use scope::Answer;
 use scope::Refusal;
+use scope::refuse;
 use text::put_decimal;
 use text::put_number;
 use text::put_word;
@@ -71,7 +72,7 @@ fn arrived_line(out: &mut [u8], at: usize, n: usize, messages: usize) -> usize
 
 // A refusal: its number and its place.
 fn refused_line(out: &mut [u8], refusal: Refusal) -> usize
-    ensures { λ r. ⌜ Puts (refusedLine (refusal .no) (refusal .place)) (now (out .entry)) (now (out .exit)) 0 r ⌝ }
+    ensures { λ r. ⌜ Puts (refusedLine refusal) (now (out .entry)) (now (out .exit)) 0 r ⌝ }
 {
     phrase_line(out, 0, b"refused ", refusal.no, b" place ", refusal.place)
 }
@@ -96,10 +97,7 @@ pub fn listing(n: usize, row: &[u16], events: &[u16], out: &mut [u8]) -> Answer
 {
     let needed = replayed(&mut out[..0], n, row, events);
     if out.len() < needed {
-        return Answer::Refused(Refusal {
-            no: 13,
-            place: needed,
-        });
+        return refuse(13, needed);
     }
     replayed(out, n, row, events);
     Answer::Gives(needed)
@@ -107,14 +105,11 @@ pub fn listing(n: usize, row: &[u16], events: &[u16], out: &mut [u8]) -> Answer
 
 // The line of a refusal, `refused N place P`: how many bytes, or refusal 13 with the bytes needed.
 pub fn refusal_text(refusal: Refusal, out: &mut [u8]) -> Answer
-    ensures { λ r. ⌜ Prints (refusedLine (refusal .no) (refusal .place)) (now (out .entry)) (now (out .exit)) r ⌝ }
+    ensures { λ r. ⌜ Prints (refusedLine refusal) (now (out .entry)) (now (out .exit)) r ⌝ }
 {
     let needed = refused_line(&mut out[..0], refusal);
     if out.len() < needed {
-        return Answer::Refused(Refusal {
-            no: 13,
-            place: needed,
-        });
+        return refuse(13, needed);
     }
     refused_line(out, refusal);
     Answer::Gives(needed)

@@ -1,14 +1,15 @@
 -- No refusal has the number 0.
 use Prim.Native.Nat.{ℕ, zero, suc, _+_, _*_}
 use native.Mathlib.Omega.{arith}
-use mathlib.Core.Path.{_≡_, refl, sym}
+use mathlib.Core.Path.{_≡_, refl, sym, _∙_, ap}
 use mathlib.Core.Bool.{Bool, true, false, cond, _&&_, _||_}
 use mathlib.Core.List.{List}
 use lib.ListN.{length, drop}
 use lib.Dec.{ltb, leb, eqb}
 use Rattle.scope.specs.declared.Fields.{Fields}
 use Rattle.scope.specs.Lowest.{lowest}
-use Rattle.scope.specs.Outcome.{Outcome, gives, refused, andThen, room}
+use Rattle.scope.proofs.Outcomes.{not-both}
+use Rattle.scope.specs.Outcome.{Outcome, gives, refused, refuse, andThen, room, number}
 use Rattle.scope.specs.Fields.{width, step, opening, edition, editionWidth}
 use Rattle.scope.specs.Bits.{bits, fieldAt}
 use Rattle.scope.specs.File.{walkBits, zeros, endsAt, walkFile, rowOf, fileOf}
@@ -28,10 +29,10 @@ use Rattle.answers.specs.Answers.{needed, mayAnswer}
 use Rattle.nuthatchet.specs.Told.{Numbered, ZeroSaysNone}
 
 given : (n : ℕ) → Numbered (gives n)
-given n p e = let z : _≡_ {A = ℕ} 0 1 = cc in omega arith
+given n r e z = not-both (sym e)
 
-named : (k q : ℕ) → (k ≡ 0 → ⊥) → Numbered (refused k q)
-named k q h p e = h cc
+named : (k q : ℕ) → (k ≡ 0 → ⊥) → Numbered (refuse k q)
+named k q h r e z = h (ap number e ∙ z)
 
 pick : (t : Bool) (a b : Outcome) → Numbered a → Numbered b → Numbered (cond t a b)
 pick true a b ha hb = ha
@@ -39,36 +40,36 @@ pick false a b ha hb = hb
 
 chain : (o : Outcome) (next : ℕ → Outcome) → Numbered o → ((n : ℕ) → o ≡ gives n → Numbered (next n)) → Numbered (andThen o next)
 chain (gives n) next h g = g n refl
-chain (refused k q) next h g = h
+chain (refused r) next h g = h
 
 judged : (row : List ℕ) → Numbered (judge row)
-judged row p e = judge-numbered row 0 p e refl
+judged row r e z = judge-numbered row r e z
 
 room-named : (needed lent : ℕ) → Numbered (room needed lent)
-room-named needed lent = pick (leb needed lent) (gives needed) (refused 13 needed) (given needed) (named 13 needed (λ e. omega arith))
+room-named needed lent = pick (leb needed lent) (gives needed) (refuse 13 needed) (given needed) (named 13 needed (λ e. omega arith))
 
 bits-named : (n : ℕ) (s : Fields) (p : ℕ) (bs : List ℕ) → Numbered (walkBits n s p bs)
 unfolding walkBits
-bits-named zero s p bs = pick (eqb (width s) 0) (gives p) (refused 2 p) (given p) (named 2 p (λ e. omega arith))
+bits-named zero s p bs = pick (eqb (width s) 0) (gives p) (refuse 2 p) (given p) (named 2 p (λ e. omega arith))
 bits-named (suc n) s p bs =
     pick (eqb (width s) 0) (gives p)
-    (cond (leb (p + width s) (length bs)) (walkBits n (step s (fieldAt bs p (width s))) (p + width s) bs) (refused 2 p)) (given p)
-    (pick (leb (p + width s) (length bs)) (walkBits n (step s (fieldAt bs p (width s))) (p + width s) bs) (refused 2 p)
+    (cond (leb (p + width s) (length bs)) (walkBits n (step s (fieldAt bs p (width s))) (p + width s) bs) (refuse 2 p)) (given p)
+    (pick (leb (p + width s) (length bs)) (walkBits n (step s (fieldAt bs p (width s))) (p + width s) bs) (refuse 2 p)
     (bits-named n (step s (fieldAt bs p (width s))) (p + width s) bs)
     (named 2 p (λ e. omega arith)))
 
 ends-named : (bs : List ℕ) (end : ℕ) → Numbered (endsAt bs end)
 unfolding endsAt
 ends-named bs end =
-    pick (ltb (length bs) (end + 8) && zeros (drop end bs)) (gives end) (refused 4 end) (given end) (named 4 end (λ e. omega arith))
+    pick (ltb (length bs) (end + 8) && zeros (drop end bs)) (gives end) (refuse 4 end) (given end) (named 4 end (λ e. omega arith))
 
 file-named : (file : List ℕ) → Numbered (walkFile file)
 unfolding walkFile
 file-named file =
-    pick (ltb (length (bits file)) editionWidth) (refused 2 0) _ (named 2 0 (λ e. omega arith))
+    pick (ltb (length (bits file)) editionWidth) (refuse 2 0) _ (named 2 0 (λ e. omega arith))
     (pick (eqb (fieldAt (bits file) 0 editionWidth) edition)
     (andThen (walkBits (length (bits file)) opening editionWidth (bits file)) (endsAt (bits file)))
-    (refused 1 0)
+    (refuse 1 0)
     (chain (walkBits (length (bits file)) opening editionWidth (bits file)) (endsAt (bits file))
     (bits-named (length (bits file)) opening editionWidth (bits file))
     (λ n e. ends-named (bits file) n))
@@ -79,7 +80,7 @@ unfolding readFile
 read-named file lent =
     chain (walkFile file) (λ _. andThen (rules (planOf (rowOf file))) (λ _. room (length (rowOf file)) lent)) (file-named file)
     (λ end form. chain (rules (planOf (rowOf file))) (λ _. room (length (rowOf file)) lent)
-    (λ p e. judge-numbered (rowOf file) 0 p (sym (judge-bad (rowOf file) (length (rowOf file)) 0 p (file-row file end form) e)) refl)
+    (λ r e z. judge-numbered (rowOf file) r (sym (judge-bad (rowOf file) (length (rowOf file)) r (file-row file end form) e)) z)
     (λ n e. room-named (length (rowOf file)) lent))
 
 write-named : (row : List ℕ) (lent : ℕ) → Numbered (writeFile row lent)
@@ -90,7 +91,7 @@ write-named row lent =
 cuts-named : (plan : Plan) (cuts : List ℕ) → Numbered (checkCuts plan cuts)
 unfolding checkCuts
 cuts-named plan cuts =
-    pick (ltb (lowest (badPair plan cuts) (pairs cuts)) (pairs cuts)) (refused 12 (lowest (badPair plan cuts) (pairs cuts))) (gives (pairs cuts))
+    pick (ltb (lowest (badPair plan cuts) (pairs cuts)) (pairs cuts)) (refuse 12 (lowest (badPair plan cuts) (pairs cuts))) (gives (pairs cuts))
     (named 12 (lowest (badPair plan cuts) (pairs cuts)) (λ e. omega arith))
     (given (pairs cuts))
 
@@ -107,7 +108,7 @@ rule-named : (row : List ℕ) (k l lent : ℕ) → Numbered (mayJudge row k l le
 unfolding mayJudge
 rule-named row k l lent =
     chain (judge row) _ (judged row)
-    (λ n e. pick (ltb 3 k || ltb (length (planOf row .messages)) l) (refused 11 0) (room (2 * k) lent)
+    (λ n e. pick (ltb 3 k || ltb (length (planOf row .messages)) l) (refuse 11 0) (room (2 * k) lent)
     (named 11 0 (λ e. omega arith))
     (room-named (2 * k) lent))
 
@@ -115,13 +116,13 @@ answer-named : (row : List ℕ) (k lent : ℕ) → Numbered (mayAnswer row k len
 unfolding mayAnswer
 answer-named row k lent =
     chain (judge row) _ (judged row)
-    (λ n e. pick (ltb 3 k) (refused 11 0) (room (needed (planOf row)) lent) (named 11 0 (λ e. omega arith)) (room-named (needed (planOf row)) lent))
+    (λ n e. pick (ltb 3 k) (refuse 11 0) (room (needed (planOf row)) lent) (named 11 0 (λ e. omega arith)) (room-named (needed (planOf row)) lent))
 
 spare-named : (row : List ℕ) (m q : ℕ) → Numbered (maySpare row m q)
 unfolding maySpare
 spare-named row m q =
     chain (judge row) _ (judged row)
-    (λ n e. pick (noSecond (placeOf (planOf row) m q .second)) (refused 11 0) (gives 0) (named 11 0 (λ e. omega arith)) (given 0))
+    (λ n e. pick (noSecond (placeOf (planOf row) m q .second)) (refuse 11 0) (gives 0) (named 11 0 (λ e. omega arith)) (given 0))
 
 list-named : (file input : List ℕ) (needed lent : ℕ) → Numbered (andThen (mayList file input) (λ _. room needed lent))
 unfolding mayList

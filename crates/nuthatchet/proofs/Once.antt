@@ -21,12 +21,12 @@ use Rattle.nuthatchet.specs.Ruled.{ruled, TellsRuling}
 
 answerOf : Outcome → Answer
 answerOf (gives i) = Gives i
-answerOf (refused k q) = Refused (record { no = k; place = q })
+answerOf (refused r) = Refused r
 
 answer-back : (o : Outcome) → outcomeOf (answerOf o) ≡ o
 unfolding answerOf
 answer-back (gives i) = refl
-answer-back (refused k q) = refl
+answer-back (refused r) = refl
 
 module _ {n p v n′ p′ v′ : ℕ} where
   pub one-told : (o : Outcome) → Told o n p v → Told o n′ p′ v′ → (n ≡ n′) × (p ≡ p′) × (v ≡ v′)

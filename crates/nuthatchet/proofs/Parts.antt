@@ -44,7 +44,7 @@ module _ (row : List ℕ) (m q n : ℕ) (count : n ≡ length (secondPath row m 
     has false e s = absurd (some (count ∙ ap length (sym s)))
 
     good : (o : Outcome) → judge row ≡ o → Shown row m q
-    good (refused k p) e = absurd (some (count ∙ ap length (sym (shown-none row m q k p e))))
+    good (refused r) e = absurd (some (count ∙ ap length (sym (shown-none row m q r e))))
     good (gives k) e =
         let h = has (hasSecond row m q) refl (shown-part row m q k e) in
         let both = and-left (ltb m (messageCount row) && ltb q (placeCount row (messageIndex row m))) (flagged row (placeIndex row m q)) (h .0) in

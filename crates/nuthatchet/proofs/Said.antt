@@ -4,6 +4,7 @@ use native.Mathlib.Omega.{arith}
 use mathlib.Core.Path.{_≡_, refl, sym, _∙_, ap}
 use mathlib.Core.List.{List}
 use lib.ListN.{length}
+use Rattle.scope.specs.declared.Refusal.{Refusal}
 use Rattle.scope.specs.Outcome.{refused}
 use Rattle.scope.specs.Questions.{mayJudge}
 use Rattle.resist.specs.declared.Ruling.{Ruling}
@@ -14,9 +15,8 @@ use Rattle.nuthatchet.specs.Ruled.{ruled, TellsRuling, PairsSay}
 use Rattle.nuthatchet.proofs.Numbered.{zero-says-none}
 
 module _ (row : List ℕ) (k l : ℕ) (entry exit : List ℕ) (p : ℕ) where
-  none-refused : (n q : ℕ) → 0 ≡ n → mayJudge row k l (length entry) ≡ refused n q → ⊥
-  none-refused n q is e =
-      zero-says-none .rules row k l (length entry) q (e ∙ ap (λ (i : ℕ). refused i q) (sym is))
+  none-refused : (r : Refusal) → 0 ≡ r .no → mayJudge row k l (length entry) ≡ refused r → ⊥
+  none-refused r is e = zero-says-none .rules row k l (length entry) r e (sym is)
 
   resists : (r : Ruling) → Answered row k l entry exit r → Told (ruled r) 0 p 0 → ((i : ℕ) → r ≡ Failing i → 0 < i) → IsResistant row k l entry exit
   resists Resistant a t s = a
@@ -24,7 +24,7 @@ module _ (row : List ℕ) (k l : ℕ) (entry exit : List ℕ) (p : ℕ) where
       let some : 0 < i = s i refl in
       let none : 0 ≡ i = t .result in
       absurd (omega arith)
-  resists (Refused r) a t s = absurd (none-refused (r .no) (r .place) (t .number) (a .may))
+  resists (Refused r) a t s = absurd (none-refused r (t .number) (a .may))
 
   fails : (v : ℕ) (r : Ruling) → Answered row k l entry exit r → Told (ruled r) 0 p (suc v) → IsFailing row k l entry exit (suc v)
   fails v Resistant a t =
@@ -33,7 +33,7 @@ module _ (row : List ℕ) (k l : ℕ) (entry exit : List ℕ) (p : ℕ) where
   fails v (Failing i) a t =
       let count : suc v ≡ i = t .result in
       rw count a
-  fails v (Refused r) a t = absurd (none-refused (r .no) (r .place) (t .number) (a .may))
+  fails v (Refused r) a t = absurd (none-refused r (t .number) (a .may))
 
 pub pairs-say : PairsSay
 pairs-say =

@@ -12,7 +12,7 @@ use Rattle.nuthatchet.specs.Told.{Told}
 abbrev pub ruled : Ruling → Outcome
 ruled Resistant = gives 0
 ruled (Failing n) = gives n
-ruled (Refused r) = refused (r .no) (r .place)
+ruled (Refused r) = refused r
 
 -- the numbers tell a ruling that is the verdict's answer; a failing list has a pair, so that 0 pairs say resistant and nothing else
 pub record TellsRuling (row : List ℕ) (k l : ℕ) (entry exit : List ℕ) (n p v : ℕ) : Type 0 where

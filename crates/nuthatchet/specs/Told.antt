@@ -5,6 +5,7 @@ use mathlib.Core.Path.{_≡_}
 use mathlib.Core.List.{List}
 use lib.ListN.{length}
 use lib.IntN.{ℤ}
+use Rattle.scope.specs.declared.Refusal.{Refusal}
 use Rattle.scope.specs.Outcome.{Outcome, refused, number, place, result, andThen, room}
 use Rattle.scope.specs.File.{rowOf, fileOf}
 use Rattle.scope.specs.Plan.{planOf}
@@ -56,7 +57,7 @@ pub record TellsSlack (row : List ℕ) (m q n p : ℕ) (z : ℤ) : Type 0 where
 
 -- no refusal has the number 0, so that 0 says that nothing is refused
 abbrev pub Numbered : Outcome → Type 0
-Numbered o = (p : ℕ) → o ≡ refused 0 p → ⊥
+Numbered o = (r : Refusal) → o ≡ refused r → r .no ≡ 0 → ⊥
 
 pub record ZeroSaysNone : Type 0 where
   pub judges : (row : List ℕ) → Numbered (judge row)

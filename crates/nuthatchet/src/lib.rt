@@ -4,10 +4,11 @@
 use resist::Ruling;
 use scope::Answer;
 use scope::Refusal;
+use scope::refusal_at;
 use spare::Spare;
 ghost use Rattle.scope.specs.Limits.{longestRow};
 ghost use Rattle.scope.specs.Lines.{replayText, refusedLine};
-ghost use Rattle.scope.specs.Outcome.{outcomeOf, gives, refused};
+ghost use Rattle.scope.specs.Outcome.{outcomeOf, gives, refused, refusalAt};
 ghost use Rattle.scope.specs.Questions.{judge, readFile};
 ghost use Rattle.resist.specs.Verdict.{Answered};
 ghost use Rattle.spare.specs.Slack.{Slacks};
@@ -19,7 +20,7 @@ ghost use Rattle.nuthatchet.specs.Ruled.{ruled, TellsRuling};
 
 // A refusal: its number is returned, its place written, and zero for the result.
 fn refuse(refusal: Refusal, place: &mut usize, result: &mut usize) -> usize
-    ensures { λ r. ⌜ Told (refused (refusal .no) (refusal .place)) r (now (place .exit)) (now (result .exit)) ⌝ }
+    ensures { λ r. ⌜ Told (refused refusal) r (now (place .exit)) (now (result .exit)) ⌝ }
 {
     *place = refusal.place;
     *result = 0;
@@ -228,15 +229,9 @@ pub extern "C" fn nuthatchet_refusal_text(
     place: &mut usize,
     result: &mut usize,
 ) -> usize
-    ensures { λ r. ⌜ TellsText (gives 0) (refusedLine number at) (now (out .entry)) (now (out .exit)) r (now (place .exit)) (now (result .exit)) ⌝ }
+    ensures { λ r. ⌜ TellsText (gives 0) (refusedLine (refusalAt number at)) (now (out .entry)) (now (out .exit)) r (now (place .exit)) (now (result .exit)) ⌝ }
 {
-    let answer = listing::refusal_text(
-        Refusal {
-            no: number,
-            place: at,
-        },
-        out,
-    );
+    let answer = listing::refusal_text(refusal_at(number, at), out);
     tell(answer, place, result)
 }
 

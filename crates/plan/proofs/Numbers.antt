@@ -8,7 +8,8 @@ use lib.ListN.{length}
 use lib.Dec.{ltb, eqb}
 use Rattle.scope.specs.declared.Fields.{Fields}
 use Rattle.scope.specs.Lowest.{lowest}
-use Rattle.scope.specs.Outcome.{Outcome, gives, refused, andThen, unlessSome, number}
+use Rattle.scope.specs.declared.Refusal.{Refusal}
+use Rattle.scope.specs.Outcome.{Outcome, gives, refused, refuse, andThen, unlessSome, number}
 use Rattle.scope.specs.Fields.{width, step, opening, edition}
 use Rattle.scope.specs.Row.{walkFrom, walkRow}
 use Rattle.scope.specs.Plan.{Plan, planOf}
@@ -18,7 +19,7 @@ use Rattle.scope.specs.Questions.{judge}
 -- an outcome that is no refusal, or a refusal with a number
 pub Numbered : Outcome → Type 0
 Numbered (gives n) = Unit {0}
-Numbered (refused k p) = k ≡ 0 → ⊥
+Numbered (refused r) = r .no ≡ 0 → ⊥
 
 pick : (t : Bool) (a b : Outcome) → Numbered a → Numbered b → Numbered (cond t a b)
 pick true a b ha hb = ha
@@ -26,23 +27,23 @@ pick false a b ha hb = hb
 
 chain : (o : Outcome) (next : ℕ → Outcome) → Numbered o → ((n : ℕ) → Numbered (next n)) → Numbered (andThen o next)
 chain (gives n) next h g = g n
-chain (refused k p) next h g = h
+chain (refused r) next h g = h
 
 walk-numbered : (s : Fields) (i : ℕ) (vs : List ℕ) → Numbered (walkFrom s i vs)
 unfolding walkFrom Numbered
-walk-numbered s i [] = pick (eqb (width s) 0) (gives i) (refused 2 i) tt (λ e. omega arith)
+walk-numbered s i [] = pick (eqb (width s) 0) (gives i) (refuse 2 i) tt (λ e. omega arith)
 walk-numbered s i (v ∷ vs) =
-    pick (eqb (width s) 0) (refused 4 i) (cond (ltb v (2 ^ width s)) (walkFrom (step s v) (i + 1) vs) (refused 3 i)) (λ e. omega arith)
-    (pick (ltb v (2 ^ width s)) (walkFrom (step s v) (i + 1) vs) (refused 3 i) (walk-numbered (step s v) (i + 1) vs) (λ e. omega arith))
+    pick (eqb (width s) 0) (refuse 4 i) (cond (ltb v (2 ^ width s)) (walkFrom (step s v) (i + 1) vs) (refuse 3 i)) (λ e. omega arith)
+    (pick (ltb v (2 ^ width s)) (walkFrom (step s v) (i + 1) vs) (refuse 3 i) (walk-numbered (step s v) (i + 1) vs) (λ e. omega arith))
 
 row-numbered : (row : List ℕ) → Numbered (walkRow row)
 unfolding walkRow Numbered
 row-numbered [] = λ e. omega arith
-row-numbered (v ∷ vs) = pick (eqb v edition) (walkFrom opening 1 vs) (refused 1 0) (walk-numbered opening 1 vs) (λ e. omega arith)
+row-numbered (v ∷ vs) = pick (eqb v edition) (walkFrom opening 1 vs) (refuse 1 0) (walk-numbered opening 1 vs) (λ e. omega arith)
 
 unless : (k : ℕ) (broken : ℕ → Bool) (n : ℕ) (rest : Outcome) → (k ≡ 0 → ⊥) → Numbered rest → Numbered (unlessSome k broken n rest)
 unfolding Numbered
-unless k broken n rest h g = pick (ltb (lowest broken n) n) (refused k (lowest broken n)) rest h g
+unless k broken n rest h g = pick (ltb (lowest broken n) n) (refuse k (lowest broken n)) rest h g
 
 rules-numbered : (plan : Plan) → Numbered (rules plan)
 unfolding rules Numbered
@@ -54,11 +55,11 @@ rules-numbered plan =
     (unless 9 (badTable plan) (length (plan .messages)) _ (λ e. omega arith)
     (unless 10 (badSecondPath plan) (length (plan .messages)) (gives 0) (λ e. omega arith) tt)))))
 
-pub judge-numbered : (row : List ℕ) (k p : ℕ) → judge row ≡ refused k p → k ≡ 0 → ⊥
+pub judge-numbered : (row : List ℕ) (r : Refusal) → judge row ≡ refused r → r .no ≡ 0 → ⊥
 unfolding judge Numbered
-judge-numbered row k p e =
+judge-numbered row r e =
     let h : Numbered (judge row) =
     chain (walkRow row) (λ n. andThen (rules (planOf row)) (λ _. gives n)) (row-numbered row)
     (λ n. chain (rules (planOf row)) (λ _. gives n) (rules-numbered (planOf row)) (λ _. tt)) in
-    let g : Numbered (refused k p) = rw e at h in
+    let g : Numbered (refused r) = rw e at h in
     g

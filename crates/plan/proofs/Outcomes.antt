@@ -11,7 +11,8 @@ use Rattle.scope.specs.declared.Answer.{Answer}
 use Rattle.scope.specs.declared.Answer.the-variants.{Gives, Refused}
 use Rattle.scope.specs.declared.Refusal.{Refusal}
 use Rattle.scope.specs.Lowest.{lowest}
-use Rattle.scope.specs.Outcome.{Outcome, outcomeOf, gives, refused, andThen, unlessSome, room}
+use Rattle.scope.proofs.Outcomes.{not-both}
+use Rattle.scope.specs.Outcome.{Outcome, outcomeOf, gives, refused, refuse, andThen, unlessSome, room}
 use Rattle.scope.specs.File.{walkFile, rowOf, fileOf}
 use Rattle.scope.specs.Row.{walkRow}
 use Rattle.scope.specs.Plan.{Plan, planOf}
@@ -22,12 +23,9 @@ use Rattle.plan.specs.Answers.{Answers, GoodRow}
 -- an answer is known by its outcome
 pub same-answer : (a b : Answer) → outcomeOf a ≡ outcomeOf b → a ≡ b
 same-answer (Gives m) (Gives n) e = ap Gives (let f : m ≡ n = cc in f)
-same-answer (Gives m) (Refused r) e = let z : _≡_ {A = ℕ} 0 1 = cc in absurd (omega arith)
-same-answer (Refused r) (Gives n) e = let z : _≡_ {A = ℕ} 0 1 = cc in absurd (omega arith)
-same-answer (Refused r) (Refused s) e =
-    let f : r .no ≡ s .no = cc in
-    let g : r .place ≡ s .place = cc in
-    λ i. Refused (record { no = f i; place = g i })
+same-answer (Gives m) (Refused r) e = not-both (sym e)
+same-answer (Refused r) (Gives n) e = not-both e
+same-answer (Refused r) (Refused s) e = ap Refused (let f : r ≡ s = cc in f)
 
 -- two outcomes that a statement allows are equal, the answer and the buffer
 pub only-one : (o : Outcome) (written entry exit exit′ : List ℕ) (r r′ : Answer) →
@@ -36,8 +34,8 @@ only-one o written entry exit exit′ r r′ a b =
     (same-answer r r′ (a .answer ∙ sym (b .answer)), a .buffer ∙ sym (b .buffer))
 
 -- what is chained
-pub then-refused : (o : Outcome) (next : ℕ → Outcome) (k p : ℕ) → o ≡ refused k p → andThen o next ≡ refused k p
-then-refused o next k p e = rw e
+pub then-refused : (o : Outcome) (next : ℕ → Outcome) (r : Refusal) → o ≡ refused r → andThen o next ≡ refused r
+then-refused o next r e = rw e
 
 pub then-gives : (o : Outcome) (next : ℕ → Outcome) (n : ℕ) → o ≡ gives n → andThen o next ≡ next n
 then-gives o next n e = rw e
@@ -45,13 +43,13 @@ then-gives o next n e = rw e
 -- and taken apart: what gives something in the end gave something before
 pub then-back : (o : Outcome) (next : ℕ → Outcome) (n : ℕ) → andThen o next ≡ gives n → (m : ℕ) × (o ≡ gives m) × (next m ≡ gives n)
 then-back (gives m) next n e = (m, refl, e)
-then-back (refused k p) next n e = let z : _≡_ {A = ℕ} 0 1 = cc in absurd (omega arith)
+then-back (refused r) next n e = not-both e
 
 unless-back : (k : ℕ) (broken : ℕ → Bool) (n : ℕ) (rest : Outcome) (z : ℕ) → unlessSome k broken n rest ≡ gives z → rest ≡ gives z
 unless-back k broken n rest z e = by (ltb (lowest broken n) n) e
   where
-    by : (t : Bool) → cond t (refused k (lowest broken n)) rest ≡ gives z → rest ≡ gives z
-    by true e = let z : _≡_ {A = ℕ} 0 1 = cc in absurd (omega arith)
+    by : (t : Bool) → cond t (refuse k (lowest broken n)) rest ≡ gives z → rest ≡ gives z
+    by true e = not-both e
     by false e = e
 
 -- the rules give 0 or a refusal
@@ -70,14 +68,18 @@ rules-give plan z e =
 pub room-there : (needed lent : ℕ) → needed ≤ lent → room needed lent ≡ gives needed
 room-there needed lent h = rw (le-leb needed lent h)
 
-pub room-short : (needed lent : ℕ) → lent < needed → room needed lent ≡ refused 13 needed
+pub room-short : (needed lent : ℕ) → lent < needed → room needed lent ≡ refuse 13 needed
 room-short needed lent h = rw (lt-leb needed lent h)
 
 -- the buffer after a refusal, and after something was written
-pub after-refused : (o : Outcome) (k p : ℕ) (written buffer : List ℕ) → o ≡ refused k p → buffer ≡ after o written buffer
+pub after-refused : (o : Outcome) (r : Refusal) (written buffer : List ℕ) → o ≡ refused r → buffer ≡ after o written buffer
 unfolding after
-after-refused o k p written buffer e = rw e
+after-refused o r written buffer e = rw e
 
 pub after-gives : (o : Outcome) (n : ℕ) (written buffer : List ℕ) → o ≡ gives n → written ++ drop (length written) buffer ≡ after o written buffer
 unfolding after
 after-gives o n written buffer e = rw e
+
+-- so an answer that refuses as the outcome does, beside a buffer that is left as it was
+pub refuses : (o : Outcome) (written entry : List ℕ) (r : Refusal) (a : Answer) → o ≡ refused r → outcomeOf a ≡ refused r → Answers o written entry entry a
+refuses o written entry r a e is = record { answer = is ∙ sym e; buffer = after-refused o r written entry e }

@@ -12,7 +12,8 @@ use borrow.Author.Tests.{leb-true}
 use Rattle.scope.specs.declared.Answer.{Answer}
 use Rattle.scope.specs.declared.Answer.the-variants.{Gives, Refused}
 use Rattle.scope.specs.declared.Refusal.{Refusal}
-use Rattle.scope.specs.Outcome.{Outcome, gives, refused, andThen, room}
+use Rattle.scope.proofs.Outcomes.{not-both}
+use Rattle.scope.specs.Outcome.{Outcome, gives, refused, refuse, andThen, room}
 use Rattle.scope.specs.File.{walkFile, rowOf, fileOf}
 use Rattle.scope.specs.Plan.{planOf}
 use Rattle.scope.specs.Good.{rules}
@@ -25,9 +26,9 @@ use Rattle.plan.proofs.Ways.{gave, refused-as}
 room-back : (needed lent n : ℕ) → room needed lent ≡ gives n → (n ≡ needed) × (needed ≤ lent)
 room-back needed lent n e = by (leb needed lent) refl e
   where
-    by : (t : Bool) → leb needed lent ≡ t → cond t (gives needed) (refused 13 needed) ≡ gives n → (n ≡ needed) × (needed ≤ lent)
+    by : (t : Bool) → leb needed lent ≡ t → cond t (gives needed) (refuse 13 needed) ≡ gives n → (n ≡ needed) × (needed ≤ lent)
     by true l e = (cc, leb-true needed lent l)
-    by false l e = let z : _≡_ {A = ℕ} 0 1 = cc in absurd (omega arith)
+    by false l e = not-both e
 
 -- how many numbers the row has, and that there is room for them
 pub read-room : (file : List ℕ) (lent n : ℕ) → readFile file lent ≡ gives n → (n ≡ length (rowOf file)) × (length (rowOf file) ≤ lent)
@@ -50,7 +51,7 @@ module _ (file entry exit : List ℕ) (a : Answer) (h : Reads file entry exit a)
   pub read-given : (lent n : ℕ) → length entry ≡ lent → a ≡ Gives n → readFile file lent ≡ gives n
   read-given lent n l e = ap (readFile file) (sym l) ∙ gave n e (h .answer)
 
-  pub read-refused : (lent : ℕ) (r : Refusal) → length entry ≡ lent → a ≡ Refused r → readFile file lent ≡ refused (r .no) (r .place)
+  pub read-refused : (lent : ℕ) (r : Refusal) → length entry ≡ lent → a ≡ Refused r → readFile file lent ≡ refused r
   read-refused lent r l e = ap (readFile file) (sym l) ∙ refused-as r e (h .answer)
 
   module _ (n : ℕ) (e : a ≡ Gives n) where

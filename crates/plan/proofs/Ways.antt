@@ -10,7 +10,7 @@ use borrow.Author.Tests.{eq-eqb, ne-eqb}
 use Rattle.scope.specs.declared.Answer.{Answer}
 use Rattle.scope.specs.declared.Answer.the-variants.{Gives, Refused}
 use Rattle.scope.specs.declared.Refusal.{Refusal}
-use Rattle.scope.specs.Outcome.{Outcome, outcomeOf, gives, refused, andThen, room, number}
+use Rattle.scope.specs.Outcome.{Outcome, outcomeOf, gives, refused, refuse, andThen, room, number}
 use Rattle.scope.specs.File.{walkFile, rowOf, fileOf}
 use Rattle.scope.specs.Row.{walkRow}
 use Rattle.scope.specs.Plan.{planOf}
@@ -21,13 +21,13 @@ use Rattle.view.specs.View.{secondPart}
 use Rattle.flow.proofs.Theorems.{file-row, row-count}
 use Rattle.plan.specs.Answers.{Answers, Accepts, GoodRow}
 use Rattle.plan.proofs.Numbers.{judge-numbered}
-use Rattle.plan.proofs.Outcomes.{then-refused, then-gives, then-back, rules-give, room-there, room-short, after-refused, after-gives}
+use Rattle.plan.proofs.Outcomes.{then-refused, then-gives, then-back, rules-give, room-there, room-short, refuses, after-gives}
 
 -- the outcome of an answer that is known
 pub gave : {a : Answer} {o : Outcome} (n : ℕ) → a ≡ Gives n → outcomeOf a ≡ o → o ≡ gives n
 gave n e h = sym h ∙ ap outcomeOf e
 
-pub refused-as : {a : Answer} {o : Outcome} (r : Refusal) → a ≡ Refused r → outcomeOf a ≡ o → o ≡ refused (r .no) (r .place)
+pub refused-as : {a : Answer} {o : Outcome} (r : Refusal) → a ≡ Refused r → outcomeOf a ≡ o → o ≡ refused r
 refused-as r e h = sym h ∙ ap outcomeOf e
 
 -- a row whose walk gives something has the right form
@@ -39,13 +39,13 @@ pub judge-good : (row : List ℕ) (n z : ℕ) → walkRow row ≡ gives n → ru
 unfolding judge
 judge-good row n z e h = sym (rw (e, h))
 
-pub judge-bad : (row : List ℕ) (n k p : ℕ) → walkRow row ≡ gives n → rules (planOf row) ≡ refused k p → refused k p ≡ judge row
+pub judge-bad : (row : List ℕ) (n : ℕ) (r : Refusal) → walkRow row ≡ gives n → rules (planOf row) ≡ refused r → refused r ≡ judge row
 unfolding judge
-judge-bad row n k p e h = sym (rw (e, h))
+judge-bad row n r e h = sym (rw (e, h))
 
-pub judge-form : (row : List ℕ) (k p : ℕ) → walkRow row ≡ refused k p → refused k p ≡ judge row
+pub judge-form : (row : List ℕ) (r : Refusal) → walkRow row ≡ refused r → refused r ≡ judge row
 unfolding judge
-judge-form row k p e = sym (rw e)
+judge-form row r e = sym (rw e)
 
 -- what a judged row is
 pub good-row : (row : List ℕ) (n : ℕ) → judge row ≡ gives n → GoodRow row
@@ -63,18 +63,18 @@ accepted row entry exit z h fits written =
     then-gives (rules (planOf row)) (λ _. room (length row) (length entry)) z h ∙ room-there (length row) (length entry) fits in
     record { answer = sym o; buffer = written ∙ after-gives _ (length row) row entry o }
 
-pub no-room : (row entry : List ℕ) (z : ℕ) → rules (planOf row) ≡ gives z → length entry < length row →
-    Accepts row entry entry (Refused (record { no = 13; place = length row }))
-no-room row entry z h short =
-    let o : andThen (rules (planOf row)) (λ _. room (length row) (length entry)) ≡ refused 13 (length row) =
+pub no-room : (row entry : List ℕ) (z : ℕ) (a : Answer) → rules (planOf row) ≡ gives z → length entry < length row →
+    outcomeOf a ≡ refuse 13 (length row) → Accepts row entry entry a
+no-room row entry z a h short is =
+    let o : andThen (rules (planOf row)) (λ _. room (length row) (length entry)) ≡ refuse 13 (length row) =
     then-gives (rules (planOf row)) (λ _. room (length row) (length entry)) z h ∙ room-short (length row) (length entry) short in
-    record { answer = sym o; buffer = after-refused _ 13 (length row) row entry o }
+    refuses _ row entry _ a o is
 
-pub broken : (row entry : List ℕ) (r : Refusal) → rules (planOf row) ≡ refused (r .no) (r .place) → Accepts row entry entry (Refused r)
+pub broken : (row entry : List ℕ) (r : Refusal) → rules (planOf row) ≡ refused r → Accepts row entry entry (Refused r)
 broken row entry r h =
-    let o : andThen (rules (planOf row)) (λ _. room (length row) (length entry)) ≡ refused (r .no) (r .place) =
-    then-refused (rules (planOf row)) (λ _. room (length row) (length entry)) (r .no) (r .place) h in
-    record { answer = sym o; buffer = after-refused _ (r .no) (r .place) row entry o }
+    let o : andThen (rules (planOf row)) (λ _. room (length row) (length entry)) ≡ refused r =
+    then-refused (rules (planOf row)) (λ _. room (length row) (length entry)) r h in
+    refuses _ row entry r (Refused r) o refl
 
 -- reading a file
 pub read-on : (file all entry exit : List ℕ) (a : Answer) (end : ℕ) → walkFile file ≡ gives end → all ≡ rowOf file → Accepts all entry exit a →
@@ -82,12 +82,12 @@ pub read-on : (file all entry exit : List ℕ) (a : Answer) (end : ℕ) → walk
 unfolding readFile
 read-on file all entry exit a end e row h = rw (e, ← row) h
 
-pub read-form : (file entry : List ℕ) (r : Refusal) → walkFile file ≡ refused (r .no) (r .place) →
+pub read-form : (file entry : List ℕ) (r : Refusal) → walkFile file ≡ refused r →
     Answers (readFile file (length entry)) (rowOf file) entry entry (Refused r)
 unfolding readFile
 read-form file entry r e =
-    let o : readFile file (length entry) ≡ refused (r .no) (r .place) = rw e in
-    record { answer = sym o; buffer = after-refused _ (r .no) (r .place) (rowOf file) entry o }
+    let o : readFile file (length entry) ≡ refused r = rw e in
+    refuses _ (rowOf file) entry r (Refused r) o refl
 
 pub all-form : (file all : List ℕ) (end : ℕ) → walkFile file ≡ gives end → all ≡ rowOf file → walkRow all ≡ gives (length all)
 all-form file all end e row = rw row (file-row file end e)
@@ -100,25 +100,25 @@ written row entry exit n c e is fits wrote =
     let o : writeFile row (length entry) ≡ gives c = rw (e, ← is) (room-there c (length entry) fits) in
     record { answer = sym o; buffer = wrote ∙ ap (λ k. fileOf row ++ drop k entry) is ∙ after-gives _ c (fileOf row) entry o }
 
-pub write-no-room : (row entry : List ℕ) (n c : ℕ) → judge row ≡ gives n → c ≡ length (fileOf row) → length entry < c →
-    Answers (writeFile row (length entry)) (fileOf row) entry entry (Refused (record { no = 13; place = c }))
+pub write-no-room : (row entry : List ℕ) (n c : ℕ) (a : Answer) → judge row ≡ gives n → c ≡ length (fileOf row) → length entry < c →
+    outcomeOf a ≡ refuse 13 c → Answers (writeFile row (length entry)) (fileOf row) entry entry a
 unfolding writeFile
-write-no-room row entry n c e is short =
-    let o : writeFile row (length entry) ≡ refused 13 c = rw (e, ← is) (room-short c (length entry) short) in
-    record { answer = sym o; buffer = after-refused _ 13 c (fileOf row) entry o }
+write-no-room row entry n c a e is short answer =
+    let o : writeFile row (length entry) ≡ refuse 13 c = rw (e, ← is) (room-short c (length entry) short) in
+    refuses _ (fileOf row) entry _ a o answer
 
-pub write-bad : (row entry : List ℕ) (r : Refusal) → judge row ≡ refused (r .no) (r .place) →
+pub write-bad : (row entry : List ℕ) (r : Refusal) → judge row ≡ refused r →
     Answers (writeFile row (length entry)) (fileOf row) entry entry (Refused r)
 unfolding writeFile
 write-bad row entry r e =
-    let o : writeFile row (length entry) ≡ refused (r .no) (r .place) = rw e in
-    record { answer = sym o; buffer = after-refused _ (r .no) (r .place) (fileOf row) entry o }
+    let o : writeFile row (length entry) ≡ refused r = rw e in
+    refuses _ (fileOf row) entry r (Refused r) o refl
 
 -- showing a second path
 pub shown-part : (row : List ℕ) (m p n : ℕ) → judge row ≡ gives n → secondPart row m p ≡ secondPath row m p
 unfolding secondPath shown
 shown-part row m p n e = rw e
 
-pub shown-none : (row : List ℕ) (m p k q : ℕ) → judge row ≡ refused k q → [] ≡ secondPath row m p
+pub shown-none : (row : List ℕ) (m p : ℕ) (r : Refusal) → judge row ≡ refused r → [] ≡ secondPath row m p
 unfolding secondPath shown
-shown-none row m p k q e = sym (rw (e, ne-eqb k 0 (judge-numbered row k q e)))
+shown-none row m p r e = sym (rw (e, ne-eqb (r .no) 0 (judge-numbered row r e)))

@@ -2,7 +2,7 @@
 // what is bad by document 01's numbers, and then leaves what it was lent as it was. It leans on `flow` for the form of files and
 // rows and on `rules` for the rules of a good plan.
 use scope::Answer;
-use scope::Refusal;
+use scope::refuse;
 ghost use mathlib.Core.Path.{_≡_};
 ghost use Prim.Native.Nat.{_≤_};
 ghost use lib.ListN.{length, drop};
@@ -58,7 +58,7 @@ fn accept(all: &[u16], row: &mut [u16]) -> Answer
                 copy(all, row);
                 Answer::Gives(n)
             } else {
-                Answer::Refused(Refusal { no: 13, place: n })
+                refuse(13, n)
             }
         }
         Answer::Refused(r) => Answer::Refused(r),
@@ -91,7 +91,7 @@ pub fn write_file(row: &[u16], file: &mut [u8]) -> Answer
                 flow::pack(row, &mut file[..n]);
                 Answer::Gives(n)
             } else {
-                Answer::Refused(Refusal { no: 13, place: n })
+                refuse(13, n)
             }
         }
         Answer::Refused(r) => Answer::Refused(r),

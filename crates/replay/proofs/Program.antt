@@ -27,7 +27,7 @@ module _ (plan : List ℕ) (p : ℕ) (input : List ℕ) (i : ℕ) (entry exit : 
       printed-given (replayText (take p plan) (take i input)) entry fits (mayList (take p plan) (take i input)) (replayText file cuts)
       (fronts plan input file cuts p i l m f g) a s n e
 
-  pub refuses : (r : Refusal) → a ≡ Refused r → (exit′ : List ℕ) (b : Answer) → Prints (refusedLine (r .no) (r .place)) exit exit′ b →
+  pub refuses : (r : Refusal) → a ≡ Refused r → (exit′ : List ℕ) (b : Answer) → Prints (refusedLine r) exit exit′ b →
       (file cuts : List ℕ) → Front plan p file → Front input i cuts → Printed (replayText file cuts) entry exit′ b
   refuses r e exit′ b q file cuts f g =
       printed-refused (replayText (take p plan) (take i input)) entry fits (mayList (take p plan) (take i input)) (replayText file cuts)

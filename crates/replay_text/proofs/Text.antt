@@ -45,7 +45,7 @@ listed (gives n) plan events buffer l =
     let t = plan .timeout in
     let fits : 2 * (0 + t * m) ≤ length events = omega (arith, mul-assoc 2 t m) in
     rw (lines-front m events (drop (length events) buffer) 0 (t * m) fits)
-listed (refused k p) plan events buffer l = refl
+listed (refused r) plan events buffer l = refl
 
 played-text : (row cuts entry exit : List ℕ) (r : Answer) → length entry ≡ longestEvents → Replays row cuts entry exit r →
     listing (outcomeOf r) (planOf row) exit ≡ textOf row cuts
@@ -83,13 +83,13 @@ input-text row input =
     ap (λ (t : List ℕ). textOf row (cutsFrom 65 t 0)) (sym whole) ∙ replay-enough row input longestEvents (650 + length input) (omega arith)
 
 -- and are refused, or not, as those of the whole input are
-replay-refused : (row cuts : List ℕ) (k p : ℕ) → judge row ≡ refused k p → replay row cuts longestEvents ≡ refused k p
+replay-refused : (row cuts : List ℕ) (r : Refusal) → judge row ≡ refused r → replay row cuts longestEvents ≡ refused r
 unfolding replay
-replay-refused row cuts k p e = rw e
+replay-refused row cuts r e = rw e
 
-cuts-refused : (row cuts : List ℕ) (n k p : ℕ) → judge row ≡ gives n → checkCuts (planOf row) cuts ≡ refused k p → replay row cuts longestEvents ≡ refused k p
+cuts-refused : (row cuts : List ℕ) (n : ℕ) (r : Refusal) → judge row ≡ gives n → checkCuts (planOf row) cuts ≡ refused r → replay row cuts longestEvents ≡ refused r
 unfolding replay
-cuts-refused row cuts n k p e d = rw (e, d)
+cuts-refused row cuts n r e d = rw (e, d)
 
 input-may : (row input : List ℕ) (m : ℕ) → 650 ≤ m → replay row (cutsFrom 65 (take m input) 0) longestEvents ≡ replay row (cutsOf input) longestEvents
 input-may row input m h = by (judge row) refl
@@ -97,12 +97,12 @@ input-may row input m h = by (judge row) refl
     good : (n : ℕ) → judge row ≡ gives n → (o : Outcome) → checkCuts (planOf row) (cutsOf input) ≡ o →
         replay row (cutsFrom 65 (take m input) 0) longestEvents ≡ replay row (cutsOf input) longestEvents
     good n e (gives i) d = ap (λ (c : List ℕ). replay row c longestEvents) (enough-cuts (planOf row) (few-links row n e) input m i h d)
-    good n e (refused k p) d =
-        cuts-refused row (cutsFrom 65 (take m input) 0) n k p e (enough (planOf row) (few-links row n e) input m h ∙ d)
-        ∙ sym (cuts-refused row (cutsOf input) n k p e d)
+    good n e (refused r) d =
+        cuts-refused row (cutsFrom 65 (take m input) 0) n r e (enough (planOf row) (few-links row n e) input m h ∙ d)
+        ∙ sym (cuts-refused row (cutsOf input) n r e d)
 
     by : (o : Outcome) → judge row ≡ o → replay row (cutsFrom 65 (take m input) 0) longestEvents ≡ replay row (cutsOf input) longestEvents
-    by (refused k p) e = replay-refused row (cutsFrom 65 (take m input) 0) k p e ∙ sym (replay-refused row (cutsOf input) k p e)
+    by (refused r) e = replay-refused row (cutsFrom 65 (take m input) 0) r e ∙ sym (replay-refused row (cutsOf input) r e)
     by (gives n) e = good n e (checkCuts (planOf row) (cutsOf input)) refl
 
 lines-may : (row input : List ℕ) → replay row (cutsFrom 65 input 0) longestEvents ≡ replay row (cutsOf input) longestEvents
@@ -118,9 +118,9 @@ input-says row {input} {entry} {exit} {n} l h s =
     says-as (ap (λ (cuts : List ℕ). replay row cuts longestEvents) is ∙ lines-may row input) (ap (textOf row) is ∙ input-text row input) s
 
 -- the text by what reading the file gives
-pub text-refused : (file input : List ℕ) (k p : ℕ) → readFile file longestRow ≡ refused k p → replayText file input ≡ refusedLine k p
+pub text-refused : (file input : List ℕ) (r : Refusal) → readFile file longestRow ≡ refused r → replayText file input ≡ refusedLine r
 unfolding replayText
-text-refused file input k p e = rw e
+text-refused file input r e = rw e
 
 pub text-given : (file input : List ℕ) (n : ℕ) → readFile file longestRow ≡ gives n → replayText file input ≡ textOf (rowOf file) (cutsOf input)
 unfolding replayText
@@ -129,9 +129,9 @@ text-given file input n e = rw e
 pub text-row : (file input row : List ℕ) (n : ℕ) → readFile file longestRow ≡ gives n → row ≡ rowOf file → textOf row (cutsOf input) ≡ replayText file input
 text-row file input row n e is = ap (λ (r : List ℕ). textOf r (cutsOf input)) is ∙ sym (text-given file input n e)
 
-pub may-refused : (file input : List ℕ) (k p : ℕ) → readFile file longestRow ≡ refused k p → mayList file input ≡ refused k p
+pub may-refused : (file input : List ℕ) (r : Refusal) → readFile file longestRow ≡ refused r → mayList file input ≡ refused r
 unfolding mayList
-may-refused file input k p e = rw e
+may-refused file input r e = rw e
 
 pub may-given : (file input row : List ℕ) (n : ℕ) → readFile file longestRow ≡ gives n → row ≡ rowOf file →
     replay row (cutsOf input) longestEvents ≡ mayList file input
@@ -139,12 +139,12 @@ unfolding mayList
 may-given file input row n e is = sym (rw (e, is))
 
 -- a text that is refused is the line of its refusal
-pub text-line : (file input : List ℕ) (k p : ℕ) → mayList file input ≡ refused k p → replayText file input ≡ refusedLine k p
+pub text-line : (file input : List ℕ) (r : Refusal) → mayList file input ≡ refused r → replayText file input ≡ refusedLine r
 unfolding mayList listing
-text-line file input k p may = by (readFile file longestRow) refl
+text-line file input r may = by (readFile file longestRow) refl
   where
-    by : (o : Outcome) → readFile file longestRow ≡ o → replayText file input ≡ refusedLine k p
-    by (refused n q) e = text-refused file input n q e ∙ ap (λ (o : Outcome). listing o (planOf (rowOf file)) []) (sym (may-refused file input n q e) ∙ may)
+    by : (o : Outcome) → readFile file longestRow ≡ o → replayText file input ≡ refusedLine r
+    by (refused q) e = text-refused file input q e ∙ ap (λ (o : Outcome). listing o (planOf (rowOf file)) []) (sym (may-refused file input q e) ∙ may)
     by (gives n) e =
         text-given file input n e
         ∙ ap (λ (o : Outcome). listing o (planOf (rowOf file)) (eventRow (planOf (rowOf file)) (cutsOf input))) (may-given file input (rowOf file) n e refl ∙ may)

@@ -5,11 +5,12 @@ use mathlib.Core.Path.{_≡_, refl, sym, _∙_, ap}
 use mathlib.Core.Bool.{Bool, true, false}
 use mathlib.Core.List.{List}
 use native.Mathlib.Omega.{arith}
-use lib.ListN.{length, getD, take, length-append}
+use lib.ListN.{length, getD, take}
 use lib.Seq.{take-all, take-take}
 use lib.Dec.{ltb}
 use borrow.Author.Tests.{ltb-true, ltb-false, le-leb}
 use Rattle.scope.specs.declared.Answer.{Answer}
+use Rattle.scope.specs.declared.Refusal.{Refusal}
 use Rattle.scope.specs.Outcome.{Outcome, gives, refused, outcomeOf, andThen}
 use Rattle.scope.specs.File.{walkFile, rowOf}
 use Rattle.scope.specs.Plan.{planOf}
@@ -21,7 +22,7 @@ use Rattle.view.proofs.Walked.{walked}
 use Rattle.view.proofs.Parts.{message-count, timeout-is}
 use Rattle.plan.proofs.Ways.{good-row}
 use Rattle.plan.proofs.Reading.{read-judged}
-use Rattle.text.proofs.Decimal.{decimal-all}
+use Rattle.listing.proofs.Lines.{refused-size}
 use Rattle.listing.proofs.Room.{listing-room}
 use Rattle.listing.proofs.Fronts.{from-front}
 use Rattle.listing.specs.Room.{listingRoom}
@@ -35,7 +36,7 @@ use Rattle.replay_text.proofs.Low.{event-numbers}
 file-front : (file input : List ℕ) → replayText (take planRoom file) input ≡ replayText file input
 file-front file input =
     from-front (λ (f : List ℕ). replayText (take planRoom file) input ≡ replayText f input) file
-    (λ k p front whole _. text-refused (take planRoom file) input k p front ∙ sym (text-refused file input k p whole)) refl
+    (λ r front whole _. text-refused (take planRoom file) input r front ∙ sym (text-refused file input r whole)) refl
 
 input-front : (file input : List ℕ) → replayText file (take cutsRoom input) ≡ replayText file input
 input-front file input = by (readFile file longestRow) refl
@@ -47,7 +48,7 @@ input-front file input = by (readFile file longestRow) refl
         ∙ ap (λ (t : List ℕ). textOf (rowOf file) (cutsFrom 65 t 0)) (take-take cutsRoom cutsRoom input (omega arith))
         ∙ replay-enough (rowOf file) input longestEvents cutsRoom (omega arith)
         ∙ sym (text-given file input n e)
-    by (refused k p) e = text-refused file (take cutsRoom input) k p e ∙ sym (text-refused file input k p e)
+    by (refused r) e = text-refused file (take cutsRoom input) r e ∙ sym (text-refused file input r e)
 
 -- so many bytes of the file and of the input print what the whole prints, however long they are
 pub front-prints : (file input : List ℕ) → replayText (take planRoom file) (take cutsRoom input) ≡ replayText file input
@@ -58,11 +59,7 @@ pub text-room : (file input : List ℕ) → length (replayText file input) ≤ l
 text-room file input = by (readFile file longestRow) refl
   where
     by : (o : Outcome) → readFile file longestRow ≡ o → length (replayText file input) ≤ listingRoom
-    by (refused k p) e =
-        let a = decimal-all k in
-        let b = decimal-all p in
-        let size : length (refusedLine k p) ≤ 56 = simp length-append (omega arith) in
-        omega (arith, ap length (text-refused file input k p e))
+    by (refused r) e = omega (arith, refused-size r, ap length (text-refused file input r e))
     by (gives n) e =
         let row = rowOf file in
         let cuts = cutsOf input in

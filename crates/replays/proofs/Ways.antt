@@ -1,6 +1,6 @@
 -- The replay of a row: one law for each answer; how many numbers it needs; and that a row, a cut list and a buffer allow one outcome.
 use Prim.Native.Nat.{ℕ, _+_, _*_, _≤_, _<_}
-use mathlib.Core.Path.{_≡_, sym, _∙_, ap}
+use mathlib.Core.Path.{_≡_, refl, sym, _∙_, ap}
 use mathlib.Core.List.{List, _++_}
 use native.Mathlib.Nat.{mul-comm, mul-assoc, mul-le-mul}
 use native.Mathlib.Omega.{arith}
@@ -9,7 +9,7 @@ use borrow.Author.Tests.{le-leb, lt-leb}
 use Rattle.scope.specs.declared.Answer.{Answer}
 use Rattle.scope.specs.declared.Answer.the-variants.{Gives, Refused}
 use Rattle.scope.specs.declared.Refusal.{Refusal}
-use Rattle.scope.specs.Outcome.{gives, refused}
+use Rattle.scope.specs.Outcome.{outcomeOf, gives, refused, refuse}
 use Rattle.scope.specs.Plan.{Plan, messageCount, timeoutOf, planOf}
 use Rattle.scope.specs.Cuts.{checkCuts, isCut}
 use Rattle.scope.specs.Slot as S
@@ -20,7 +20,7 @@ use Rattle.view.proofs.Parts.{message-count, link-count, timeout-is}
 use Rattle.view.proofs.Walked.{walked}
 use Rattle.table.specs.Table.{Table}
 use Rattle.flow.proofs.Theorems.{row-most}
-use Rattle.plan.proofs.Outcomes.{only-one, after-refused, after-gives}
+use Rattle.plan.proofs.Outcomes.{only-one, refuses, after-gives}
 use Rattle.plan.proofs.Ways.{good-row}
 use Rattle.cuts.specs.From.{downOf, Tells}
 use Rattle.cycle.specs.Slot.{ownerOf}
@@ -63,27 +63,27 @@ few-numbers row j t n e f =
     mul-le-mul a b
 
 -- refusals 1 to 10, and 12
-pub replay-bad : (row cuts entry : List ℕ) (r : Refusal) → judge row ≡ refused (r .no) (r .place) → Replays row cuts entry entry (Refused r)
+pub replay-bad : (row cuts entry : List ℕ) (r : Refusal) → judge row ≡ refused r → Replays row cuts entry entry (Refused r)
 unfolding replay
 replay-bad row cuts entry r e =
-    let o : replay row cuts (length entry) ≡ refused (r .no) (r .place) = rw e in
-    record { answer = sym o; buffer = after-refused _ _ _ _ entry o }
+    let o : replay row cuts (length entry) ≡ refused r = rw e in
+    refuses _ _ entry r (Refused r) o refl
 
-pub replay-cuts : (row cuts entry : List ℕ) (r : Refusal) → Judged row → checkCuts (planOf row) cuts ≡ refused (r .no) (r .place) →
+pub replay-cuts : (row cuts entry : List ℕ) (r : Refusal) → Judged row → checkCuts (planOf row) cuts ≡ refused r →
     Replays row cuts entry entry (Refused r)
 unfolding replay
 replay-cuts row cuts entry r j e =
-    let o : replay row cuts (length entry) ≡ refused (r .no) (r .place) = rw (j .good, e) in
-    record { answer = sym o; buffer = after-refused _ _ _ _ entry o }
+    let o : replay row cuts (length entry) ≡ refused r = rw (j .good, e) in
+    refuses _ _ entry r (Refused r) o refl
 
 module _ (row cuts entry : List ℕ) (good : Checked row cuts) (needed : ℕ) (n : needed ≡ timeoutOf row * (2 * messageCount row)) where
   -- refusal 13
-  pub replay-short : length entry < needed → Replays row cuts entry entry (Refused (record { no = 13; place = needed }))
+  pub replay-short : (a : Answer) → length entry < needed → outcomeOf a ≡ refuse 13 needed → Replays row cuts entry entry a
   unfolding replay
-  replay-short h =
+  replay-short a h is =
       let l : length (eventRow (planOf row) cuts) ≡ needed = row-length row cuts ∙ sym n in
-      let o : replay row cuts (length entry) ≡ refused 13 needed = rw (good .judged .good, good .good, l, lt-leb needed (length entry) h) in
-      record { answer = sym o; buffer = after-refused _ _ _ _ entry o }
+      let o : replay row cuts (length entry) ≡ refuse 13 needed = rw (good .judged .good, good .good, l, lt-leb needed (length entry) h) in
+      refuses _ _ entry _ a o is
 
   -- the arrivals, with the row of events
   module _ (h : needed ≤ length entry) (table from exit : List ℕ) (count : ℕ) (t : Table (tableOf (planOf row)) table) (f : Tells cuts 64 from)

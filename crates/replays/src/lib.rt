@@ -2,7 +2,7 @@
 // events. It takes anything and asks nothing. It leans on `plan` for refusals 1 to 10, on `cuts` for 12, on `table` for who holds a
 // link, and on `cycle`, which plays.
 use scope::Answer;
-use scope::Refusal;
+use scope::refuse;
 ghost use Prim.Native.Nat.{_*_};
 ghost use mathlib.Core.Path.{_≡_};
 ghost use Rattle.scope.specs.Plan.{messageCount, timeoutOf};
@@ -23,10 +23,7 @@ fn replay_cut(row: &[u16], cuts: &[u16], events: &mut [u16]) -> Answer
 {
     let needed = event_numbers(row);
     if events.len() < needed {
-        return Answer::Refused(Refusal {
-            no: 13,
-            place: needed,
-        });
+        return refuse(13, needed);
     }
     let mut table = [0u8; 4096];
     table::fill_table(row, &mut table);

@@ -9,7 +9,8 @@ use lib.Seq.{length-take-le, take-at, drop-at}
 use lib.Dec.{ltb, leb}
 use borrow.Author.Tests.{lt-ltb, le-ltb, le-leb, lt-leb}
 use Rattle.scope.specs.declared.Refusal.{Refusal}
-use Rattle.scope.specs.Outcome.{Outcome, gives, refused}
+use Rattle.scope.proofs.Outcomes.{not-both}
+use Rattle.scope.specs.Outcome.{gives, refused, refusalAt}
 use Rattle.scope.specs.Plan.{planOf, messageCount}
 use Rattle.scope.specs.Cuts.{pairs}
 use Rattle.scope.specs.Verdict.{FirstFailing}
@@ -24,31 +25,36 @@ use Rattle.resist.specs.declared.Ruling.the-variants.{Resistant, Failing
 use Rattle.resist.specs.Verdict.{Judged, MayAsk, IsResistant, IsFailing, IsRefused, Answered}
 
 -- refusals 1 to 10
-pub bad-row : (row : List ℕ) (k l : ℕ) (entry : List ℕ) (r : Refusal) → judge row ≡ refused (r .no) (r .place) → IsRefused row k l entry entry (r .no) (r .place)
+pub bad-row : (row : List ℕ) (k l : ℕ) (entry : List ℕ) (r : Refusal) → judge row ≡ refused r → IsRefused row k l entry entry r
 unfolding mayJudge
 bad-row row k l entry r e = record { may = rw e; buffer = refl }
 
 module _ (row : List ℕ) (k l : ℕ) (entry : List ℕ) (j : Judged row) where
   -- refusal 11
-  pub k-too-large : 3 < k → IsRefused row k l entry entry 11 0
+  pub k-too-large : (r : Refusal) → 3 < k → r ≡ refusalAt 11 0 → IsRefused row k l entry entry r
   unfolding mayJudge
-  k-too-large h = record { may = rw (j .good, lt-ltb 3 k h); buffer = refl }
+  k-too-large r h is = record { may = rw (j .good, lt-ltb 3 k h) (ap refused (sym is)); buffer = refl }
 
-  pub l-too-large : (m : ℕ) → m ≡ messageCount row → m < l → IsRefused row k l entry entry 11 0
+  pub l-too-large : (m : ℕ) (r : Refusal) → m ≡ messageCount row → m < l → r ≡ refusalAt 11 0 → IsRefused row k l entry entry r
   unfolding mayJudge
-  l-too-large m e h =
-      record { may = rw (j .good, lt-ltb (length (planOf row .messages)) l (omega (arith, message-count row)), or-true (ltb 3 k)); buffer = refl }
+  l-too-large m r e h is =
+      record {
+        may = rw (j .good, lt-ltb (length (planOf row .messages)) l (omega (arith, message-count row)), or-true (ltb 3 k)) (ap refused (sym is));
+        buffer = refl;
+      }
 
   module _ (m : ℕ) (e : m ≡ messageCount row) (few : k ≤ 3) (least : l ≤ m) where
     pub may-ask : MayAsk row k l
     may-ask = record { judged = j; few = few; least = omega (arith, message-count row) }
 
     -- refusal 13
-    pub too-short : length entry < 2 * k → IsRefused row k l entry entry 13 (2 * k)
+    pub too-short : (r : Refusal) → length entry < 2 * k → r ≡ refusalAt 13 (2 * k) → IsRefused row k l entry entry r
     unfolding mayJudge
-    too-short h =
+    too-short r h is =
         record {
-          may = rw (j .good, le-ltb 3 k few, le-ltb (length (planOf row .messages)) l (omega (arith, message-count row)), lt-leb (2 * k) (length entry) h);
+          may =
+              rw (j .good, le-ltb 3 k few, le-ltb (length (planOf row .messages)) l (omega (arith, message-count row)), lt-leb (2 * k) (length entry) h)
+              (ap refused (sym is));
           buffer = refl;
         }
 
@@ -80,9 +86,6 @@ module _ (row : List ℕ) (k l : ℕ) (entry : List ℕ) (j : Judged row) where
             }
 
 -- two outcomes that the statement allows are equal
-gives-refused : {o : Outcome} {n k p : ℕ} → o ≡ gives n → o ≡ refused k p → ⊥
-gives-refused e f = let z : _≡_ {A = ℕ} 0 1 = cc in omega arith
-
 module _ (row : List ℕ) (k l : ℕ) (entry exit exit′ : List ℕ) where
   pub failing-once : (n m : ℕ) → IsFailing row k l entry exit n → IsFailing row k l entry exit′ m → (n ≡ m) × (exit ≡ exit′)
   failing-once n m a b =
@@ -96,13 +99,12 @@ module _ (row : List ℕ) (k l : ℕ) (entry exit exit′ : List ℕ) where
   pub one-outcome : (v w : Ruling) → Answered row k l entry exit v → Answered row k l entry exit′ w → (v ≡ w) × (exit ≡ exit′)
   one-outcome Resistant Resistant a b = (refl, a .buffer ∙ sym (b .buffer))
   one-outcome Resistant (Failing m) a b = absurd (resistant-or-failing (planOf row) k l (take (2 * m) exit′) (a .resistant) (b .list))
-  one-outcome Resistant (Refused s) a b = absurd (gives-refused (a .may) (b .may))
+  one-outcome Resistant (Refused s) a b = not-both (sym (b .may) ∙ a .may)
   one-outcome (Failing n) Resistant a b = absurd (resistant-or-failing (planOf row) k l (take (2 * n) exit) (b .resistant) (a .list))
   one-outcome (Failing n) (Failing m) a b = let two = failing-once n m a b in (ap Failing (two .0), two .1)
-  one-outcome (Failing n) (Refused s) a b = absurd (gives-refused (a .may) (b .may))
-  one-outcome (Refused r) Resistant a b = absurd (gives-refused (b .may) (a .may))
-  one-outcome (Refused r) (Failing m) a b = absurd (gives-refused (b .may) (a .may))
+  one-outcome (Failing n) (Refused s) a b = not-both (sym (b .may) ∙ a .may)
+  one-outcome (Refused r) Resistant a b = not-both (sym (a .may) ∙ b .may)
+  one-outcome (Refused r) (Failing m) a b = not-both (sym (a .may) ∙ b .may)
   one-outcome (Refused r) (Refused s) a b =
-      let no : r .no ≡ s .no = cc (a .may, b .may) in
-      let place : r .place ≡ s .place = cc (a .may, b .may) in
-      (λ i. Refused (record { no = no i; place = place i }), a .buffer ∙ sym (b .buffer))
+      let same : r ≡ s = cc (a .may, b .may) in
+      (ap Refused same, a .buffer ∙ sym (b .buffer))

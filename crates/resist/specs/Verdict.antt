@@ -3,6 +3,7 @@ use Prim.Native.Nat.{ℕ, _*_, _≤_}
 use mathlib.Core.Path.{_≡_}
 use mathlib.Core.List.{List}
 use lib.ListN.{length, take, drop}
+use Rattle.scope.specs.declared.Refusal.{Refusal}
 use Rattle.scope.specs.Outcome.{Outcome, gives, refused}
 use Rattle.scope.specs.Plan.{planOf}
 use Rattle.scope.specs.Cuts.{pairs}
@@ -25,15 +26,15 @@ pub record IsFailing (row : List ℕ) (k l : ℕ) (entry exit : List ℕ) (n : �
   pub rest : drop (2 * n) exit ≡ drop (2 * n) entry
 
 -- "A refusal gives its number and place, .. and no change in any buffer"
-pub record IsRefused (row : List ℕ) (k l : ℕ) (entry exit : List ℕ) (no place : ℕ) : Type 0 where
-  pub may : mayJudge row k l (length entry) ≡ refused no place
+pub record IsRefused (row : List ℕ) (k l : ℕ) (entry exit : List ℕ) (r : Refusal) : Type 0 where
+  pub may : mayJudge row k l (length entry) ≡ refused r
   pub buffer : exit ≡ entry
 
 -- what each case of the answer says
 abbrev pub Answered : List ℕ → ℕ → ℕ → List ℕ → List ℕ → Ruling → Type 0
 Answered row k l entry exit Resistant = IsResistant row k l entry exit
 Answered row k l entry exit (Failing n) = IsFailing row k l entry exit n
-Answered row k l entry exit (Refused r) = IsRefused row k l entry exit (r .no) (r .place)
+Answered row k l entry exit (Refused r) = IsRefused row k l entry exit r
 
 -- a row without refusals 1 to 10
 pub record Judged (row : List ℕ) : Type 0 where

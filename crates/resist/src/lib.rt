@@ -5,6 +5,7 @@ use hunt::Asked;
 use hunt::Hunted;
 use scope::Answer;
 use scope::Refusal;
+use scope::refusal_at;
 ghost use Rattle.hunt.specs.Hunt.{Hunts};
 ghost use Rattle.resist.specs.Verdict.{Answered, Judged, MayAsk};
 
@@ -43,16 +44,13 @@ fn verdict_good(row: &[u16], k: usize, l: usize, list: &mut [u16]) -> Ruling
     ensures { λ r. ⌜ Answered (now (row .entry)) k l (now (list .entry)) (now (list .exit)) r ⌝ }
 {
     if 3 < k {
-        return Ruling::Refused(Refusal { no: 11, place: 0 });
+        return Ruling::Refused(refusal_at(11, 0));
     }
     if view::messages(row) < l {
-        return Ruling::Refused(Refusal { no: 11, place: 0 });
+        return Ruling::Refused(refusal_at(11, 0));
     }
     if list.len() < 2 * k {
-        return Ruling::Refused(Refusal {
-            no: 13,
-            place: 2 * k,
-        });
+        return Ruling::Refused(refusal_at(13, 2 * k));
     }
     let hunted = decide(row, k, l);
     if hunted.found {

@@ -25,7 +25,7 @@ module _ (plan : List ℕ) (p : ℕ) (entry exit : List ℕ) (a : Answer) (l : l
   given n e file f =
       printed-given (rowText (take p plan)) entry fits (readFile (take p plan) longestRow) (rowText file) (front plan file p l f) a s n e
 
-  pub refuses : (r : Refusal) → a ≡ Refused r → (exit′ : List ℕ) (b : Answer) → Prints (refusedLine (r .no) (r .place)) exit exit′ b →
+  pub refuses : (r : Refusal) → a ≡ Refused r → (exit′ : List ℕ) (b : Answer) → Prints (refusedLine r) exit exit′ b →
       (file : List ℕ) → Front plan p file → Printed (rowText file) entry exit′ b
   refuses r e exit′ b q file f =
       printed-refused (rowText (take p plan)) entry fits (readFile (take p plan) longestRow) (rowText file) (front plan file p l f) a s r e

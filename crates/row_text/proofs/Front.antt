@@ -9,7 +9,8 @@ use lib.Dec.{ltb, eqb}
 use borrow.Author.Tests.{ltb-true, eqb-false}
 use Rattle.scope.specs.declared.Answer.{Answer}
 use Rattle.scope.specs.declared.Fields.{Fields}
-use Rattle.scope.specs.Outcome.{Outcome, gives, refused, outcomeOf}
+use Rattle.scope.specs.declared.Refusal.{Refusal}
+use Rattle.scope.specs.Outcome.{Outcome, gives, refused, refuse, outcomeOf}
 use Rattle.scope.specs.Fields.{width, step, opening, edition}
 use Rattle.scope.specs.Row.{walkFrom, walkRow}
 use Rattle.scope.specs.Questions.{after, judge, writeFile}
@@ -28,8 +29,8 @@ walk-front s i (suc k) (v ∷ vs) h l =
   where
     by : (t : Bool) → eqb (width s) 0 ≡ t → (u : Bool) → ltb v (2 ^ width s) ≡ u →
         (numbers (step s v) < k → k ≤ length vs → walkFrom (step s v) (i + 1) (take k vs) ≡ walkFrom (step s v) (i + 1) vs) →
-        cond t (refused 4 i) (cond u (walkFrom (step s v) (i + 1) (take k vs)) (refused 3 i)) ≡
-        cond t (refused 4 i) (cond u (walkFrom (step s v) (i + 1) vs) (refused 3 i))
+        cond t (refuse 4 i) (cond u (walkFrom (step s v) (i + 1) (take k vs)) (refuse 3 i)) ≡
+        cond t (refuse 4 i) (cond u (walkFrom (step s v) (i + 1) vs) (refuse 3 i))
     by true z u m more = refl
     by false z true m more =
         let f = falls (λ w. 1) s v (eqb-false (width s) 0 z) (ltb-true v (2 ^ width s) m) in
@@ -41,34 +42,34 @@ unfolding walkRow
 row-front [] h = absurd (omega arith)
 row-front (v ∷ vs) h =
     let o = numbers-opening in
-    ap (λ (w : Outcome). cond (eqb v edition) w (refused 1 0)) (walk-front opening 1 10405 vs (omega arith) (omega arith))
+    ap (λ (w : Outcome). cond (eqb v edition) w (refuse 1 0)) (walk-front opening 1 10405 vs (omega arith) (omega arith))
 
-long-refused : (row : List ℕ) → 10406 ≤ length row → (k : ℕ) × (p : ℕ) × (walkRow row ≡ refused k p)
+long-refused : (row : List ℕ) → 10406 ≤ length row → (r : Refusal) × (walkRow row ≡ refused r)
 long-refused row l = by (walkRow row) refl
   where
-    by : (o : Outcome) → walkRow row ≡ o → (k : ℕ) × (p : ℕ) × (walkRow row ≡ refused k p)
+    by : (o : Outcome) → walkRow row ≡ o → (r : Refusal) × (walkRow row ≡ refused r)
     by (gives n) e = absurd (let m = row-most row n e in omega arith)
-    by (refused k p) e = (k, p, e)
+    by (refused r) e = (r, e)
 
-write-refused : (row : List ℕ) (lent k p : ℕ) → walkRow row ≡ refused k p → writeFile row lent ≡ refused k p
+write-refused : (row : List ℕ) (lent : ℕ) (r : Refusal) → walkRow row ≡ refused r → writeFile row lent ≡ refused r
 unfolding writeFile judge
-write-refused row lent k p e = rw e
+write-refused row lent r e = rw e
 
-after-same : (o : Outcome) (k p : ℕ) (a b buffer : List ℕ) → o ≡ refused k p → after o a buffer ≡ after o b buffer
+after-same : (o : Outcome) (r : Refusal) (a b buffer : List ℕ) → o ≡ refused r → after o a buffer ≡ after o b buffer
 unfolding after
-after-same o k p a b buffer e = rw e
+after-same o r a b buffer e = rw e
 
 -- writing the front of a long row is writing the row: both are refused alike
 pub writes-front : (row front entry exit : List ℕ) (r : Answer) → 10406 ≤ length row → front ≡ take 10406 row → Writes front entry exit r → Writes row entry exit r
 writes-front row front entry exit r l is h =
     let x = long-refused row l in
-    let a : writeFile front (length entry) ≡ refused (x .0) (x .1) =
-    write-refused front (length entry) (x .0) (x .1) (ap walkRow is ∙ row-front row l ∙ x .2) in
-    let b : writeFile row (length entry) ≡ refused (x .0) (x .1) = write-refused row (length entry) (x .0) (x .1) (x .2) in
+    let a : writeFile front (length entry) ≡ refused (x .0) =
+    write-refused front (length entry) (x .0) (ap walkRow is ∙ row-front row l ∙ x .1) in
+    let b : writeFile row (length entry) ≡ refused (x .0) = write-refused row (length entry) (x .0) (x .1) in
     record {
       answer = h .answer ∙ a ∙ sym b;
       buffer =
           h .buffer
           ∙ ap (λ (o : Outcome). after o (fileOf front) entry) (a ∙ sym b)
-          ∙ after-same (writeFile row (length entry)) (x .0) (x .1) (fileOf front) (fileOf row) entry b;
+          ∙ after-same (writeFile row (length entry)) (x .0) (fileOf front) (fileOf row) entry b;
     }

@@ -14,7 +14,8 @@ use Rattle.scope.specs.File.{rowOf}
 use Rattle.scope.specs.Questions.{readFile}
 use Rattle.scope.specs.Limits.{longestRow, planRoom}
 use Rattle.scope.specs.Lines.{decimal, refusedLine}
-use Rattle.text.proofs.Decimal.{decimal-small, decimal-large, decimal-most, decimal-all}
+use Rattle.text.proofs.Decimal.{decimal-small, decimal-large, decimal-most}
+use Rattle.listing.proofs.Lines.{refused-size}
 use Rattle.listing.specs.Prints.{Says, Front}
 use Rattle.listing.proofs.Printing.{says-only}
 use Rattle.listing.proofs.Fronts.{from-front}
@@ -100,10 +101,7 @@ text-room file = by (readFile file longestRow) refl
         let few = read-room file longestRow n e .1 in
         let l = line-room (rowOf file) (row-small (rowOf file) (length (rowOf file)) (g .form)) in
         omega (arith, ap length (text-given file (rowOf file) n e refl))
-    by (refused k p) e =
-        let a = decimal-all k in
-        let b = decimal-all p in
-        rw (text-refused file k p e) (simp length-append (omega arith))
+    by (refused r) e = omega (arith, refused-size r, ap length (text-refused file r e))
 
 -- and what the program has read of a file prints what the file prints
 pub front : (plan file : List ℕ) (p : ℕ) → length plan ≡ planRoom → Front plan p file → rowText (take p plan) ≡ rowText file
@@ -111,7 +109,7 @@ front plan file p l f =
     let is : take p plan ≡ take planRoom file = f ∙ ap (λ (n : ℕ). take n file) l in
     ap rowText is
     ∙ from-front (λ (whole : List ℕ). rowText (take planRoom file) ≡ rowText whole) file
-    (λ k p front whole _. text-refused (take planRoom file) k p front ∙ sym (text-refused file k p whole)) refl
+    (λ r front whole _. text-refused (take planRoom file) r front ∙ sym (text-refused file r whole)) refl
 
 -- two outcomes that a promise of this crate allows are equal
 pub one-text : (file entry exit exit′ : List ℕ) (r r′ : Answer) → Says (readFile file longestRow) (rowText file) entry exit r →

@@ -6,6 +6,7 @@ use native.Mathlib.Omega.{arith}
 use lib.ListN.{length, take, drop, take-append-drop, drop-of-length-le}
 use lib.Seq.{take-at, length-take-le}
 use Rattle.scope.specs.declared.Answer.{Answer}
+use Rattle.scope.specs.declared.Refusal.{Refusal}
 use Rattle.scope.specs.Outcome.{gives, refused}
 use Rattle.scope.specs.File.{rowOf}
 use Rattle.scope.specs.Questions.{readFile}
@@ -19,9 +20,9 @@ use Rattle.row_text.specs.Rows.{rowLine, rowText}
 use Rattle.row_text.proofs.Front.{writes-front}
 
 -- the text of a plan file by what reading it gives
-pub text-refused : (file : List ℕ) (k p : ℕ) → readFile file longestRow ≡ refused k p → rowText file ≡ refusedLine k p
+pub text-refused : (file : List ℕ) (r : Refusal) → readFile file longestRow ≡ refused r → rowText file ≡ refusedLine r
 unfolding rowText
-text-refused file k p e = rw e
+text-refused file r e = rw e
 
 pub text-given : (file row : List ℕ) (n : ℕ) → readFile file longestRow ≡ gives n → row ≡ rowOf file → rowLine row ≡ rowText file
 unfolding rowText

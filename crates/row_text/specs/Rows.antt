@@ -24,7 +24,7 @@ unfoldable pub rowText : List ℕ → List ℕ
 rowText file = said (readFile file longestRow)
   where
     said : Outcome → List ℕ
-    said (refused k p) = refusedLine k p
+    said (refused r) = refusedLine r
     said (gives n) = rowLine (rowOf file)
 
 -- bytes enough for it, with at most six bytes a number

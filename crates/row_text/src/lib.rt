@@ -12,8 +12,8 @@ ghost use Rattle.plan.specs.Answers.{Writes};
 ghost use Rattle.row_text.specs.Rows.{mark, rowLine, numbersOf, goesOn};
 ghost use Rattle.row_text.specs.Rows.{ends as Rows·ends, rowText as Rows·rowText};
 use scope::Answer;
-use scope::Refusal;
 use scope::limits;
+use scope::refuse;
 use text::put_number;
 use view::number;
 
@@ -61,10 +61,7 @@ fn listed(row: &[u16], out: &mut [u8]) -> Answer
 {
     let needed = row_line(&mut out[..0], row);
     if out.len() < needed {
-        return Answer::Refused(Refusal {
-            no: 13,
-            place: needed,
-        });
+        return refuse(13, needed);
     }
     row_line(out, row);
     Answer::Gives(needed)

@@ -9,7 +9,7 @@ use borrow.Author.Tests.{lt-ltb, le-ltb}
 use lib.ListN.{length, getD, replicate, length-replicate, getD-replicate}
 use lib.Dec.{ltb}
 use Rattle.scope.specs.Lowest.{lowest, some}
-use Rattle.scope.specs.Outcome.{Outcome, refused, unlessSome}
+use Rattle.scope.specs.Outcome.{Outcome, unlessSome, refuse}
 use Rattle.scope.specs.Plan.{Plan, Place, at, messageAt, afterMessage, firstMessage, messageCount, planOf, pathOf}
 use Rattle.scope.specs.Good.{holds, taken}
 use Rattle.scope.specs.SecondPath.{messageIndex}
@@ -84,7 +84,7 @@ module _ (plan : Plan) (m : ℕ) (table : List ℕ) (t : Table (ownerBelow plan 
 
 -- a refusal is given, is not given: r is what a loop found, and n how many things it looked at
 module _ (k : ℕ) (broken : ℕ → Bool) (count : ℕ) (after : Outcome) (r n c : ℕ) (fr : r ≡ lowest broken c) (fn : n ≡ c) (fc : count ≡ c) where
-  pub given : r < n → refused k r ≡ unlessSome k broken count after
+  pub given : r < n → refuse k r ≡ unlessSome k broken count after
   given h = let t : ltb (lowest broken c) c ≡ true = lt-ltb (lowest broken c) c (omega arith) in rw (fc, t, fr)
 
   pub not-given : n ≤ r → after ≡ unlessSome k broken count after

@@ -1,11 +1,11 @@
 // Refusals 5 to 10 of a row that has the form of a plan: `check` gives 0, or the lowest refusal that applies with its place, as
 // `rules` of document 01 says. It leans on `broken` for the test of one link or message, and on `view` and `table`.
 use scope::Answer;
-use scope::Refusal;
+use scope::refuse;
 ghost use mathlib.Core.Path.{_≡_};
 ghost use lib.ListN.{length};
 ghost use Rattle.scope.specs.Lowest.{lowest};
-ghost use Rattle.scope.specs.Outcome.{gives, refused, outcomeOf};
+ghost use Rattle.scope.specs.Outcome.{gives, outcomeOf};
 ghost use Rattle.scope.specs.Row.{walkRow};
 ghost use Rattle.scope.specs.Plan.{planOf, linkCount, messageCount};
 ghost use Rattle.scope.specs.Good.{badEnds, repeats, badFirstPath, badSlots, badTable, badSecondPath, rules};
@@ -110,15 +110,6 @@ fn lowest_bad_seconds(row: &[u16]) -> usize
         m += 1;
     }
     m
-}
-
-fn refuse(no: usize, place: usize) -> Answer
-    ensures { λ r. ⌜ outcomeOf r ≡ refused no place ⌝ }
-{
-    Answer::Refused(Refusal {
-        no: no,
-        place: place,
-    })
 }
 
 // Refusals 7 to 10.

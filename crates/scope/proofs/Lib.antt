@@ -1,4 +1,5 @@
 pub mod Bools
+pub mod Outcomes
 pub mod Lowest
 pub mod Cuts
 pub mod Order

@@ -6,7 +6,7 @@ use mathlib.Core.List.{List, [], _∷_}
 use lib.ListN.{length, getD, drop}
 use lib.IntN.{ℤ, pos, negsuc}
 use lib.Dec.{eqb}
-use Rattle.scope.specs.Outcome.{Outcome, gives, refused}
+use Rattle.scope.specs.Outcome.{Outcome, gives, refuse}
 use Rattle.scope.specs.File.{rowOf, fileOf}
 use Rattle.scope.specs.Plan.{planOf}
 use Rattle.scope.specs.Cuts.{isCut}
@@ -116,9 +116,9 @@ Holds (fails row k l cuts) = FirstFailing (planOf row) k l cuts
 abbrev pub table : List Case
 table =
     same fileB rowB ∷
-    reads (fileWith 0x10 0x01) 25 (refused 4 129) ∷
-    reads [] 25 (refused 2 0) ∷
-    reads (fileWith 0x20 0x00) 25 (refused 1 0) ∷
+    reads (fileWith 0x10 0x01) 25 (refuse 4 129) ∷
+    reads [] 25 (refuse 2 0) ∷
+    reads (fileWith 0x20 0x00) 25 (refuse 1 0) ∷
     plays rowB (0 ∷ 0 ∷ []) 2
     (3 ∷ 1 ∷ 5 ∷ 0 ∷ 3 ∷ 2 ∷ 3 ∷ 1 ∷ 0 ∷ 0 ∷ 3 ∷ 2 ∷ 0 ∷ 0 ∷ 0 ∷ 0 ∷ []) ∷
     follows rowB (1 ∷ 0 ∷ []) 2 1 (1 ∷ 3 ∷ 3 ∷ 0 ∷ []) ∷

@@ -7,6 +7,7 @@ use lib.ListN.{length, getD}
 use lib.IntN.{ℤ, pos, negsuc}
 use lib.Dec.{ltb, leb, eqb}
 use Rattle.scope.specs.Limits.{longestRow, longestEvents}
+use Rattle.scope.specs.declared.Refusal.{Refusal}
 use Rattle.scope.specs.Outcome.{Outcome, gives, refused}
 use Rattle.scope.specs.File.{rowOf}
 use Rattle.scope.specs.Plan.{Plan, Place, planOf}
@@ -118,9 +119,10 @@ cutLines (i ∷ e ∷ cuts) = cutLine i e ++ cutLines cuts
 -- What the programs print.
 
 -- `refused N place P`
-abbrev pub refusedLine : ℕ → ℕ → List ℕ
-refusedLine k p =
-    (114 ∷ 101 ∷ 102 ∷ 117 ∷ 115 ∷ 101 ∷ 100 ∷ 32 ∷ []) ++ (decimal k ++ ((32 ∷ 112 ∷ 108 ∷ 97 ∷ 99 ∷ 101 ∷ 32 ∷ []) ++ (decimal p ++ lineFeed)))
+abbrev pub refusedLine : Refusal → List ℕ
+refusedLine r =
+    (114 ∷ 101 ∷ 102 ∷ 117 ∷ 115 ∷ 101 ∷ 100 ∷ 32 ∷ []) ++
+    (decimal (r .no) ++ ((32 ∷ 112 ∷ 108 ∷ 97 ∷ 99 ∷ 101 ∷ 32 ∷ []) ++ (decimal (r .place) ++ lineFeed)))
 
 -- `slot message kind number`
 abbrev pub header : List ℕ
@@ -146,14 +148,14 @@ arrivedLine n m =
 unfoldable pub listing : Outcome → Plan → List ℕ → List ℕ
 listing (gives n) plan row =
     header ++ (eventLines (length (plan .messages)) row 0 (plan .timeout * length (plan .messages)) ++ arrivedLine n (length (plan .messages)))
-listing (refused k p) plan row = refusedLine k p
+listing (refused r) plan row = refusedLine r
 
 -- what the replay program prints for a plan file and an input: the plan's refusal comes before the cuts'
 unfoldable pub replayText : List ℕ → List ℕ → List ℕ
 replayText file input = said (readFile file longestRow)
   where
     said : Outcome → List ℕ
-    said (refused k p) = refusedLine k p
+    said (refused r) = refusedLine r
     said (gives n) =
         listing (replay (rowOf file) (cutsOf input) longestEvents) (planOf (rowOf file)) (eventRow (planOf (rowOf file)) (cutsOf input))
 
@@ -213,5 +215,5 @@ unfoldable pub VerdictText : List ℕ → List ℕ → Type 0
 VerdictText file text = Said (readFile file longestRow)
   where
     Said : Outcome → Type 0
-    Said (refused k p) = text ≡ refusedLine k p
+    Said (refused r) = text ≡ refusedLine r
     Said (gives n) = VerdictLines (planOf (rowOf file)) 0 (1 + highestK (planOf (rowOf file))) text

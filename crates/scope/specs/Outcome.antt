@@ -3,40 +3,48 @@ use Prim.Native.Nat.{ℕ}
 use mathlib.Core.Bool.{Bool, cond}
 use lib.Dec.{ltb, leb}
 use Rattle.scope.specs.Lowest.{lowest}
+use Rattle.scope.specs.declared.Refusal.{Refusal}
 use Rattle.scope.specs.declared.Answer.{Answer}
 use Rattle.scope.specs.declared.Answer.the-variants.{Gives, Refused}
 
+-- the refusal with a number and a place
+abbrev pub refusalAt : ℕ → ℕ → Refusal
+refusalAt k p = record { no = k; place = p }
+
 pub data Outcome : Type 0 where
   gives : ℕ → Outcome
-  refused : ℕ → ℕ → Outcome
+  refused : Refusal → Outcome
+
+abbrev pub refuse : ℕ → ℕ → Outcome
+refuse k p = refused (refusalAt k p)
 
 -- the number and values of each case of an answer
 abbrev pub outcomeOf : Answer → Outcome
 outcomeOf (Gives n) = gives n
-outcomeOf (Refused r) = refused (r .no) (r .place)
+outcomeOf (Refused r) = refused r
 
 -- the three numbers of an outcome: the refusal's number and place, 0 and 0 where there is none, and the result, 0 beside a refusal
 abbrev pub number : Outcome → ℕ
 number (gives n) = 0
-number (refused k p) = k
+number (refused r) = r .no
 
 abbrev pub place : Outcome → ℕ
 place (gives n) = 0
-place (refused k p) = p
+place (refused r) = r .place
 
 abbrev pub result : Outcome → ℕ
 result (gives n) = n
-result (refused k p) = 0
+result (refused r) = 0
 
 -- "The lowest number that applies is given": what is asked next is asked only where nothing was refused before
 abbrev pub andThen : Outcome → (ℕ → Outcome) → Outcome
 andThen (gives n) next = next n
-andThen (refused k p) next = refused k p
+andThen (refused r) next = refused r
 
 -- refusal k with the lowest of the n things that break its rule, or else what comes after it
 abbrev pub unlessSome : ℕ → (ℕ → Bool) → ℕ → Outcome → Outcome
-unlessSome k broken n after = cond (ltb (lowest broken n) n) (refused k (lowest broken n)) after
+unlessSome k broken n after = cond (ltb (lowest broken n) n) (refuse k (lowest broken n)) after
 
 -- refusal 13: "the output is too short", with the numbers or bytes needed
 abbrev pub room : ℕ → ℕ → Outcome
-room needed lent = cond (leb needed lent) (gives needed) (refused 13 needed)
+room needed lent = cond (leb needed lent) (gives needed) (refuse 13 needed)

@@ -6,7 +6,7 @@ use mathlib.Core.List.{List, [], _++_}
 use lib.ListN.{length, take, drop}
 use lib.IntN.{ℤ}
 use lib.Dec.{ltb, leb}
-use Rattle.scope.specs.Outcome.{Outcome, gives, refused, andThen, room}
+use Rattle.scope.specs.Outcome.{Outcome, gives, refused, refuse, andThen, room}
 use Rattle.scope.specs.File.{walkFile, rowOf, fileOf}
 use Rattle.scope.specs.Row.{walkRow}
 use Rattle.scope.specs.Plan.{Plan, Place, planOf}
@@ -20,7 +20,7 @@ use Rattle.scope.specs.SecondPath.{shown}
 -- a lent buffer after the call: "A success changes only the part it writes", and a refusal changes nothing
 unfoldable pub after : Outcome → List ℕ → List ℕ → List ℕ
 after (gives n) written buffer = written ++ drop (length written) buffer
-after (refused k p) written buffer = buffer
+after (refused r) written buffer = buffer
 
 -- refusals 1 to 10 of a row, or how many numbers it has
 unfoldable pub judge : List ℕ → Outcome
@@ -47,11 +47,11 @@ replay row cuts lent =
 unfoldable pub mayJudge : List ℕ → ℕ → ℕ → ℕ → Outcome
 mayJudge row k l lent =
     andThen (judge row)
-    (λ _. cond (ltb 3 k || ltb (length (planOf row .messages)) l) (refused 11 0) (room (2 * k) lent))
+    (λ _. cond (ltb 3 k || ltb (length (planOf row .messages)) l) (refuse 11 0) (room (2 * k) lent))
 
 -- what stands before a slack: refusals 1 to 10, and 11, "no such message, place or second path"
 unfoldable pub maySpare : List ℕ → ℕ → ℕ → Outcome
-maySpare row m p = andThen (judge row) (λ _. cond (noSecond (placeOf (planOf row) m p .second)) (refused 11 0) (gives 0))
+maySpare row m p = andThen (judge row) (λ _. cond (noSecond (placeOf (planOf row) m p .second)) (refuse 11 0) (gives 0))
 
 -- the slack of the second path of message m from place p
 unfoldable pub slack : List ℕ → ℕ → ℕ → ℤ

@@ -1,5 +1,8 @@
-// The words of document 01 that code and definitions share: what the next field of a plan is, and what an answer can be. The
-// rules themselves are in specs/, one file for each section of the document; docs/TRACE.md leads from each sentence to its name.
+// The words of document 01 that code and definitions share: what the next field of a plan is, and what an answer can be, with the
+// one place that makes a refusal. The rules themselves are in specs/, one file for each section of the document; docs/TRACE.md leads
+// from each sentence to its name.
+ghost use mathlib.Core.Path.{_≡_};
+ghost use Rattle.scope.specs.Outcome.{outcomeOf, refusalAt, refuse};
 
 pub mod limits;
 
@@ -13,6 +16,20 @@ pub struct Refusal {
 pub enum Answer {
     Gives(usize),
     Refused(Refusal),
+}
+
+// The refusal with a number and a place. Every refusal is made here.
+pub fn refusal_at(no: usize, place: usize) -> Refusal
+    ensures { λ r. ⌜ r ≡ refusalAt no place ⌝ }
+{
+    Refusal { no, place }
+}
+
+// The answer that refuses with a number and a place.
+pub fn refuse(no: usize, place: usize) -> Answer
+    ensures { λ r. ⌜ outcomeOf r ≡ refuse no place ⌝ }
+{
+    Answer::Refused(refusal_at(no, place))
 }
 
 // The next field of a plan after its edition, with how many of each kind follow. The counts are those of the file, "less one":

@@ -10,7 +10,8 @@ use lib.IntN.{ℤ, pos, negsuc, subℕ}
 use lib.Signed.{_≤ℤ_}
 use lib.Dec.{ltb, le→leb}
 use borrow.Author.Tests.{ltb-true, ltb-false}
-use Rattle.scope.specs.Outcome.{Outcome, gives, refused}
+use Rattle.scope.proofs.Outcomes.{not-both}
+use Rattle.scope.specs.Outcome.{Outcome, gives, refuse}
 use Rattle.scope.specs.Plan.{Place, numbersAt, secondStart, secondCount, placeCount, messageAt, planOf, pathOf}
 use Rattle.scope.specs.SecondPath.{messageIndex, placeIndex}
 use Rattle.scope.specs.Good.{rules, slotsRise}
@@ -104,11 +105,11 @@ pub asked : (row : List ℕ) (m p : ℕ) → maySpare row m p ≡ gives 0 → As
 unfolding maySpare
 asked row m p h =
     let es = placeOf (planOf row) m p .second in
-    let j = then-back (judge row) (λ _. cond (noSecond es) (refused 11 0) (gives 0)) 0 h in
+    let j = then-back (judge row) (λ _. cond (noSecond es) (refuse 11 0) (gives 0)) 0 h in
     record { good = good-row row (j .0) (j .1); second = there row m p (by (noSecond es) refl (j .2)) }
   where
-    by : (b : Bool) → noSecond (placeOf (planOf row) m p .second) ≡ b → cond b (refused 11 0) (gives 0) ≡ gives 0 → noSecond (placeOf (planOf row) m p .second) ≡ false
-    by true e f = let z : _≡_ {A = ℕ} 0 1 = cc in absurd (omega arith)
+    by : (b : Bool) → noSecond (placeOf (planOf row) m p .second) ≡ b → cond b (refuse 11 0) (gives 0) ≡ gives 0 → noSecond (placeOf (planOf row) m p .second) ≡ false
+    by true e f = not-both f
     by false e f = e
 
 -- a slack that is answered is the slack asked for

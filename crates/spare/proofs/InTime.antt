@@ -8,7 +8,8 @@ use lib.ListN.{length, length-map}
 use lib.IntN.{pos}
 use lib.Dec.{ltb}
 use Rattle.scope.specs.Lowest.{lowest}
-use Rattle.scope.specs.Outcome.{Outcome, gives, refused, andThen, room}
+use Rattle.scope.proofs.Outcomes.{not-both}
+use Rattle.scope.specs.Outcome.{Outcome, gives, refuse, andThen, room}
 use Rattle.scope.specs.Plan.{Plan, planOf}
 use Rattle.scope.specs.Slot.{onFirst}
 use Rattle.scope.specs.Cuts.{pairs, badPair, checkCuts, isCut, isCutList}
@@ -39,8 +40,8 @@ is-list : (plan : Plan) (cuts : List ℕ) (k : ℕ) → checkCuts plan cuts ≡ 
 unfolding checkCuts
 is-list plan cuts k h = by (ltb (lowest (badPair plan cuts) (pairs cuts)) (pairs cuts)) h
   where
-    by : (b : Bool) → cond b (refused 12 (lowest (badPair plan cuts) (pairs cuts))) (gives (pairs cuts)) ≡ gives k → not b ≡ true
-    by true e = let z : _≡_ {A = ℕ} 0 1 = cc in absurd (omega arith)
+    by : (b : Bool) → cond b (refuse 12 (lowest (badPair plan cuts) (pairs cuts))) (gives (pairs cuts)) ≡ gives k → not b ≡ true
+    by true e = not-both e
     by false e = refl
 
 pub slack-and-replay : SlackAndReplay

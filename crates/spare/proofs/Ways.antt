@@ -10,7 +10,8 @@ use mir.Syntax.{w32}
 use mir.Val.{toZ, ofZ}
 use borrow.Author.Tests.{eq-eqb, ne-eqb}
 use Rattle.scope.specs.declared.Refusal.{Refusal}
-use Rattle.scope.specs.Outcome.{Outcome, gives, refused}
+use Rattle.scope.proofs.Outcomes.{not-both}
+use Rattle.scope.specs.Outcome.{Outcome, gives, refused, refusalAt, refuse}
 use Rattle.scope.specs.Plan.{at, numbersAt, secondStart, secondCount, afterPlaces, placeCount, messageCount, timeoutOf, planOf}
 use Rattle.scope.specs.SecondPath.{messageIndex, placeIndex}
 use Rattle.scope.specs.Cycle.{orderOf}
@@ -25,15 +26,12 @@ use Rattle.spare.proofs.There.{There, no-message, no-place, no-second, 
 use Rattle.spare.proofs.Signed.{sub-back}
 use Rattle.spare.proofs.Bounds.{small}
 
--- an answer is known by its number, place and value
+-- an answer is known by its refusal and value
 same-answer : (a b : Spare) → said a ≡ said b → value a ≡ value b → a ≡ b
 same-answer (Slots y) (Slots z) e f = ap Slots f
-same-answer (Slots y) (Refused r) e f = let z : _≡_ {A = ℕ} 0 1 = cc in absurd (omega arith)
-same-answer (Refused r) (Slots z) e f = let z : _≡_ {A = ℕ} 0 1 = cc in absurd (omega arith)
-same-answer (Refused r) (Refused s) e f =
-    let g : r .no ≡ s .no = cc in
-    let h : r .place ≡ s .place = cc in
-    λ i. Refused (record { no = g i; place = h i })
+same-answer (Slots y) (Refused r) e f = not-both (sym e)
+same-answer (Refused r) (Slots z) e f = not-both e
+same-answer (Refused r) (Refused s) e f = ap Refused (let g : r ≡ s = cc in g)
 
 -- two outcomes that the promise of a slack allows are equal
 pub one-slack : (row : List ℕ) (m p : ℕ) (a b : Spare) → Slacks row m p a → Slacks row m p b → a ≡ b
@@ -48,16 +46,16 @@ module _ (row : List ℕ) (m p : ℕ) where
   pub place-at : {i a : ℕ} → i ≡ messageIndex row m → a ≡ afterPlaces row (i + 1) p → a ≡ placeIndex row m p
   place-at index stands = stands ∙ ap (λ (j : ℕ). afterPlaces row (j + 1) p) index
 
-  refuses : (r : Refusal) → maySpare row m p ≡ refused (r .no) (r .place) → Slacks row m p (Refused r)
+  refuses : (r : Refusal) → maySpare row m p ≡ refused r → Slacks row m p (Refused r)
   refuses r e = record { answer = sym e; value = sym (ap (λ (o : Outcome). unlessRefused o (slack row m p)) e) }
 
   -- refusals 1 to 10
-  pub bad-row : (r : Refusal) → judge row ≡ refused (r .no) (r .place) → Slacks row m p (Refused r)
+  pub bad-row : (r : Refusal) → judge row ≡ refused r → Slacks row m p (Refused r)
   unfolding maySpare
   bad-row r e = refuses r (rw e)
 
   module _ (g : GoodRow row) where
-    may-not : noSecond (placeOf (planOf row) m p .second) ≡ true → maySpare row m p ≡ refused 11 0
+    may-not : noSecond (placeOf (planOf row) m p .second) ≡ true → maySpare row m p ≡ refuse 11 0
     unfolding maySpare
     may-not e = rw (judged row g, e)
 
@@ -65,9 +63,13 @@ module _ (row : List ℕ) (m p : ℕ) where
     unfolding maySpare
     may e = rw (judged row g, e)
 
-    -- refusal 11: the number of messages is n
-    pub out-message : (n : ℕ) → n ≡ messageCount row → n ≤ m → Slacks row m p (Refused (record { no = 11; place = 0 }))
-    out-message n count h = refuses (record { no = 11; place = 0 }) (may-not (no-message row m p (omega arith)))
+    -- refusal 11
+    no-slack : (r : Refusal) → r ≡ refusalAt 11 0 → noSecond (placeOf (planOf row) m p .second) ≡ true → Slacks row m p (Refused r)
+    no-slack r is e = refuses r (may-not e ∙ ap refused (sym is))
+
+    -- the number of messages is n
+    pub out-message : (n : ℕ) (r : Refusal) → n ≡ messageCount row → n ≤ m → r ≡ refusalAt 11 0 → Slacks row m p (Refused r)
+    out-message n r count h is = no-slack r is (no-message row m p (omega arith))
 
     module _ (n i k : ℕ) (count : n ≡ messageCount row) (here : m < n) (index : i ≡ messageIndex row m) (places : k ≡ placeCount row i) where
       message : m < messageCount row
@@ -77,8 +79,8 @@ module _ (row : List ℕ) (m p : ℕ) where
       many = places ∙ ap (placeCount row) index
 
       -- message m stands at index i and has k places
-      pub out-place : k ≤ p → Slacks row m p (Refused (record { no = 11; place = 0 }))
-      out-place h = refuses (record { no = 11; place = 0 }) (may-not (no-place row m p message (omega (arith, many))))
+      pub out-place : (r : Refusal) → k ≤ p → r ≡ refusalAt 11 0 → Slacks row m p (Refused r)
+      out-place r h is = no-slack r is (no-place row m p message (omega (arith, many)))
 
       -- place p stands at index a and has the flag x
       module _ (a x : ℕ) (below : p < k) (stands : a ≡ afterPlaces row (i + 1) p) (flag : x ≡ at row (a + 2)) where
@@ -88,10 +90,9 @@ module _ (row : List ℕ) (m p : ℕ) where
         flag-at : x ≡ at row (placeIndex row m p + 2)
         flag-at = flag ∙ ap (λ (j : ℕ). at row (j + 2)) (place-at index stands)
 
-        pub out-second : (x ≡ 1 → ⊥) → Slacks row m p (Refused (record { no = 11; place = 0 }))
-        out-second other =
-            refuses (record { no = 11; place = 0 })
-            (may-not (no-second row m p message place (ne-eqb (at row (placeIndex row m p + 2)) 1 (λ same. other (flag-at ∙ same)))))
+        pub out-second : (r : Refusal) → (x ≡ 1 → ⊥) → r ≡ refusalAt 11 0 → Slacks row m p (Refused r)
+        out-second r other is =
+            no-slack r is (no-second row m p message place (ne-eqb (at row (placeIndex row m p + 2)) 1 (λ same. other (flag-at ∙ same))))
 
         pub found : x ≡ 1 → There row m p
         found one = record { message = message; place = place; second = eq-eqb (at row (placeIndex row m p + 2)) 1 (sym flag-at ∙ one) }

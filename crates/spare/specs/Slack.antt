@@ -12,7 +12,7 @@ use Rattle.spare.specs.declared.Spare.the-variants.{Slots, Refused}
 -- the refusal's number and place, or that nothing is refused
 abbrev pub said : Spare → Outcome
 said (Slots z) = gives 0
-said (Refused r) = refused (r .no) (r .place)
+said (Refused r) = refused r
 
 -- the slack; "zero in every other result"
 abbrev pub value : Spare → ℤ
@@ -21,7 +21,7 @@ value (Refused r) = pos 0
 
 abbrev pub unlessRefused : Outcome → ℤ → ℤ
 unlessRefused (gives n) z = z
-unlessRefused (refused k q) z = pos 0
+unlessRefused (refused r) z = pos 0
 
 -- the answer for message m and place p of a row
 pub record Slacks (row : List ℕ) (m p : ℕ) (r : Spare) : Type 0 where

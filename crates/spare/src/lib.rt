@@ -3,6 +3,7 @@
 // `view` for where things stand, on `plan` for what a good row is, and on `laws` for the replay. Counting is by total reads of the row.
 use scope::Answer;
 use scope::Refusal;
+use scope::refusal_at;
 ghost use mathlib.Core.Path.{_≡_};
 ghost use Prim.Native.Nat.{_+_, _*_, _<_, _≤_, _^_};
 ghost use mathlib.Core.Bool.{cond};
@@ -170,15 +171,15 @@ pub fn slack_of_good(row: &[u16], m: usize, p: usize) -> Spare
     ensures { λ r. ⌜ Slacks (now (row .entry)) m p r ⌝ }
 {
     if view::messages(row) <= m {
-        return Spare::Refused(Refusal { no: 11, place: 0 });
+        return Spare::Refused(refusal_at(11, 0));
     }
     let i = view::message_index(row, m);
     if view::place_count(row, i) <= p {
-        return Spare::Refused(Refusal { no: 11, place: 0 });
+        return Spare::Refused(refusal_at(11, 0));
     }
     let at = view::after_places(row, i + 1, p);
     if view::number(row, at + 2) != 1 {
-        return Spare::Refused(Refusal { no: 11, place: 0 });
+        return Spare::Refused(refusal_at(11, 0));
     }
     Spare::Slots(less(view::timeout(row), used(row, m, at)))
 }

@@ -13,7 +13,8 @@ use mir.Syntax.{w32}
 use mir.Val.{SFits, toZ, ofZ}
 use mir.ValLaws.{toZ-ofZ}
 use Rattle.scope.specs.declared.Refusal.{Refusal}
-use Rattle.scope.specs.Outcome.{gives, refused}
+use Rattle.scope.proofs.Outcomes.{not-both}
+use Rattle.scope.specs.Outcome.{gives}
 use Rattle.scope.specs.Plan.{Plan, Place, planOf, pathOf, placeCount, messageCount}
 use Rattle.scope.specs.SecondPath.{messageIndex}
 use Rattle.scope.specs.Cycle.{orderOf}
@@ -69,9 +70,7 @@ module _ (row : List ℕ) (m p : ℕ) where
 
       by : (t : Bool) → noSecond (placeOf (planOf row) m p .second) ≡ t → slackAt (planOf row) m p ≡ []
       by true e = none (planOf row) m p (placeOf (planOf row) m p) (placeOf (planOf row) m p .second) e
-      by false e =
-          let both : refused (x .no) (x .place) ≡ gives 0 = r .answer ∙ may g e in
-          absurd (let z : _≡_ {A = ℕ} 0 1 = cc in omega arith)
+      by false e = not-both (r .answer ∙ may g e)
 
 -- no text is put
 pub nothing-put : {text b : List ℕ} {i : ℕ} → text ≡ [] → Puts text b b i i

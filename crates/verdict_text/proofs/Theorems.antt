@@ -11,6 +11,7 @@ use lib.Dec.{ltb}
 use borrow.Author.Tests.{ltb-true, ltb-false, le-leb}
 use Rattle.scope.specs.declared.Answer.{Answer}
 use Rattle.scope.specs.declared.Answer.the-variants.{Gives}
+use Rattle.scope.specs.declared.Refusal.{Refusal}
 use Rattle.scope.specs.Outcome.{Outcome, gives, refused, outcomeOf}
 use Rattle.scope.specs.File.{walkFile, rowOf}
 use Rattle.scope.specs.Plan.{Plan, planOf}
@@ -19,7 +20,7 @@ use Rattle.scope.specs.Lines.{VerdictLine, resistant, failing, failingLine, Und
 use Rattle.scope.proofs.Order.{first-once, resistant-or-failing}
 use Rattle.scope.specs.Limits.{longestRow, planRoom}
 use Rattle.text.specs.Text.{laid}
-use Rattle.text.proofs.Decimal.{decimal-all}
+use Rattle.listing.proofs.Lines.{refused-size}
 use Rattle.listing.specs.Prints.{Prints, Front}
 use Rattle.listing.proofs.Printing.{prints-as, says-only, printed}
 use Rattle.listing.proofs.Fronts.{from-front}
@@ -62,9 +63,9 @@ one-lines plan k most at next next′ entry exit exit′ p q =
     )
 
 -- the text by what reading the file gives
-pub text-refused : (file text : List ℕ) (k p : ℕ) → readFile file longestRow ≡ refused k p → text ≡ refusedLine k p → VerdictText file text
+pub text-refused : (file text : List ℕ) (r : Refusal) → readFile file longestRow ≡ refused r → text ≡ refusedLine r → VerdictText file text
 unfolding VerdictText
-text-refused file text k p e is = rw e is
+text-refused file text r e is = rw e is
 
 pub text-given : (file row text : List ℕ) (n : ℕ) → readFile file longestRow ≡ gives n → row ≡ rowOf file →
     VerdictLines (planOf row) 0 (1 + highestK (planOf row)) text → VerdictText file text
@@ -72,9 +73,9 @@ unfolding VerdictText
 text-given file row text n e is lines =
     rw e (subst (λ (r : List ℕ). VerdictLines (planOf r) 0 (1 + highestK (planOf r)) text) is lines)
 
-back-refused : (file text : List ℕ) (k p : ℕ) → readFile file longestRow ≡ refused k p → VerdictText file text → text ≡ refusedLine k p
+back-refused : (file text : List ℕ) (r : Refusal) → readFile file longestRow ≡ refused r → VerdictText file text → text ≡ refusedLine r
 unfolding VerdictText
-back-refused file text k p e v = rw e at v
+back-refused file text r e v = rw e at v
 
 back-given : (file text : List ℕ) (n : ℕ) → readFile file longestRow ≡ gives n → VerdictText file text →
     VerdictLines (planOf (rowOf file)) 0 (1 + highestK (planOf (rowOf file))) text
@@ -82,9 +83,9 @@ unfolding VerdictText
 back-given file text n e v = rw e at v
 
 -- what is printed for a file
-pub prints-refused : (file entry exit : List ℕ) (r : Answer) (k p : ℕ) → readFile file longestRow ≡ refused k p → Prints (refusedLine k p) entry exit r →
-    PrintsOne (VerdictText file) entry exit r
-prints-refused file entry exit r k p e prints = record { text = refusedLine k p; kind = text-refused file (refusedLine k p) k p e refl; prints = prints }
+pub prints-refused : (file entry exit : List ℕ) (a : Answer) (r : Refusal) → readFile file longestRow ≡ refused r → Prints (refusedLine r) entry exit a →
+    PrintsOne (VerdictText file) entry exit a
+prints-refused file entry exit a r e prints = record { text = refusedLine r; kind = text-refused file (refusedLine r) r e refl; prints = prints }
 
 pub prints-given : (file row entry exit : List ℕ) (n count : ℕ) → readFile file longestRow ≡ gives n → row ≡ rowOf file → verdictRoom ≤ length entry →
     Lays (VerdictLines (planOf row) 0 (1 + highestK (planOf row))) verdictRoom entry exit 0 count → PrintsOne (VerdictText file) entry exit (Gives count)
@@ -101,7 +102,7 @@ pub text-once : (file a b : List ℕ) → VerdictText file a → VerdictText fil
 text-once file a b u v = by (readFile file longestRow) refl
   where
     by : (o : Outcome) → readFile file longestRow ≡ o → a ≡ b
-    by (refused k p) e = back-refused file a k p e u ∙ sym (back-refused file b k p e v)
+    by (refused r) e = back-refused file a r e u ∙ sym (back-refused file b r e v)
     by (gives n) e =
         lines-once (planOf (rowOf file)) 0 (1 + highestK (planOf (rowOf file))) a b (back-given file a n e u) (back-given file b n e v)
 
@@ -140,11 +141,7 @@ pub text-room : (file text : List ℕ) → VerdictText file text → length text
 text-room file text v = by (readFile file longestRow) refl
   where
     by : (o : Outcome) → readFile file longestRow ≡ o → length text ≤ verdictRoom
-    by (refused k p) e =
-        let a = decimal-all k in
-        let b = decimal-all p in
-        let size : length (refusedLine k p) ≤ 56 = simp length-append (omega arith) in
-        omega (arith, ap length (back-refused file text k p e v))
+    by (refused r) e = omega (arith, refused-size r, ap length (back-refused file text r e v))
     by (gives n) e =
         let g = read-good file (rowOf file) n e refl in
         let plan = planOf (rowOf file) in
@@ -163,7 +160,7 @@ never-short file entry exit r room p =
 pub front-prints : (file text : List ℕ) → VerdictText (take planRoom file) text → VerdictText file text
 front-prints file text v =
     from-front (λ (f : List ℕ). VerdictText f text) file
-    (λ k p front whole u. text-refused file text k p whole (back-refused (take planRoom file) text k p front u)) v
+    (λ r front whole u. text-refused file text r whole (back-refused (take planRoom file) text r front u)) v
 
 pub program-prints : (plan file entry exit : List ℕ) (p : ℕ) (r : Answer) → length plan ≡ planRoom → length entry ≡ verdictRoom →
     PrintsOne (VerdictText (take p plan)) entry exit r → Front plan p file → PrintedOne (VerdictText file) entry exit r

@@ -12,7 +12,8 @@ use lib.Seq.{drop-cons}
 use lib.Dec.{ltb, eqb, eqb·suc-zero}
 use Rattle.scope.specs.declared.Field.{Field}
 use Rattle.scope.specs.declared.Field.the-variants.{Vertices, Links, Messages, Timeout, From, To, Length, Link, Slot, Flag, SecondLength, SecondLink, End}
-use Rattle.scope.specs.Outcome.{gives, refused}
+use Rattle.scope.proofs.Outcomes.{not-both}
+use Rattle.scope.specs.Outcome.{gives, refuse}
 use Rattle.scope.specs.Fields.{widthOf, following, nextMessage, nextPlace}
 use Rattle.scope.specs.Row.{walkFrom, walkRow}
 use Rattle.scope.specs.Plan.{at, flagged, placeSize, afterPlaces, afterMessage, afterMessages, firstMessage}
@@ -26,9 +27,6 @@ record Took (row : List ℕ) (f : Field) (i j : ℕ) : Type 0 where
   inside : i < length row
   small : at row i < 2 ^ widthOf 6 f
   next : Walks row (following f (at row i)) j
-
-no-gives : {A : Type 0} (k p n : ℕ) → refused k p ≡ gives n → A
-no-gives k p n e = absurd (let z : _≡_ {A = ℕ} 0 1 = cc in omega arith)
 
 differ : true ≡ false → ⊥
 differ e = let z : _≡_ {A = ℕ} 0 1 = cc in omega arith
@@ -50,9 +48,9 @@ module _ (row : List ℕ) where
   took f i j ej w e = by (ltb i (length row)) refl
     where
       fits : (t : Bool) → ltb (at row i) (2 ^ widthOf 6 f) ≡ t → i < length row →
-          cond t (walkFrom (record { slot = 6; next = following f (at row i) }) (i + 1) (drop (i + 1) row)) (refused 3 i) ≡ gives (length row) → Took row f i j
+          cond t (walkFrom (record { slot = 6; next = following f (at row i) }) (i + 1) (drop (i + 1) row)) (refuse 3 i) ≡ gives (length row) → Took row f i j
       fits true s h g = record { inside = h; small = ltb-true (at row i) (2 ^ widthOf 6 f) s; next = rw ej g }
-      fits false s h g = no-gives 3 i (length row) g
+      fits false s h g = not-both g
 
       by : (t : Bool) → ltb i (length row) ≡ t → Took row f i j
       by true s =
@@ -60,7 +58,7 @@ module _ (row : List ℕ) where
           fits (ltb (at row i) (2 ^ widthOf 6 f)) refl h (rw (left-more i h, w) at e)
       by false s =
           let h : length row ≤ i = ltb-false i (length row) s in
-          no-gives 2 i (length row) (rw (drop-of-length-le row h, w) at e)
+          not-both (rw (drop-of-length-le row h, w) at e)
 
   ended : (i : ℕ) → Walks row End i → i ≡ length row
   unfolding walkFrom
@@ -69,7 +67,7 @@ module _ (row : List ℕ) where
       by : (t : Bool) → ltb i (length row) ≡ t → i ≡ length row
       by true s =
           let h : i < length row = ltb-true i (length row) s in
-          no-gives 4 i (length row) (rw (left-more i h) at e)
+          not-both (rw (left-more i h) at e)
       by false s =
           let h : length row ≤ i = ltb-false i (length row) s in
           gives-same i (length row) (rw (drop-of-length-le row h) at e)
@@ -279,9 +277,9 @@ module _ (row : List ℕ) where
 -- a row without refusals 1 to 4
 pub walked : (row : List ℕ) → walkRow row ≡ gives (length row) → PlanLies row
 unfolding walkRow
-walked [] e = no-gives 2 0 0 e
+walked [] e = not-both e
 walked (v ∷ vs) e = by (eqb v 1) e
   where
-    by : (t : Bool) → cond t (walkFrom (record { slot = 6; next = Vertices }) 1 vs) (refused 1 0) ≡ gives (length (v ∷ vs)) → PlanLies (v ∷ vs)
+    by : (t : Bool) → cond t (walkFrom (record { slot = 6; next = Vertices }) 1 vs) (refuse 1 0) ≡ gives (length (v ∷ vs)) → PlanLies (v ∷ vs)
     by true g = header (v ∷ vs) g
-    by false g = no-gives 1 0 (length (v ∷ vs)) g
+    by false g = not-both g

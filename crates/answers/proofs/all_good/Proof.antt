@@ -9,8 +9,11 @@ use Rattle.answers.proofs.all_good.Lts as lts
 use Rattle.answers.proofs.fill.Reads as fill-reads
 use Rattle.view.proofs.messages.Reads as messages-reads
 
+refuse-requires : tie.Need-refuse-requires
+refuse-requires c κs = search needs
+
 returns : tie.Need-returns
-returns c = k-too-large _ _ _ (c .before .before .before .pre) (c .if1 .taken)
+returns c = k-too-large _ _ _ (c .before .before .before .before .pre) _ (c .before .if1 .taken) (c .refuse .ensures)
 
 messages-requires : tie.Need-messages-requires
 messages-requires c κs = search needs
@@ -21,8 +24,11 @@ add-needed c = search needs
 mul-needed : tie.Need-mul-needed
 mul-needed c = search needs
 
+refuse-requires-2 : tie.Need-refuse-requires-2
+refuse-requires-2 c κs = search needs
+
 returns-2 : tie.Need-returns-2
-returns-2 c = too-short _ _ _ (c .before .before .before .before .before .pre) (c .before .before .if1 .left) _ _ (c .before .messages .ensures .is) refl (c .if2 .taken)
+returns-2 c = too-short _ _ _ (c .before .before .before .before .before .before .pre) (c .before .before .before .if1 .left) _ _ (c .before .before .messages .ensures .is) refl _ (c .before .if2 .taken) (c .refuse2 .ensures)
 
 fill-requires : tie.Need-fill-requires
 fill-requires c κs = may-fill-all _ _ (c .before .before .before .before .before .before .args .out .now) (c .before .before .before .before .before .before .pre) (c .before .before .before .if1 .left) _ _ (c .before .before .messages .ensures .is) refl (c .before .if2 .left)
@@ -37,10 +43,12 @@ pub all-good-spec : {M : Type 1} → statement M
 all-good-spec =
     tie.close
     (tie.spec
+    refuse-requires
     returns
     messages-requires
     add-needed
     mul-needed
+    refuse-requires-2
     returns-2
     fill-requires
     same-length

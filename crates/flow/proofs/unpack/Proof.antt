@@ -1,7 +1,7 @@
 -- `flow::unpack` meets its contract: the edition, the walk of `fill`, and what `ends` says of the rest. Assumes nothing.
 use mathlib.Core.Path.{refl, sym, _∙_, ap}
 use native.Mathlib.Omega.{arith}
-use Rattle.scope.specs.Outcome.{Outcome, refused, andThen, outcomeOf}
+use Rattle.scope.specs.Outcome.{Outcome, andThen, outcomeOf, refuse}
 use Rattle.scope.specs.Bits.{bits}
 use Rattle.scope.specs.File.{endsAt}
 use Rattle.flow.proofs.Whole.{empty-file, other-edition, file-opens, end-inside, with-answer}
@@ -39,7 +39,7 @@ returns-2 c =
     let file = c .before .before .before .before .before .before .before .before .before .before .args .file .now in
     let some = c .before .before .before .before .before .before .before .if1 .left in
     let filled = c .before .before .before .before .before .fill .ensures in
-    with-answer file _ _ _ (refused 1 0) _ _ filled (other-edition file some (λ e. c .before .if2 .taken (c .before .before .field .ensures .is ∙ e)))
+    with-answer file _ _ _ (refuse 1 0) _ _ filled (other-edition file some (λ e. c .before .if2 .taken (c .before .before .field .ensures .is ∙ e)))
     (c .refuse2 .ensures) refl
 
 enum-known-answer : tie.Need-enum-known-answer

@@ -13,11 +13,14 @@ slice-aggregate-replayed c = search needs
 replayed-requires : tie.Need-replayed-requires
 replayed-requires c κs = search needs
 
+refuse-requires : tie.Need-refuse-requires
+refuse-requires c κs = search needs
+
 same-length : tie.Need-same-length
 same-length c = search needs
 
 returns : tie.Need-returns
-returns c = prints-short (c .before .before .before .replayed .ensures) _ (c .if1 .taken)
+returns c = prints-short (c .before .before .before .before .replayed .ensures) _ _ (c .before .if1 .taken) (c .refuse .ensures)
 
 replayed-requires-2 : tie.Need-replayed-requires-2
 replayed-requires-2 c κs = search needs
@@ -35,6 +38,7 @@ listing-spec =
     slice-relend-prefix-replayed
     slice-aggregate-replayed
     replayed-requires
+    refuse-requires
     same-length
     returns
     replayed-requires-2

@@ -13,11 +13,14 @@ slice-aggregate-refused-line c = search needs
 refused-line-requires : tie.Need-refused-line-requires
 refused-line-requires c κs = search needs
 
+refuse-requires : tie.Need-refuse-requires
+refuse-requires c κs = search needs
+
 same-length : tie.Need-same-length
 same-length c = search needs
 
 returns : tie.Need-returns
-returns c = prints-short (c .before .before .before .refused-line .ensures) _ (c .if1 .taken)
+returns c = prints-short (c .before .before .before .before .refused-line .ensures) _ _ (c .before .if1 .taken) (c .refuse .ensures)
 
 refused-line-requires-2 : tie.Need-refused-line-requires-2
 refused-line-requires-2 c κs = search needs
@@ -35,6 +38,7 @@ refusal-text-spec =
     slice-relend-prefix-refused-line
     slice-aggregate-refused-line
     refused-line-requires
+    refuse-requires
     same-length
     returns
     refused-line-requires-2

@@ -11,7 +11,7 @@ slice-aggregate-phrase-line-2 : tie.Need-slice-aggregate-phrase-line-2
 slice-aggregate-phrase-line-2 c = search needs
 
 phrase-line-requires : tie.Need-phrase-line-requires
-phrase-line-requires c κs = refused-told _ _
+phrase-line-requires c κs = refused-told _
 
 same-length : tie.Need-same-length
 same-length c = search needs

@@ -14,6 +14,9 @@ enum-told c = search needs
 copy-requires : tie.Need-copy-requires
 copy-requires c κs = search needs
 
+refuse-requires : tie.Need-refuse-requires
+refuse-requires c κs = search needs
+
 enum-known-checked : tie.Need-enum-known-checked
 enum-known-checked c = search needs
 
@@ -24,7 +27,7 @@ returns : tie.Need-returns
 returns c = law.accepted _ _ _ _ (law.gave _ (c .before .before .before .before .before .enum-told .given .1) (c .before .before .before .before .before .before .before .check .ensures)) (c .before .before .before .before .if1 .taken) (c .before .before .copy .ensures)
 
 returns-2 : tie.Need-returns-2
-returns-2 c = law.no-room _ _ _ (law.gave _ (c .before .enum-told .given .1) (c .before .before .before .check .ensures)) (c .if1 .left)
+returns-2 c = law.no-room _ _ _ _ (law.gave _ (c .before .before .enum-told .given .1) (c .before .before .before .before .check .ensures)) (c .before .if1 .left) (c .refuse .ensures)
 
 returns-3 : tie.Need-returns-3
 returns-3 c = law.broken _ _ _ (law.refused-as _ (c .before .checked .given .1) (c .before .before .before .check .ensures))
@@ -36,6 +39,7 @@ accept-spec =
     check-requires
     enum-told
     copy-requires
+    refuse-requires
     enum-known-checked
     same-length
     returns

@@ -27,10 +27,10 @@ returns : tie.Need-returns
 returns c = law.judge-good _ _ _ (law.gave _ (c .before .before .before .before .walked .given .1) (c .before .before .before .before .before .before .walk-row .ensures)) (law.gave _ (c .enum-told .given .1) (c .before .before .check .ensures))
 
 returns-2 : tie.Need-returns-2
-returns-2 c = law.judge-bad _ _ _ _ (law.gave _ (c .before .before .before .before .before .walked .given .1) (c .before .before .before .before .before .before .before .walk-row .ensures)) (law.refused-as _ (c .before .checked .given .1) (c .before .before .before .check .ensures))
+returns-2 c = law.judge-bad _ _ _ (law.gave _ (c .before .before .before .before .before .walked .given .1) (c .before .before .before .before .before .before .before .walk-row .ensures)) (law.refused-as _ (c .before .checked .given .1) (c .before .before .before .check .ensures))
 
 returns-3 : tie.Need-returns-3
-returns-3 c = law.judge-form _ _ _ (law.refused-as _ (c .before .walked2 .given .1) (c .before .before .before .walk-row .ensures))
+returns-3 c = law.judge-form _ _ (law.refused-as _ (c .before .walked2 .given .1) (c .before .before .before .walk-row .ensures))
 
 pub judge-spec : {M : Type 1} → statement M
 judge-spec =

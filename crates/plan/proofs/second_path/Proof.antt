@@ -25,7 +25,7 @@ returns : tie.Need-returns
 returns c = c .second-path-part .ensures ∙ law.shown-part _ _ _ _ (law.gave _ (c .before .enum-told .given .1) (c .before .before .before .judge .ensures))
 
 returns-2 : tie.Need-returns-2
-returns-2 c = law.shown-none _ _ _ _ _ (law.refused-as _ (c .before .enum-told2 .given .1) (c .before .before .before .judge .ensures))
+returns-2 c = law.shown-none _ _ _ _ (law.refused-as _ (c .before .enum-told2 .given .1) (c .before .before .before .judge .ensures))
 
 pub second-path-spec : {M : Type 1} → statement M
 second-path-spec =

@@ -32,6 +32,9 @@ pack-requires c κs =
       room = length-take-le _ _ (c .before .if1 .taken) ∙ n .ensures .is;
     }
 
+refuse-requires : tie.Need-refuse-requires
+refuse-requires c κs = search needs
+
 enum-known-judged : tie.Need-enum-known-judged
 enum-known-judged c = search needs
 
@@ -45,7 +48,7 @@ returns c =
     (ap (λ x. x ++ drop (n .result) (c .before .before .before .before .before .before .before .before .before .before .before .args .file .now)) (c .before .before .pack .ensures))
 
 returns-2 : tie.Need-returns-2
-returns-2 c = law.write-no-room _ _ _ _ (law.gave _ (c .before .before .enum-told .given .1) (c .before .before .before .before .judge .ensures)) (c .before .packed-bytes .ensures .is) (c .if1 .left)
+returns-2 c = law.write-no-room _ _ _ _ _ (law.gave _ (c .before .before .before .enum-told .given .1) (c .before .before .before .before .before .judge .ensures)) (c .before .before .packed-bytes .ensures .is) (c .before .if1 .left) (c .refuse .ensures)
 
 returns-3 : tie.Need-returns-3
 returns-3 c = law.write-bad _ _ _ (law.refused-as _ (c .before .judged .given .1) (c .before .before .before .judge .ensures))
@@ -60,6 +63,7 @@ write-file-spec =
     slice-relend-prefix-pack
     slice-aggregate-pack
     pack-requires
+    refuse-requires
     enum-known-judged
     same-length
     returns

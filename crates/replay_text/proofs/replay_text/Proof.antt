@@ -43,7 +43,7 @@ returns c =
     (c .before .before .played-input .ensures)
 
 returns-2 : tie.Need-returns-2
-returns-2 c = says-refused _ _ _ (may-refused _ _ _ _ (read-refused _ _ _ _ (c .before .before .before .before .read-file .ensures) _ _ (search needs) (c .before .read2 .given .1)))
+returns-2 c = says-refused _ _ _ (may-refused _ _ _ (read-refused _ _ _ _ (c .before .before .before .before .read-file .ensures) _ _ (search needs) (c .before .read2 .given .1)))
 
 pub replay-text-spec : {M : Type 1} → statement M
 replay-text-spec =

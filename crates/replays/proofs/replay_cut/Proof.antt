@@ -9,10 +9,13 @@ use Rattle.replays.proofs.replay_cut.Tie as tie
 event-numbers-requires : tie.Need-event-numbers-requires
 event-numbers-requires c κs = c .before .before .before .pre .judged
 
+refuse-requires : tie.Need-refuse-requires
+refuse-requires c κs = search needs
+
 returns : tie.Need-returns
 returns c =
-    let a = c .before .before .before .before .before .args in
-    replay-short (a .row .now) (a .cuts .now) (a .events .now) (c .before .before .before .before .before .pre) _ (c .before .event-numbers .ensures) (c .if1 .taken)
+    let a = c .before .before .before .before .before .before .args in
+    replay-short (a .row .now) (a .cuts .now) (a .events .now) (c .before .before .before .before .before .before .pre) _ (c .before .before .event-numbers .ensures) _ (c .before .if1 .taken) (c .refuse .ensures)
 
 slice-aggregate-fill-table : tie.Need-slice-aggregate-fill-table
 slice-aggregate-fill-table c = search needs
@@ -46,6 +49,7 @@ replay-cut-spec =
     tie.close
     (tie.spec
     event-numbers-requires
+    refuse-requires
     returns
     slice-aggregate-fill-table
     fill-table-requires

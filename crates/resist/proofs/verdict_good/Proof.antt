@@ -11,23 +11,32 @@ use Rattle.plan.proofs.copy.Reads as copy-reads
 use Rattle.resist.proofs.decide.Reads as decide-reads
 use Rattle.view.proofs.messages.Reads as messages-reads
 
+refusal-at-requires : tie.Need-refusal-at-requires
+refusal-at-requires c κs = search needs
+
 returns : tie.Need-returns
-returns c = k-too-large _ _ _ _ (c .before .before .before .pre) (c .if1 .taken)
+returns c = k-too-large _ _ _ _ (c .before .before .before .before .pre) _ (c .before .if1 .taken) (c .refusal-at .ensures)
 
 messages-requires : tie.Need-messages-requires
 messages-requires c κs = search needs
 
+refusal-at-requires-2 : tie.Need-refusal-at-requires-2
+refusal-at-requires-2 c κs = search needs
+
 returns-2 : tie.Need-returns-2
-returns-2 c = l-too-large _ _ _ _ (c .before .before .before .before .before .pre) _ (c .before .messages .ensures .is) (c .if2 .taken)
+returns-2 c = l-too-large _ _ _ _ (c .before .before .before .before .before .before .pre) _ _ (c .before .before .messages .ensures .is) (c .before .if2 .taken) (c .refusal-at2 .ensures)
 
 mul-if3 : tie.Need-mul-if3
 mul-if3 c = search needs
 
-mul-t13 : tie.Need-mul-t13
-mul-t13 c = search needs
+mul-refusal-at : tie.Need-mul-refusal-at
+mul-refusal-at c = search needs
+
+refusal-at-requires-3 : tie.Need-refusal-at-requires-3
+refusal-at-requires-3 c κs = search needs
 
 returns-3 : tie.Need-returns-3
-returns-3 c = too-short _ _ _ _ (c .before .before .before .before .before .before .pre) _ (c .before .before .messages .ensures .is) (c .before .before .before .if1 .left) (c .before .if2 .left) (c .if3 .taken)
+returns-3 c = too-short _ _ _ _ (c .before .before .before .before .before .before .before .pre) _ (c .before .before .before .messages .ensures .is) (c .before .before .before .before .if1 .left) (c .before .before .if2 .left) _ (c .before .if3 .taken) (c .refusal-at3 .ensures)
 
 decide-requires : tie.Need-decide-requires
 decide-requires c κs = may-ask _ _ _ (c .before .before .before .before .before .before .args .list .now) (c .before .before .before .before .before .before .pre) _ (c .before .before .messages .ensures .is) (c .before .before .before .if1 .left) (c .before .if2 .left)
@@ -57,11 +66,14 @@ pub verdict-good-spec : {M : Type 1} → statement M
 verdict-good-spec =
     tie.close
     (tie.spec
+    refusal-at-requires
     returns
     messages-requires
+    refusal-at-requires-2
     returns-2
     mul-if3
-    mul-t13
+    mul-refusal-at
+    refusal-at-requires-3
     returns-3
     decide-requires
     mul-numbers

@@ -13,11 +13,14 @@ slice-aggregate-row-line c = search needs
 row-line-requires : tie.Need-row-line-requires
 row-line-requires c κs = search needs
 
+refuse-requires : tie.Need-refuse-requires
+refuse-requires c κs = search needs
+
 same-length : tie.Need-same-length
 same-length c = search needs
 
 returns : tie.Need-returns
-returns c = prints-short (c .before .before .before .row-line .ensures) _ (c .if1 .taken)
+returns c = prints-short (c .before .before .before .before .row-line .ensures) _ _ (c .before .if1 .taken) (c .refuse .ensures)
 
 row-line-requires-2 : tie.Need-row-line-requires-2
 row-line-requires-2 c κs = search needs
@@ -37,6 +40,7 @@ listed-spec =
     slice-relend-prefix-row-line
     slice-aggregate-row-line
     row-line-requires
+    refuse-requires
     same-length
     returns
     row-line-requires-2

@@ -9,10 +9,13 @@ use Rattle.spare.proofs.slack_of_good.Tie as tie
 messages-requires : tie.Need-messages-requires
 messages-requires c κs = search needs
 
+refusal-at-requires : tie.Need-refusal-at-requires
+refusal-at-requires c κs = search needs
+
 returns : tie.Need-returns
 returns c =
-    let s = c .before .before .before in
-    law.out-message (s .args .row .now) (s .args .m) (s .args .p) (s .pre) _ (c .before .messages .ensures .is) (c .if1 .taken)
+    let s = c .before .before .before .before in
+    law.out-message (s .args .row .now) (s .args .m) (s .args .p) (s .pre) _ _ (c .before .before .messages .ensures .is) (c .before .if1 .taken) (c .refusal-at .ensures)
 
 message-index-requires : tie.Need-message-index-requires
 message-index-requires c κs = search needs
@@ -20,11 +23,14 @@ message-index-requires c κs = search needs
 place-count-requires : tie.Need-place-count-requires
 place-count-requires c κs = search needs
 
+refusal-at-requires-2 : tie.Need-refusal-at-requires-2
+refusal-at-requires-2 c κs = search needs
+
 returns-2 : tie.Need-returns-2
 returns-2 c =
-    let s = c .before .before .before .before .before .before in
-    law.out-place (s .args .row .now) (s .args .m) (s .args .p) (s .pre) _ _ _ (c .before .before .before .before .messages .ensures .is) (c .before .before .before .if1 .left) (c .before .before .message-index .ensures .is) (c .before .place-count .ensures .is)
-    (c .if2 .taken)
+    let s = c .before .before .before .before .before .before .before in
+    law.out-place (s .args .row .now) (s .args .m) (s .args .p) (s .pre) _ _ _ (c .before .before .before .before .before .messages .ensures .is) (c .before .before .before .before .if1 .left) (c .before .before .before .message-index .ensures .is) (c .before .before .place-count .ensures .is)
+    _ (c .before .if2 .taken) (c .refusal-at2 .ensures)
 
 add-after-places : tie.Need-add-after-places
 add-after-places c = search needs
@@ -38,11 +44,14 @@ add-number c = search needs
 number-requires : tie.Need-number-requires
 number-requires c κs = search needs
 
+refusal-at-requires-3 : tie.Need-refusal-at-requires-3
+refusal-at-requires-3 c κs = search needs
+
 returns-3 : tie.Need-returns-3
 returns-3 c =
-    let s = c .before .before .before .before .before .before .before .before .before in
-    law.out-second (s .args .row .now) (s .args .m) (s .args .p) (s .pre) _ _ _ (c .before .before .before .before .before .before .before .messages .ensures .is) (c .before .before .before .before .before .before .if1 .left) (c .before .before .before .before .before .message-index .ensures .is) (c .before .before .before .before .place-count .ensures .is)
-    _ _ (c .before .before .before .if2 .left) (c .before .before .after-places .ensures .is) (c .before .number .ensures .is) (c .if3 .taken)
+    let s = c .before .before .before .before .before .before .before .before .before .before in
+    law.out-second (s .args .row .now) (s .args .m) (s .args .p) (s .pre) _ _ _ (c .before .before .before .before .before .before .before .before .messages .ensures .is) (c .before .before .before .before .before .before .before .if1 .left) (c .before .before .before .before .before .before .message-index .ensures .is) (c .before .before .before .before .before .place-count .ensures .is)
+    _ _ (c .before .before .before .before .if2 .left) (c .before .before .before .after-places .ensures .is) (c .before .before .number .ensures .is) _ (c .before .if3 .taken) (c .refusal-at3 .ensures)
 
 timeout-requires : tie.Need-timeout-requires
 timeout-requires c κs = search needs
@@ -73,14 +82,17 @@ slack-of-good-spec =
     tie.close
     (tie.spec
     messages-requires
+    refusal-at-requires
     returns
     message-index-requires
     place-count-requires
+    refusal-at-requires-2
     returns-2
     add-after-places
     after-places-requires
     add-number
     number-requires
+    refusal-at-requires-3
     returns-3
     timeout-requires
     used-requires
