@@ -108,7 +108,7 @@ pub fn refusal_text(refusal: Refusal, out: &mut [u8]) -> Answer
     ensures { λ r. ⌜ Prints (refusedLine refusal) (now (out .entry)) (now (out .exit)) r ⌝ }
 {
     let needed = refused_line(&mut out[..0], refusal);
-    if out.len() < needed {
+    if needed > out.len() {
         return refuse(13, needed);
     }
     refused_line(out, refusal);
