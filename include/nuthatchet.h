@@ -53,13 +53,16 @@ size_t nuthatchet_all_answers(const uint16_t *row, size_t row_len, size_t k, uin
 /* The slack of the second path of message m from place p, -1,535 to 63; refusals 1 to 10, 11. */
 size_t nuthatchet_slack(const uint16_t *row, size_t row_len, size_t m, size_t p, size_t *place, int32_t *slots);
 
-/* What the replay program prints for the bytes of plan.bin and of its input, a refusal's line too: the text at the front. Refusal 13 alone.
-   36,942 bytes are room for every text. Result: how many bytes. */
+/* The listing of a replay for the bytes of plan.bin and of the cuts' lines, as the replay program prints it: the text at the front, refusals 1, 2,
+   4 to 10, 12, 13. Result: how many bytes; 36,942 are room for each. */
 size_t nuthatchet_replay_text(const uint8_t *file, size_t file_len, const uint8_t *input, size_t input_len, uint8_t *out, size_t out_len, size_t *place, size_t *result);
 
-/* A plan file's row as a line of decimals, or the line of its refusal. Refusal 13 alone. 62,430 bytes are room for every text. Result: how many
-   bytes. */
+/* A plan file's row as a line of decimals: the text at the front, refusals 1, 2, 4 to 10, 13. Result: how many bytes; 62,430 are room for each. */
 size_t nuthatchet_row_text(const uint8_t *file, size_t file_len, uint8_t *out, size_t out_len, size_t *place, size_t *result);
+
+/* The line that the programs print for a refusal, by its number and its place (the argument `at`): the text at the front, refusal 13. Result: how
+   many bytes; 56 are room for each. */
+size_t nuthatchet_refusal_text(size_t number, size_t at, uint8_t *out, size_t out_len, size_t *place, size_t *result);
 
 /* The plan file of a row in decimals, parted by single spaces or line feeds: its bytes at the front, refusals 1 to 10, 13. NUTHATCHET_FILE bytes are
    room for every file. Result: how many bytes. */

@@ -146,7 +146,14 @@ static void answer(void) {
 static uint8_t plan[MOST], input[MOST], text[MOST + 8];
 static size_t long_plan, long_input;
 
-/* the text in a room of so many bytes; complains if anything outside the written part has changed */
+/* says what a text entry said, and complains if anything outside the written part has changed */
+static size_t kept(size_t number) {
+    for (size_t i = number == 0 ? result : 0; i < sizeof text; i++)
+        if (text[i] != 0xA5) { printf("spoilt at %zu ", i); break; }
+    return number;
+}
+
+/* the text in a room of so many bytes */
 static size_t lay(const char *which, size_t room) {
     size_t number;
     memset(text, 0xA5, sizeof text);
@@ -154,9 +161,14 @@ static size_t lay(const char *which, size_t room) {
     if (strcmp(which, "replay") == 0) number = nuthatchet_replay_text(plan, long_plan, input, long_input, text, room, &place, &result);
     else if (strcmp(which, "row") == 0) number = nuthatchet_row_text(plan, long_plan, text, room, &place, &result);
     else number = nuthatchet_pack_text(input, long_input, text, room, &place, &result);
-    for (size_t i = number == 0 ? result : 0; i < sizeof text; i++)
-        if (text[i] != 0xA5) { printf("spoilt at %zu ", i); break; }
-    return number;
+    return kept(number);
+}
+
+/* the line of a refusal in such a room */
+static size_t lay_refusal(size_t number, size_t at, size_t room) {
+    memset(text, 0xA5, sizeof text);
+    place = result = 1;
+    return kept(nuthatchet_refusal_text(number, at, text, room, &place, &result));
 }
 
 /* The text, with room for more than it, with exactly its room, and with one byte too few; or its refusal. */
@@ -164,7 +176,16 @@ static int lay_text(const char *which, const char *path) {
     FILE *file = path ? fopen(path, "rb") : NULL;
     long_plan = file ? fread(plan, 1, MOST, file) : 0;
     if (strcmp(which, "row") != 0) long_input = fread(input, 1, MOST, stdin);
-    if (refused(lay(which, MOST))) { puts(""); return 0; }
+    size_t number = lay(which, MOST);
+    if (number != 0) {
+        size_t at = place;
+        if (lay_refusal(number, at, MOST) != 0) printf("no line for a refusal ");
+        size_t line = result;
+        if (lay_refusal(number, at, line - 1) != 13 || place != line || result != 0) printf("one byte too few is enough ");
+        if (lay_refusal(number, at, line) != 0 || place != 0 || result != line) printf("its own room is not enough ");
+        fwrite(text, 1, line, stdout);
+        return 0;
+    }
     size_t needed = result;
     if (lay(which, needed - 1) != 13 || place != needed || result != 0) printf("one byte too few is enough ");
     if (lay(which, needed) != 0 || place != 0 || result != needed) printf("its own room is not enough ");

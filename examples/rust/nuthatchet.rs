@@ -11,6 +11,7 @@ extern "C" {
     fn nuthatchet_slack(row: *const u16, row_len: usize, m: usize, p: usize, place: *mut usize, slots: *mut i32) -> usize;
     fn nuthatchet_replay_text(file: *const u8, file_len: usize, input: *const u8, input_len: usize, out: *mut u8, out_len: usize, place: *mut usize, result: *mut usize) -> usize;
     fn nuthatchet_row_text(file: *const u8, file_len: usize, out: *mut u8, out_len: usize, place: *mut usize, result: *mut usize) -> usize;
+    fn nuthatchet_refusal_text(number: usize, at: usize, out: *mut u8, out_len: usize, place: *mut usize, result: *mut usize) -> usize;
     fn nuthatchet_pack_text(text: *const u8, text_len: usize, file: *mut u8, file_len: usize, place: *mut usize, result: *mut usize) -> usize;
 }
 
@@ -81,6 +82,11 @@ pub fn replay_text(file: &[u8], input: &[u8], out: &mut [u8]) -> Result<usize, R
 
 pub fn row_text(file: &[u8], out: &mut [u8]) -> Result<usize, Refusal> {
     told(|place, result| unsafe { nuthatchet_row_text(file.as_ptr(), file.len(), out.as_mut_ptr(), out.len(), place, result) })
+}
+
+/// The line that the programs print for a refusal, by its number and its place.
+pub fn refusal_text(number: usize, at: usize, out: &mut [u8]) -> Result<usize, Refusal> {
+    told(|place, result| unsafe { nuthatchet_refusal_text(number, at, out.as_mut_ptr(), out.len(), place, result) })
 }
 
 pub fn pack_text(text: &[u8], file: &mut [u8]) -> Result<usize, Refusal> {

@@ -82,10 +82,10 @@ fn ask(what: u8, digit: u8, file: &[u8], row: &mut [u16]) -> usize {
 }
 
 fn main() {
-    let mut file = [0u8; files::PLAN_ROOM];
+    let mut file = [0u8; scope::limits::PLAN_ROOM];
     let mut row = [0u16; flow::LONGEST_ROW];
     let mut name = [0u8; 8];
-    let n = files::read_plan(&mut file);
+    let n = files::read_plan(b"bench", &mut file);
     os::arg(1, &mut name);
     let sum = ask(name[2], name[7], &file[..n], &mut row);
     io::print_decimal(libc::STDOUT_FILENO, sum as u64);

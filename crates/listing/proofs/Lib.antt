@@ -1,3 +1,4 @@
 pub mod Lines
 pub mod Printing
 pub mod Room
+pub mod Fronts

@@ -99,7 +99,3 @@ pub replay-parts : (n : ℕ) (row events : List ℕ) (m t : ℕ) → m ≡ messa
 unfolding listing planOf
 replay-parts n row events m t p q =
     rw (count-messages row (firstMessage row) (messageCount row), p, q)
-
-pub refused-parts : (r : Refusal) (plan : Plan) (events : List ℕ) → listing (refused r) plan events ≡ refusedLine r
-unfolding listing
-refused-parts r plan events = refl

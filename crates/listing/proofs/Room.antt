@@ -7,6 +7,7 @@ use lib.ListN.{length, getD, length-append}
 use Rattle.scope.specs.Outcome.{Outcome, gives, refused}
 use Rattle.scope.specs.Plan.{Plan}
 use Rattle.scope.specs.Lines.{header, eventLine, eventLines, arrivedLine, listing}
+use Rattle.listing.specs.Room.{listingRoom}
 use Rattle.text.proofs.Decimal.{decimal-all, decimal-most}
 use Rattle.listing.proofs.Lines.{refused-size}
 
@@ -31,7 +32,7 @@ lines-room m t row z h g small j (suc n) l =
     omega arith
 
 pub listing-room : (o : Outcome) (plan : Plan) (row : List ℕ) → 0 < length (plan .messages) → length (plan .messages) ≤ 32 → plan .timeout ≤ 64 →
-    ((i : ℕ) → getD row i 0 < 65536) → length (listing o plan row) ≤ 36942
+    ((i : ℕ) → getD row i 0 < 65536) → length (listing o plan row) ≤ listingRoom
 unfolding listing
 listing-room (gives n) plan row z h g small =
     let m = length (plan .messages) in

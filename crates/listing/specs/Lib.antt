@@ -1,2 +1,3 @@
 pub mod Phrase
 pub mod Prints
+pub mod Room

@@ -1,13 +1,13 @@
-// The lines that the programs print, laid into lent bytes: document 01, "Programs". `listing` is the whole text of a replay, or of
-// a refusal; it asks nothing of its rows, and refuses with 13 where the buffer is too short. It leans on specs/Lines of `scope`, on
-// `view::number` (the total read of a row) and on `text` (a byte, a word, a number).
+// The lines that the programs print, laid into lent bytes: document 01, "Programs". `listing` is the whole text of a replay, `refusal_text`
+// that of a refusal; they ask nothing of what they print, and refuse with 13 where the buffer is too short. It leans on specs/Lines of
+// `scope`, on `view::number` (the total read of a row) and on `text` (a byte, a word, a number).
 ghost use Prim.Native.Nat.{_*_, _≤_, _<_, _^_};
 ghost use Rattle.listing.specs.Phrase.{phrase};
 ghost use Rattle.listing.specs.Prints.{Prints};
 ghost use Rattle.text.specs.Text.{Puts, Told};
 ghost use Rattle.scope.specs.Lines.{eventLine, eventLines, arrivedLine, refusedLine};
 ghost use Rattle.scope.specs.Lines.{listing as Lines·listing};
-ghost use Rattle.scope.specs.Outcome.{gives, outcomeOf};
+ghost use Rattle.scope.specs.Outcome.{gives};
 ghost use Rattle.scope.specs.Plan.{planOf};
 use scope::Answer;
 use scope::Refusal;
@@ -71,11 +71,10 @@ fn arrived_line(out: &mut [u8], at: usize, n: usize, messages: usize) -> usize
 }
 
 // A refusal: its number and its place.
-fn refused_line(out: &mut [u8], at: usize, refusal: Refusal) -> usize
-    requires { ⌜ Told at (refusedLine refusal) ⌝ }
-    ensures { λ r. ⌜ Puts (refusedLine refusal) (now (out .entry)) (now (out .exit)) at r ⌝ }
+fn refused_line(out: &mut [u8], refusal: Refusal) -> usize
+    ensures { λ r. ⌜ Puts (refusedLine refusal) (now (out .entry)) (now (out .exit)) 0 r ⌝ }
 {
-    phrase_line(out, at, b"refused ", refusal.no, b" place ", refusal.place)
+    phrase_line(out, 0, b"refused ", refusal.no, b" place ", refusal.place)
 }
 
 // The listing of a replay with n arrivals: the header, its events and the arrivals.
@@ -89,28 +88,29 @@ fn replayed(out: &mut [u8], n: usize, row: &[u16], events: &[u16]) -> usize
     arrived_line(out, next, n, messages)
 }
 
-// The listing of any answer, as far as the buffer goes, and how many bytes it has.
-fn answered(out: &mut [u8], answer: Answer, row: &[u16], events: &[u16]) -> usize
-    ensures { λ r. ⌜ Puts (Lines·listing (outcomeOf answer) (planOf (now (row .entry))) (now (events .entry))) (now (out .entry)) (now (out .exit)) 0 r ⌝ }
-{
-    match answer {
-        Answer::Gives(n) => replayed(out, n, row, events),
-        Answer::Refused(r) => refused_line(out, 0, r),
-    }
-}
-
 // Bytes enough for every listing of a plan of at most 32 messages and timeout of at most 64 (proofs/Room).
 pub const ROOM: usize = 36942;
 
-// What the replay program prints for the answer of a replay of a plan's row, with its events: how many bytes, or refusal 13 with the
-// bytes needed.
-pub fn listing(answer: Answer, row: &[u16], events: &[u16], out: &mut [u8]) -> Answer
-    ensures { λ r. ⌜ Prints (Lines·listing (outcomeOf answer) (planOf (now (row .entry))) (now (events .entry))) (now (out .entry)) (now (out .exit)) r ⌝ }
+// The listing of a replay of a plan's row with n arrivals and these events: how many bytes, or refusal 13 with the bytes needed.
+pub fn listing(n: usize, row: &[u16], events: &[u16], out: &mut [u8]) -> Answer
+    ensures { λ r. ⌜ Prints (Lines·listing (gives n) (planOf (now (row .entry))) (now (events .entry))) (now (out .entry)) (now (out .exit)) r ⌝ }
 {
-    let needed = answered(&mut out[..0], answer, row, events);
+    let needed = replayed(&mut out[..0], n, row, events);
     if out.len() < needed {
         return refuse(13, needed);
     }
-    answered(out, answer, row, events);
+    replayed(out, n, row, events);
+    Answer::Gives(needed)
+}
+
+// The line of a refusal, `refused N place P`: how many bytes, or refusal 13 with the bytes needed.
+pub fn refusal_text(refusal: Refusal, out: &mut [u8]) -> Answer
+    ensures { λ r. ⌜ Prints (refusedLine refusal) (now (out .entry)) (now (out .exit)) r ⌝ }
+{
+    let needed = refused_line(&mut out[..0], refusal);
+    if needed > out.len() {
+        return refuse(13, needed);
+    }
+    refused_line(out, refusal);
     Answer::Gives(needed)
 }

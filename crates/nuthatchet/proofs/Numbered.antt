@@ -19,6 +19,9 @@ use Rattle.scope.specs.Cuts.{pairs, badPair, checkCuts}
 use Rattle.scope.specs.Cycle.{eventRow, arrivals}
 use Rattle.scope.specs.Spare.{placeOf, noSecond}
 use Rattle.scope.specs.Questions.{judge, readFile, writeFile, replay, mayJudge, maySpare}
+use Rattle.scope.specs.Limits.{longestRow, longestEvents}
+use Rattle.scope.specs.Lines.{cutsOf}
+use Rattle.replay_text.specs.Text.{mayList}
 use Rattle.flow.proofs.Theorems.{file-row}
 use Rattle.plan.proofs.Numbers.{judge-numbered}
 use Rattle.plan.proofs.Ways.{judge-bad}
@@ -121,6 +124,14 @@ spare-named row m q =
     chain (judge row) _ (judged row)
     (λ n e. pick (noSecond (placeOf (planOf row) m q .second)) (refuse 11 0) (gives 0) (named 11 0 (λ e. omega arith)) (given 0))
 
+list-named : (file input : List ℕ) (needed lent : ℕ) → Numbered (andThen (mayList file input) (λ _. room needed lent))
+unfolding mayList
+list-named file input needed lent =
+    chain (mayList file input) (λ _. room needed lent)
+    (chain (readFile file longestRow) (λ _. replay (rowOf file) (cutsOf input) longestEvents) (read-named file longestRow)
+    (λ n e. replay-named (rowOf file) (cutsOf input) longestEvents))
+    (λ n e. room-named needed lent)
+
 pub zero-says-none : ZeroSaysNone
 zero-says-none =
     record {
@@ -131,5 +142,7 @@ zero-says-none =
       rules = rule-named;
       answers = answer-named;
       spares = spare-named;
-      prints = room-named;
+      lists = list-named;
+      prints = λ file needed lent. chain (readFile file longestRow) (λ _. room needed lent) (read-named file longestRow) (λ n e. room-named needed lent);
+      rooms = room-named;
     }

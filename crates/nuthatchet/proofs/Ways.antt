@@ -12,7 +12,7 @@ use Rattle.scope.specs.declared.Refusal.{Refusal}
 use Rattle.scope.specs.Outcome.{Outcome, outcomeOf, number, place, result}
 use Rattle.scope.specs.Questions.{after}
 use Rattle.plan.specs.Answers.{Answers}
-use Rattle.listing.specs.Prints.{Prints}
+use Rattle.listing.specs.Prints.{Says}
 use Rattle.answers.specs.Answers.{AnswersAll}
 use Rattle.spare.specs.declared.Spare.{Spare}
 use Rattle.spare.specs.declared.Spare.the-variants.{Slots, Refused}
@@ -26,8 +26,8 @@ module _ (a : Answer) {n p v : ℕ} (t : Told (outcomeOf a) n p v) where
   pub tells : {o : Outcome} {written entry exit : List ℕ} → Answers o written entry exit a → Tells o written entry exit n p v
   tells h = record { told = told (h .answer); buffer = h .buffer }
 
-  pub prints : {text entry exit : List ℕ} → Prints text entry exit a → TellsText text entry exit n p v
-  prints {text} {entry} h =
+  pub prints : {may : Outcome} {text entry exit : List ℕ} → Says may text entry exit a → TellsText may text entry exit n p v
+  prints {may} {text} {entry} h =
       record { told = told (h .answer); buffer = h .buffer ∙ ap (λ (o : Outcome). after o text entry) (h .answer) }
 
   pub says-all : {row : List ℕ} {k : ℕ} {entry exit : List ℕ} → AnswersAll row k entry exit a → TellsAll row k entry exit n p v

@@ -6,11 +6,13 @@ use mathlib.Core.List.{List}
 use lib.ListN.{length}
 use lib.IntN.{ℤ}
 use Rattle.scope.specs.declared.Refusal.{Refusal}
-use Rattle.scope.specs.Outcome.{Outcome, refused, number, place, result, room}
+use Rattle.scope.specs.Outcome.{Outcome, refused, number, place, result, andThen, room}
 use Rattle.scope.specs.File.{rowOf, fileOf}
 use Rattle.scope.specs.Plan.{planOf}
 use Rattle.scope.specs.Cycle.{eventRow}
 use Rattle.scope.specs.Questions.{after, judge, readFile, writeFile, replay, mayJudge, maySpare, slack}
+use Rattle.scope.specs.Limits.{longestRow}
+use Rattle.replay_text.specs.Text.{mayList}
 use Rattle.spare.specs.Slack.{unlessRefused}
 use Rattle.answers.specs.Answers.{mayAnswer, After}
 
@@ -38,9 +40,9 @@ abbrev pub TellsReplay : List ℕ → List ℕ → List ℕ → List ℕ → ℕ
 TellsReplay row cuts entry exit n p v =
     Tells (replay row cuts (length entry)) (eventRow (planOf row) cuts) entry exit n p v
 
--- a text laid into bytes
-abbrev pub TellsText : List ℕ → List ℕ → List ℕ → ℕ → ℕ → ℕ → Type 0
-TellsText text entry exit n p v = Tells (room (length text) (length entry)) text entry exit n p v
+-- a text laid into bytes, where nothing is refused before it
+abbrev pub TellsText : Outcome → List ℕ → List ℕ → List ℕ → ℕ → ℕ → ℕ → Type 0
+TellsText may text entry exit n p v = Tells (andThen may (λ _. room (length text) (length entry))) text entry exit n p v
 
 -- all answers of a row for k
 pub record TellsAll (row : List ℕ) (k : ℕ) (entry exit : List ℕ) (n p v : ℕ) : Type 0 where
@@ -65,4 +67,6 @@ pub record ZeroSaysNone : Type 0 where
   pub rules : (row : List ℕ) (k l lent : ℕ) → Numbered (mayJudge row k l lent)
   pub answers : (row : List ℕ) (k lent : ℕ) → Numbered (mayAnswer row k lent)
   pub spares : (row : List ℕ) (m q : ℕ) → Numbered (maySpare row m q)
-  pub prints : (needed lent : ℕ) → Numbered (room needed lent)
+  pub lists : (file input : List ℕ) (needed lent : ℕ) → Numbered (andThen (mayList file input) (λ _. room needed lent))
+  pub prints : (file : List ℕ) (needed lent : ℕ) → Numbered (andThen (readFile file longestRow) (λ _. room needed lent))
+  pub rooms : (needed lent : ℕ) → Numbered (room needed lent)

@@ -4,12 +4,15 @@
 use resist::Ruling;
 use scope::Answer;
 use scope::Refusal;
+use scope::refusal_at;
 use spare::Spare;
-ghost use Rattle.scope.specs.Lines.{replayText};
-ghost use Rattle.scope.specs.Outcome.{outcomeOf, refused};
-ghost use Rattle.scope.specs.Questions.{judge};
+ghost use Rattle.scope.specs.Limits.{longestRow};
+ghost use Rattle.scope.specs.Lines.{replayText, refusedLine};
+ghost use Rattle.scope.specs.Outcome.{outcomeOf, gives, refused, refusalAt};
+ghost use Rattle.scope.specs.Questions.{judge, readFile};
 ghost use Rattle.resist.specs.Verdict.{Answered};
 ghost use Rattle.spare.specs.Slack.{Slacks};
+ghost use Rattle.replay_text.specs.Text.{mayList};
 ghost use Rattle.row_text.specs.Rows.{rowText, numbersOf};
 ghost use Rattle.nuthatchet.specs.Told.{Told, TellsRead, TellsWritten, TellsReplay, TellsText, TellsAll, TellsSlack};
 ghost use Rattle.nuthatchet.specs.Part.{TellsPart};
@@ -188,7 +191,7 @@ pub extern "C" fn nuthatchet_slack(
     }
 }
 
-// What the replay program prints for a plan file and its input: how many bytes, or refusal 13.
+// The listing of the replay of a plan file under the cuts of an input: how many bytes, or refusal 1, 2, 4 to 10, 12, 13.
 #[no_mangle]
 pub extern "C" fn nuthatchet_replay_text(
     file: &[u8],
@@ -197,13 +200,13 @@ pub extern "C" fn nuthatchet_replay_text(
     place: &mut usize,
     result: &mut usize,
 ) -> usize
-    ensures { λ r. ⌜ TellsText (replayText (now (file .entry)) (now (input .entry))) (now (out .entry)) (now (out .exit)) r (now (place .exit)) (now (result .exit)) ⌝ }
+    ensures { λ r. ⌜ TellsText (mayList (now (file .entry)) (now (input .entry))) (replayText (now (file .entry)) (now (input .entry))) (now (out .entry)) (now (out .exit)) r (now (place .exit)) (now (result .exit)) ⌝ }
 {
     let answer = replay_text::replay_text(file, input, out);
     tell(answer, place, result)
 }
 
-// A plan file's row as a line of decimals, or the line of its refusal: how many bytes, or refusal 13.
+// A plan file's row as a line of decimals: how many bytes, or refusal 1, 2, 4 to 10, 13.
 #[no_mangle]
 pub extern "C" fn nuthatchet_row_text(
     file: &[u8],
@@ -211,9 +214,24 @@ pub extern "C" fn nuthatchet_row_text(
     place: &mut usize,
     result: &mut usize,
 ) -> usize
-    ensures { λ r. ⌜ TellsText (rowText (now (file .entry))) (now (out .entry)) (now (out .exit)) r (now (place .exit)) (now (result .exit)) ⌝ }
+    ensures { λ r. ⌜ TellsText (readFile (now (file .entry)) longestRow) (rowText (now (file .entry))) (now (out .entry)) (now (out .exit)) r (now (place .exit)) (now (result .exit)) ⌝ }
 {
     let answer = row_text::row_text(file, out);
+    tell(answer, place, result)
+}
+
+// The line that a program prints for a refusal, by its number and its place: how many bytes, or refusal 13.
+#[no_mangle]
+pub extern "C" fn nuthatchet_refusal_text(
+    number: usize,
+    at: usize,
+    out: &mut [u8],
+    place: &mut usize,
+    result: &mut usize,
+) -> usize
+    ensures { λ r. ⌜ TellsText (gives 0) (refusedLine (refusalAt number at)) (now (out .entry)) (now (out .exit)) r (now (place .exit)) (now (result .exit)) ⌝ }
+{
+    let answer = listing::refusal_text(refusal_at(number, at), out);
     tell(answer, place, result)
 }
 

@@ -1,35 +1,40 @@
-// A row of decimals on standard input, written as the plan file `plan.bin`, or its refusal on standard output. What is written for what was
-// read is `row_text`'s promise. A file that is there already is left as it is: a line on standard error says so.
+// A row of decimals on standard input, written as the plan file `plan.bin`, or its refusal on standard output. A file that is there already is
+// left as it is: a line on standard error says so.
+ghost use mathlib.Core.Path.{_≡_};
+ghost use lib.ListN.{length, take};
+ghost use Rattle.scope.specs.Limits.{longestFile};
+ghost use Rattle.plan.specs.Answers.{Writes};
+ghost use Rattle.row_text.specs.Rows.{numbersOf, packRoom};
+ghost use Rattle.files.specs.Came.{Came, standardInput};
+use files::Read;
 use scope::Answer;
+use scope::Refusal;
+use scope::limits;
 
-// The bytes of the plan into a new file. The name is never taken from a file that exists.
-fn save(plan: &[u8]) {
-    let fd = os::create(b"plan.bin");
-    if fd < 0 {
-        os::fail(b"plan.bin is not written");
-        return;
-    }
-    if !io::write_all(fd, plan) {
-        os::fail(b"plan.bin is not whole");
-    }
-    libc::close(fd);
+// The plan file of what was read, the first n bytes of a buffer.
+fn packed(text: &[u8], n: usize, plan: &mut [u8]) -> Answer
+    requires { ⌜ Came standardInput n (now text) × (length (now text) ≡ packRoom) × (length (now plan) ≡ longestFile) ⌝ }
+    ensures { λ r. ⌜ Writes (numbersOf (take n (now (text .entry)))) (now (plan .entry)) (now (plan .exit)) r ⌝ }
+{
+    row_text::pack_text(&text[..n], plan)
 }
 
 // The line of a refusal.
-fn refuse(answer: Answer) {
+fn refuse(refusal: Refusal) {
     let mut out = [0u8; 64];
-    let none = [0u16; 1];
-    let said = listing::listing(answer, &none, &none, &mut out);
-    files::print(said, &out);
+    let said = listing::refusal_text(refusal, &mut out);
+    files::print(b"pack", said, &out);
 }
 
 fn main() {
     let mut text = [0u8; row_text::TEXT_ROOM];
-    let mut plan = [0u8; row_text::FILE_ROOM];
-    let n = files::read_input(&mut text);
-    let answer = row_text::pack_text(&text[..n], &mut plan);
-    match answer {
-        Answer::Gives(bytes) => save(&plan[..bytes]),
-        Answer::Refused(_) => refuse(answer),
+    let mut plan = [0u8; limits::FILE];
+    let read = files::read_input(b"pack", &mut text);
+    if let Read::Bytes(n) = read {
+        let answer = packed(&text, n, &mut plan);
+        match answer {
+            Answer::Gives(bytes) => files::save(b"pack", &plan[..bytes]),
+            Answer::Refused(refusal) => refuse(refusal),
+        }
     }
 }

@@ -11,73 +11,54 @@ use lib.Dec.{ltb}
 use borrow.Author.Tests.{ltb-true, ltb-false, le-leb}
 use Rattle.scope.specs.declared.Answer.{Answer}
 use Rattle.scope.specs.declared.Refusal.{Refusal}
-use Rattle.scope.specs.Outcome.{Outcome, gives, refused, outcomeOf}
+use Rattle.scope.specs.Outcome.{Outcome, gives, refused, outcomeOf, andThen}
 use Rattle.scope.specs.File.{walkFile, rowOf}
 use Rattle.scope.specs.Plan.{planOf}
 use Rattle.scope.specs.Cycle.{eventRow}
 use Rattle.scope.specs.Questions.{readFile, replay}
 use Rattle.scope.specs.Lines.{cutsFrom, cutsOf, refusedLine, replayText}
-use Rattle.scope.specs.Limits.{longestFile, longestRow, longestEvents}
-use Rattle.flow.proofs.Theorems.{file-most, front-decides}
+use Rattle.scope.specs.Limits.{longestRow, longestEvents, planRoom, cutsRoom}
 use Rattle.view.proofs.Walked.{walked}
 use Rattle.view.proofs.Parts.{message-count, timeout-is}
 use Rattle.plan.proofs.Ways.{good-row}
 use Rattle.plan.proofs.Reading.{read-judged}
 use Rattle.listing.proofs.Lines.{refused-size}
 use Rattle.listing.proofs.Room.{listing-room}
-use Rattle.listing.specs.Prints.{Prints}
-use Rattle.listing.proofs.Printing.{prints-only}
+use Rattle.listing.proofs.Fronts.{from-front}
+use Rattle.listing.specs.Room.{listingRoom}
+use Rattle.listing.specs.Prints.{Says, Front}
+use Rattle.listing.proofs.Printing.{says-only}
 use Rattle.cut_lines.proofs.Replay.{replay-enough}
-use Rattle.replay_text.specs.Text.{textOf}
+use Rattle.replay_text.specs.Text.{textOf, mayList}
 use Rattle.replay_text.proofs.Text.{text-refused, text-given}
 use Rattle.replay_text.proofs.Low.{event-numbers}
 
--- a file that is longer than the longest has a form that is refused
-long-refused : (file : List ℕ) → longestFile < length file → (r : Refusal) × (walkFile file ≡ refused r)
-long-refused file l = by (walkFile file) refl
-  where
-    by : (o : Outcome) → walkFile file ≡ o → (r : Refusal) × (walkFile file ≡ refused r)
-    by (gives end) e = absurd (let m = file-most file end e in omega arith)
-    by (refused r) e = (r, e)
+file-front : (file input : List ℕ) → replayText (take planRoom file) input ≡ replayText file input
+file-front file input =
+    from-front (λ (f : List ℕ). replayText (take planRoom file) input ≡ replayText f input) file
+    (λ r front whole _. text-refused (take planRoom file) input r front ∙ sym (text-refused file input r whole)) refl
 
-form-refused : (file : List ℕ) (lent : ℕ) (r : Refusal) → walkFile file ≡ refused r → readFile file lent ≡ refused r
-unfolding readFile
-form-refused file lent r e = rw e
-
-file-front : (file input : List ℕ) → replayText (take 7349 file) input ≡ replayText file input
-file-front file input = by (ltb longestFile (length file)) refl
-  where
-    by : (t : Bool) → ltb longestFile (length file) ≡ t → replayText (take 7349 file) input ≡ replayText file input
-    by true e =
-        let l = ltb-true longestFile (length file) e in
-        let r = long-refused file l in
-        text-refused (take 7349 file) input (r .0) (form-refused (take 7349 file) longestRow (r .0) (front-decides file l ∙ r .1))
-        ∙ sym (text-refused file input (r .0) (form-refused file longestRow (r .0) (r .1)))
-    by false e =
-        let l = ltb-false longestFile (length file) e in
-        ap (λ (f : List ℕ). replayText f input) (take-all 7349 file (omega arith))
-
-input-front : (file input : List ℕ) → replayText file (take 651 input) ≡ replayText file input
+input-front : (file input : List ℕ) → replayText file (take cutsRoom input) ≡ replayText file input
 input-front file input = by (readFile file longestRow) refl
   where
-    by : (o : Outcome) → readFile file longestRow ≡ o → replayText file (take 651 input) ≡ replayText file input
+    by : (o : Outcome) → readFile file longestRow ≡ o → replayText file (take cutsRoom input) ≡ replayText file input
     by (gives n) e =
-        text-given file (take 651 input) n e
-        ∙ sym (replay-enough (rowOf file) (take 651 input) longestEvents 651 (omega arith))
-        ∙ ap (λ (t : List ℕ). textOf (rowOf file) (cutsFrom 65 t 0)) (take-take 651 651 input (omega arith))
-        ∙ replay-enough (rowOf file) input longestEvents 651 (omega arith)
+        text-given file (take cutsRoom input) n e
+        ∙ sym (replay-enough (rowOf file) (take cutsRoom input) longestEvents cutsRoom (omega arith))
+        ∙ ap (λ (t : List ℕ). textOf (rowOf file) (cutsFrom 65 t 0)) (take-take cutsRoom cutsRoom input (omega arith))
+        ∙ replay-enough (rowOf file) input longestEvents cutsRoom (omega arith)
         ∙ sym (text-given file input n e)
-    by (refused r) e = text-refused file (take 651 input) r e ∙ sym (text-refused file input r e)
+    by (refused r) e = text-refused file (take cutsRoom input) r e ∙ sym (text-refused file input r e)
 
 -- so many bytes of the file and of the input print what the whole prints, however long they are
-pub front-prints : (file input : List ℕ) → replayText (take 7349 file) (take 651 input) ≡ replayText file input
-front-prints file input = file-front file (take 651 input) ∙ input-front file input
+pub front-prints : (file input : List ℕ) → replayText (take planRoom file) (take cutsRoom input) ≡ replayText file input
+front-prints file input = file-front file (take cutsRoom input) ∙ input-front file input
 
 -- 36,942 bytes, which `listing` calls its room, are room for every text: so the program, which lends as many, is never refused for room
-pub text-room : (file input : List ℕ) → length (replayText file input) ≤ 36942
+pub text-room : (file input : List ℕ) → length (replayText file input) ≤ listingRoom
 text-room file input = by (readFile file longestRow) refl
   where
-    by : (o : Outcome) → readFile file longestRow ≡ o → length (replayText file input) ≤ 36942
+    by : (o : Outcome) → readFile file longestRow ≡ o → length (replayText file input) ≤ listingRoom
     by (refused r) e = omega (arith, refused-size r, ap length (text-refused file input r e))
     by (gives n) e =
         let row = rowOf file in
@@ -91,13 +72,21 @@ text-room file input = by (readFile file longestRow) refl
         let r = listing-room (replay row cuts longestEvents) (planOf row) (eventRow (planOf row) cuts) (omega arith) (omega arith) time small in
         omega (arith, ap length (text-given file input n e))
 
-pub never-short : (file input entry exit : List ℕ) (r : Answer) → 36942 ≤ length entry → Prints (replayText file input) entry exit r →
-    outcomeOf r ≡ gives (length (replayText file input))
-never-short file input entry exit r room p =
+pub never-short : (file input entry exit : List ℕ) (r : Answer) → listingRoom ≤ length entry → Says (mayList file input) (replayText file input) entry exit r →
+    outcomeOf r ≡ andThen (mayList file input) (λ _. gives (length (replayText file input)))
+never-short file input entry exit r enough s =
     let fits : length (replayText file input) ≤ length entry = omega (arith, text-room file input) in
-    p .answer ∙ rw (le-leb (length (replayText file input)) (length entry) fits)
+    s .answer ∙ rw (le-leb (length (replayText file input)) (length entry) fits)
 
 -- two outcomes that the promise of `replay_text` allows are equal
-pub one-text : (file input entry exit exit′ : List ℕ) (r r′ : Answer) →
-    Prints (replayText file input) entry exit r → Prints (replayText file input) entry exit′ r′ → (r ≡ r′) × (exit ≡ exit′)
-one-text file input entry exit exit′ r r′ p q = prints-only p q
+pub one-text : (file input entry exit exit′ : List ℕ) (r r′ : Answer) → Says (mayList file input) (replayText file input) entry exit r →
+    Says (mayList file input) (replayText file input) entry exit′ r′ → (r ≡ r′) × (exit ≡ exit′)
+one-text file input entry exit exit′ r r′ p q = says-only p q
+
+-- what the program has read prints what there is
+pub fronts : (plan cuts file input : List ℕ) (p i : ℕ) → length plan ≡ planRoom → length cuts ≡ cutsRoom → Front plan p file → Front cuts i input →
+    replayText (take p plan) (take i cuts) ≡ replayText file input
+fronts plan cuts file input p i l m f g =
+    let a : take p plan ≡ take planRoom file = f ∙ ap (λ (n : ℕ). take n file) l in
+    let b : take i cuts ≡ take cutsRoom input = g ∙ ap (λ (n : ℕ). take n input) m in
+    rw (a, b) (front-prints file input)

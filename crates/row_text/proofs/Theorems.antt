@@ -4,24 +4,25 @@ use mathlib.Core.Path.{_≡_, refl, sym, _∙_, ap}
 use mathlib.Core.Bool.{true, false}
 use mathlib.Core.List.{List, [], _∷_, _++_, append-assoc}
 use native.Mathlib.Omega.{arith}
-use lib.ListN.{length, getD, length-append}
+use lib.ListN.{length, getD, take, length-append}
 use Rattle.scope.specs.declared.Answer.{Answer}
 use Rattle.scope.specs.Outcome.{Outcome, gives, refused}
 use Rattle.scope.specs.File.{rowOf}
 use Rattle.scope.specs.Questions.{readFile}
-use Rattle.scope.specs.Limits.{longestRow}
+use Rattle.scope.specs.Limits.{longestRow, planRoom}
 use Rattle.scope.specs.Lines.{decimal, refusedLine}
 use Rattle.text.proofs.Decimal.{decimal-most}
 use Rattle.text.proofs.Read.{number-along}
 use Rattle.listing.proofs.Lines.{refused-size}
-use Rattle.listing.specs.Prints.{Prints}
-use Rattle.listing.proofs.Printing.{prints-only}
+use Rattle.listing.specs.Prints.{Says, Front}
+use Rattle.listing.proofs.Printing.{says-only}
+use Rattle.listing.proofs.Fronts.{from-front}
 use Rattle.flow.proofs.Theorems.{row-small}
 use Rattle.plan.specs.Answers.{Writes}
 use Rattle.plan.proofs.Reading.{read-room, read-judged}
 use Rattle.plan.proofs.Theorems.{one-writing}
 use Rattle.plan.proofs.Ways.{good-row}
-use Rattle.row_text.specs.Rows.{mark, rowLine, rowText, numbersFrom, numbersOf}
+use Rattle.row_text.specs.Rows.{mark, rowLine, rowText, rowTextRoom, numbersFrom, numbersOf}
 use Rattle.row_text.proofs.Words.{from-digit}
 use Rattle.row_text.proofs.Ways.{text-refused, text-given}
 
@@ -60,10 +61,10 @@ line-room (n ∷ row) small =
     omega arith
 
 -- so the text of every plan file has room in `ROOM` bytes
-pub text-room : (file : List ℕ) → length (rowText file) ≤ 62430
+pub text-room : (file : List ℕ) → length (rowText file) ≤ rowTextRoom
 text-room file = by (readFile file longestRow) refl
   where
-    by : (o : Outcome) → readFile file longestRow ≡ o → length (rowText file) ≤ 62430
+    by : (o : Outcome) → readFile file longestRow ≡ o → length (rowText file) ≤ rowTextRoom
     by (gives n) e =
         let g = good-row (rowOf file) (length (rowOf file)) (read-judged file longestRow n e) in
         let few = read-room file longestRow n e .1 in
@@ -71,9 +72,18 @@ text-room file = by (readFile file longestRow) refl
         omega (arith, ap length (text-given file (rowOf file) n e refl))
     by (refused r) e = omega (arith, refused-size r, ap length (text-refused file r e))
 
+-- and what the program has read of a file prints what the file prints
+pub front : (plan file : List ℕ) (p : ℕ) → length plan ≡ planRoom → Front plan p file → rowText (take p plan) ≡ rowText file
+front plan file p l f =
+    let is : take p plan ≡ take planRoom file = f ∙ ap (λ (n : ℕ). take n file) l in
+    ap rowText is
+    ∙ from-front (λ (whole : List ℕ). rowText (take planRoom file) ≡ rowText whole) file
+    (λ r front whole _. text-refused (take planRoom file) r front ∙ sym (text-refused file r whole)) refl
+
 -- two outcomes that a promise of this crate allows are equal
-pub one-text : (file entry exit exit′ : List ℕ) (r r′ : Answer) → Prints (rowText file) entry exit r → Prints (rowText file) entry exit′ r′ → (r ≡ r′) × (exit ≡ exit′)
-one-text file entry exit exit′ r r′ p q = prints-only p q
+pub one-text : (file entry exit exit′ : List ℕ) (r r′ : Answer) → Says (readFile file longestRow) (rowText file) entry exit r →
+    Says (readFile file longestRow) (rowText file) entry exit′ r′ → (r ≡ r′) × (exit ≡ exit′)
+one-text file entry exit exit′ r r′ p q = says-only p q
 
 pub one-packing : (text entry exit exit′ : List ℕ) (r r′ : Answer) →
     Writes (numbersOf text) entry exit r → Writes (numbersOf text) entry exit′ r′ → (r ≡ r′) × (exit ≡ exit′)

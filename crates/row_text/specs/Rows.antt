@@ -28,6 +28,14 @@ rowText file = said (readFile file longestRow)
     said (refused r) = refusedLine r
     said (gives n) = rowLine (rowOf file)
 
+-- bytes enough for it, with at most six bytes a number
+abbrev pub rowTextRoom : ℕ
+rowTextRoom = 62430
+
+-- what the program `pack` reads of a text: six bytes for each of one number more than the longest row has
+abbrev pub packRoom : ℕ
+packRoom = 62436
+
 -- A text is read byte by byte. `begun` says that a number has begun, and a is what its digits say so far; a digit goes on with it as long as
 -- it has no needless zero, and 16 bits (`goesOn` of `text`).
 

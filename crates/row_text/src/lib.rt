@@ -6,20 +6,21 @@ ghost use lib.ListN.{length, drop};
 ghost use mathlib.Core.Bool.{true};
 ghost use mathlib.Core.List.{[], _∷_};
 ghost use Rattle.text.specs.Text.{Puts, Told};
-ghost use Rattle.listing.specs.Prints.{Prints};
+ghost use Rattle.scope.specs.Limits.{longestRow};
+ghost use Rattle.scope.specs.Questions.{readFile};
+ghost use Rattle.listing.specs.Prints.{Says, Prints};
 ghost use Rattle.plan.specs.Answers.{Writes};
 ghost use Rattle.row_text.specs.Rows.{mark, rowLine, numbersOf};
 ghost use Rattle.row_text.specs.Rows.{ends as Rows·ends, rowText as Rows·rowText};
 use scope::Answer;
+use scope::limits;
 use scope::refuse;
 use text::byte;
 use text::number_at;
 use text::put_number;
 use view::number;
 
-// The longest row; and bytes enough for it as text, or for a refusal, with at most six bytes a number.
-const LONGEST_ROW: usize = 10405;
-
+// Bytes enough for the longest row as text, or for a refusal, with at most six bytes a number.
 pub const ROOM: usize = 62430;
 
 // A number more than the longest row has, so that a longer row is seen to be too long (proofs/Front), and six bytes for each number: five
@@ -27,9 +28,6 @@ pub const ROOM: usize = 62430;
 const ROW_ROOM: usize = 10406;
 
 pub const TEXT_ROOM: usize = 62436;
-
-// The longest plan file.
-pub const FILE_ROOM: usize = 7348;
 
 // What a word counts as that is no number of 16 bits: no field can hold it.
 const NO_NUMBER: u16 = 65535;
@@ -72,15 +70,15 @@ fn listed(row: &[u16], out: &mut [u8]) -> Answer
     Answer::Gives(needed)
 }
 
-// The row of a plan file as text, or the line of its refusal: how many bytes, or refusal 13 with the bytes needed.
+// The row of a plan file as text: how many bytes, or refusal 1, 2, 4 to 10, 13, and then nothing is written.
 pub fn row_text(file: &[u8], out: &mut [u8]) -> Answer
-    ensures { λ r. ⌜ Prints (Rows·rowText (now (file .entry))) (now (out .entry)) (now (out .exit)) r ⌝ }
+    ensures { λ r. ⌜ Says (readFile (now (file .entry)) longestRow) (Rows·rowText (now (file .entry))) (now (out .entry)) (now (out .exit)) r ⌝ }
 {
-    let mut row = [0u16; LONGEST_ROW];
+    let mut row = [0u16; limits::ROW];
     let read = plan::read_file(file, &mut row);
     match read {
         Answer::Gives(n) => listed(&row[..n], out),
-        Answer::Refused(refusal) => listing::listing(Answer::Refused(refusal), &row, &row, out),
+        Answer::Refused(refusal) => Answer::Refused(refusal),
     }
 }
 

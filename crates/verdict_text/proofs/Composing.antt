@@ -13,7 +13,7 @@ use Rattle.scope.specs.Questions.{after}
 use Rattle.scope.specs.Lines.{UnderK, VerdictLines, slackLines, highestK}
 use Rattle.text.specs.Text.{Puts}
 use Rattle.text.proofs.Laid.{then, laid-nil, laid-front, length-laid}
-use Rattle.verdict_text.specs.Layout.{LinesUnder, Lays, LaidUntil, PrintsOne}
+use Rattle.verdict_text.specs.Layout.{verdictRoom, LinesUnder, Lays, LaidUntil, PrintsOne}
 
 -- what follows the lines under k
 under-then : (plan : Plan) (k : ℕ) (Rest : List ℕ → Type 0) (more : List ℕ) → Rest more → (l n : ℕ) (text : List ℕ) →
@@ -71,7 +71,7 @@ module _ (plan : Plan) (n : ℕ) where
 
   -- and then the slack lines
   pub laid-all : {i j : ℕ} {before now after : List ℕ} → n ≤ 4 → length (slackLines plan 0 (plan .messages)) ≤ 17408 → LaidUntil plan n n before now i →
-      Puts (slackLines plan 0 (plan .messages)) now after i j → Lays (VerdictLines plan 0 n) 34700 before after 0 j
+      Puts (slackLines plan 0 (plan .messages)) now after i j → Lays (VerdictLines plan 0 n) verdictRoom before after 0 j
   unfolding VerdictLines
   laid-all {i} {j} {before} {now} {after} few size a p =
       let e : n - n ≡ zero = omega arith in
@@ -99,10 +99,10 @@ module _ (plan : Plan) (h : ℕ) (is : h ≡ highestK plan) where
   few-high = omega (arith, highest-few plan)
 
   pub laid-whole : {i j : ℕ} {before now after : List ℕ} → length (slackLines plan 0 (plan .messages)) ≤ 17408 → LaidUntil plan (1 + h) (1 + h) before now i →
-      Puts (slackLines plan 0 (plan .messages)) now after i j → Lays (VerdictLines plan 0 (1 + highestK plan)) 34700 before after 0 j
+      Puts (slackLines plan 0 (plan .messages)) now after i j → Lays (VerdictLines plan 0 (1 + highestK plan)) verdictRoom before after 0 j
   laid-whole {i} {j} {before} {now} {after} size a p =
       let few = few-high in
-      subst (λ (x : ℕ). Lays (VerdictLines plan 0 (1 + x)) 34700 before after 0 j) is (laid-all plan (1 + h) (omega arith) size a p)
+      subst (λ (x : ℕ). Lays (VerdictLines plan 0 (1 + x)) verdictRoom before after 0 j) is (laid-all plan (1 + h) (omega arith) size a p)
 
 pub lays-same : {Kind : List ℕ → Type 0} {most i j : ℕ} {before after : List ℕ} → Lays Kind most before after i j → length after ≡ length before
 lays-same {Kind} {most} {i} {j} {before} {after} a = ap length (a .puts .buffer) ∙ length-laid before i (a .text)

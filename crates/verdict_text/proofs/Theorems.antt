@@ -18,16 +18,16 @@ use Rattle.scope.specs.Plan.{Plan, planOf}
 use Rattle.scope.specs.Questions.{readFile}
 use Rattle.scope.specs.Lines.{VerdictLine, resistant, failing, failingLine, UnderK, VerdictLines, VerdictText, slackLines, highestK, refusedLine}
 use Rattle.scope.proofs.Order.{first-once, resistant-or-failing}
-use Rattle.scope.specs.Limits.{longestFile, longestRow}
-use Rattle.flow.proofs.Theorems.{file-most, front-decides}
+use Rattle.scope.specs.Limits.{longestRow, planRoom}
 use Rattle.text.specs.Text.{laid}
 use Rattle.listing.proofs.Lines.{refused-size}
-use Rattle.listing.specs.Prints.{Prints}
-use Rattle.listing.proofs.Printing.{prints-only, prints-as}
+use Rattle.listing.specs.Prints.{Prints, Front}
+use Rattle.listing.proofs.Printing.{prints-as, says-only, printed}
+use Rattle.listing.proofs.Fronts.{from-front}
 use Rattle.plan.specs.Answers.{GoodRow}
 use Rattle.plan.proofs.Ways.{good-row}
 use Rattle.plan.proofs.Reading.{read-judged}
-use Rattle.verdict_text.specs.Layout.{LinesUnder, Lays, PrintsOne}
+use Rattle.verdict_text.specs.Layout.{verdictRoom, LinesUnder, Lays, PrintsOne, PrintedOne}
 use Rattle.verdict_text.proofs.Composing.{highest-few, lays-prints}
 use Rattle.verdict_text.proofs.Verdicts.{few-messages}
 use Rattle.verdict_text.proofs.Room.{resistant-size, failing-size, slacks-size}
@@ -87,8 +87,8 @@ pub prints-refused : (file entry exit : List ℕ) (a : Answer) (r : Refusal) →
     PrintsOne (VerdictText file) entry exit a
 prints-refused file entry exit a r e prints = record { text = refusedLine r; kind = text-refused file (refusedLine r) r e refl; prints = prints }
 
-pub prints-given : (file row entry exit : List ℕ) (n count : ℕ) → readFile file longestRow ≡ gives n → row ≡ rowOf file → 34700 ≤ length entry →
-    Lays (VerdictLines (planOf row) 0 (1 + highestK (planOf row))) 34700 entry exit 0 count → PrintsOne (VerdictText file) entry exit (Gives count)
+pub prints-given : (file row entry exit : List ℕ) (n count : ℕ) → readFile file longestRow ≡ gives n → row ≡ rowOf file → verdictRoom ≤ length entry →
+    Lays (VerdictLines (planOf row) 0 (1 + highestK (planOf row))) verdictRoom entry exit 0 count → PrintsOne (VerdictText file) entry exit (Gives count)
 prints-given file row entry exit n count e is room lays =
     let p = lays-prints room lays in
     record { text = p .text; kind = text-given file row (p .text) n e is (p .kind); prints = p .prints }
@@ -110,7 +110,7 @@ text-once file a b u v = by (readFile file longestRow) refl
 pub one-text : (file entry exit exit′ : List ℕ) (r r′ : Answer) →
     PrintsOne (VerdictText file) entry exit r → PrintsOne (VerdictText file) entry exit′ r′ → (r ≡ r′) × (exit ≡ exit′)
 one-text file entry exit exit′ r r′ p q =
-    prints-only (prints-as (text-once file (p .text) (q .text) (p .kind) (q .kind)) (p .prints)) (q .prints)
+    says-only (prints-as (text-once file (p .text) (q .text) (p .kind) (q .kind)) (p .prints)) (q .prints)
 
 -- every text has room in `ROOM` bytes
 verdict-size : (plan : Plan) (k l : ℕ) (line : List ℕ) → k ≤ 3 → l < 100 → VerdictLine plan k l line → length line ≤ 131
@@ -137,10 +137,10 @@ lines-room plan k (suc n) text h few slacks u =
     0 (length (plan .messages) + 1) text (omega arith) u in
     omega arith
 
-pub text-room : (file text : List ℕ) → VerdictText file text → length text ≤ 34700
+pub text-room : (file text : List ℕ) → VerdictText file text → length text ≤ verdictRoom
 text-room file text v = by (readFile file longestRow) refl
   where
-    by : (o : Outcome) → readFile file longestRow ≡ o → length text ≤ 34700
+    by : (o : Outcome) → readFile file longestRow ≡ o → length text ≤ verdictRoom
     by (refused r) e = omega (arith, refused-size r, ap length (back-refused file text r e v))
     by (gives n) e =
         let g = read-good file (rowOf file) n e refl in
@@ -150,28 +150,22 @@ text-room file text v = by (readFile file longestRow) refl
         omega arith
 
 -- so a call with so much room is never refused for room
-pub never-short : (file entry exit : List ℕ) (r : Answer) → 34700 ≤ length entry → (p : PrintsOne (VerdictText file) entry exit r) →
+pub never-short : (file entry exit : List ℕ) (r : Answer) → verdictRoom ≤ length entry → (p : PrintsOne (VerdictText file) entry exit r) →
     outcomeOf r ≡ gives (length (p .text))
 never-short file entry exit r room p =
     let fits : length (p .text) ≤ length entry = omega (arith, text-room file (p .text) (p .kind)) in
     p .prints .answer ∙ rw (le-leb (length (p .text)) (length entry) fits)
 
--- a file that is longer than the longest has a form that is refused, and so have its first bytes
-form-refused : (file : List ℕ) (r : Refusal) → walkFile file ≡ refused r → readFile file longestRow ≡ refused r
-unfolding readFile
-form-refused file r e = rw e
+-- the front of a file has the file's text, and so has what the program has read of it
+pub front-prints : (file text : List ℕ) → VerdictText (take planRoom file) text → VerdictText file text
+front-prints file text v =
+    from-front (λ (f : List ℕ). VerdictText f text) file
+    (λ r front whole u. text-refused file text r whole (back-refused (take planRoom file) text r front u)) v
 
-pub front-prints : (file text : List ℕ) → VerdictText (take 7349 file) text → VerdictText file text
-front-prints file text v = by (ltb longestFile (length file)) refl
-  where
-    long : longestFile < length file → (o : Outcome) → walkFile file ≡ o → VerdictText file text
-    long l (gives end) e = absurd (let m = file-most file end e in omega arith)
-    long l (refused r) e =
-        text-refused file text r (form-refused file r e)
-        (back-refused (take 7349 file) text r (form-refused (take 7349 file) r (front-decides file l ∙ e)) v)
-
-    by : (t : Bool) → ltb longestFile (length file) ≡ t → VerdictText file text
-    by true e = long (ltb-true longestFile (length file) e) (walkFile file) refl
-    by false e =
-        let l = ltb-false longestFile (length file) e in
-        subst (λ (f : List ℕ). VerdictText f text) (take-all 7349 file (omega arith)) v
+pub program-prints : (plan file entry exit : List ℕ) (p : ℕ) (r : Answer) → length plan ≡ planRoom → length entry ≡ verdictRoom →
+    PrintsOne (VerdictText (take p plan)) entry exit r → Front plan p file → PrintedOne (VerdictText file) entry exit r
+program-prints plan file entry exit p r l room one f =
+    let is : take p plan ≡ take planRoom file = f ∙ ap (λ (n : ℕ). take n file) l in
+    let kind : VerdictText file (one .text) = front-prints file (one .text) (subst (λ (t : List ℕ). VerdictText t (one .text)) is (one .kind)) in
+    let fits : length (one .text) ≤ length entry = omega (arith, text-room file (one .text) kind) in
+    record { text = one .text; kind = kind; printed = printed (one .text) entry fits (one .prints) }

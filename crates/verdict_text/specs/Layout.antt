@@ -11,7 +11,7 @@ use Rattle.scope.specs.Spare.{placeOf}
 use Rattle.scope.specs.Lines.{resistantLine, failingLine, slackLineOf, UnderK, VerdictLines}
 use Rattle.answers.specs.Answers.{seven}
 use Rattle.text.specs.Text.{Puts}
-use Rattle.listing.specs.Prints.{Prints}
+use Rattle.listing.specs.Prints.{Prints, Printed}
 
 -- the list that seven numbers say: as many pairs as the first number, less one
 abbrev pub listOf : List ℕ → List ℕ
@@ -54,8 +54,18 @@ Until plan n k text = (more : List ℕ) → VerdictLines plan k (n - k) more →
 abbrev pub LaidUntil : Plan → ℕ → ℕ → List ℕ → List ℕ → ℕ → Type 0
 LaidUntil plan n k before after next = Lays (Until plan n k) (4323 * k) before after 0 next
 
+-- bytes enough for every text of the verdict program
+abbrev pub verdictRoom : ℕ
+verdictRoom = 34700
+
 -- a text of this kind is printed into a buffer, or refused where that is too short
 pub record PrintsOne (Kind : List ℕ → Type 0) (entry exit : List ℕ) (r : Answer) : Type 0 where
   pub text : List ℕ
   pub kind : Kind text
   pub prints : Prints text entry exit r
+
+-- a text of this kind stands whole at the front of a program's buffer
+pub record PrintedOne (Kind : List ℕ → Type 0) (entry exit : List ℕ) (r : Answer) : Type 0 where
+  pub text : List ℕ
+  pub kind : Kind text
+  pub printed : Printed text entry exit r

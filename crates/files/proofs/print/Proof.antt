@@ -1,7 +1,8 @@
--- `files::print` is safe: the part that is written is as long as the answer says, since the test found it within the buffer.
-use mathlib.Core.Path.{sym}
+-- `files::print` meets its contract: it says that all was written only behind the test that the count lies within the buffer.
+use mathlib.Core.Path.{sym, ap}
 use borrow.Author.Needs.{needs}
 use lib.Seq.{length-take-le}
+use Rattle.scope.specs.Outcome.{outcomeOf}
 use Rattle.files.proofs.print.Statement.{statement}
 use Rattle.files.proofs.print.Tie as tie
 
@@ -14,17 +15,20 @@ slice-aggregate-write-all c = sym (length-take-le _ _ (c .before .if1 .taken))
 write-all-requires : tie.Need-write-all-requires
 write-all-requires c κs = search needs
 
+returns : tie.Need-returns
+returns c = λ e. (c .before .before .before .before .before .answer .given .0 .0, ap outcomeOf (c .before .before .before .before .before .answer .given .1), c .before .before .before .if1 .taken)
+
 enum-told : tie.Need-enum-told
 enum-told c = search needs
 
-returns : tie.Need-returns
-returns c = search needs
+slice-aggregate-tell : tie.Need-slice-aggregate-tell
+slice-aggregate-tell c = search needs
+
+tell-requires : tie.Need-tell-requires
+tell-requires c κs = search needs
 
 returns-2 : tie.Need-returns-2
-returns-2 c = search needs
-
-returns-3 : tie.Need-returns-3
-returns-3 c = search needs
+returns-2 c = λ e. absurd (let z = e in search needs)
 
 pub print-spec : {M : Type 1} → statement M
 print-spec =
@@ -33,7 +37,8 @@ print-spec =
     enum-known-answer
     slice-aggregate-write-all
     write-all-requires
-    enum-told
     returns
-    returns-2
-    returns-3)
+    enum-told
+    slice-aggregate-tell
+    tell-requires
+    returns-2)

@@ -1,9 +1,6 @@
 -- `replay_text::played` meets its contract: the listing looks only at the events that the replay wrote.
-use Prim.Native.Nat.{ℕ}
-use mathlib.Core.Path.{_≡_}
 use borrow.Author.Needs.{needs}
-use Rattle.listing.proofs.Printing.{prints-as}
-use Rattle.replay_text.proofs.Text.{played-text}
+use Rattle.replay_text.proofs.Text.{played-given, played-refused}
 use Rattle.replay_text.proofs.played.Statement.{statement}
 use Rattle.replay_text.proofs.played.Tie as tie
 
@@ -13,19 +10,26 @@ slice-aggregate-replay c = search needs
 replay-requires : tie.Need-replay-requires
 replay-requires c κs = search needs
 
+enum-known-answer : tie.Need-enum-known-answer
+enum-known-answer c = search needs
+
 slice-aggregate-listing : tie.Need-slice-aggregate-listing
 slice-aggregate-listing c = search needs
 
 listing-requires : tie.Need-listing-requires
 listing-requires c κs = search needs
 
+enum-known-answer-2 : tie.Need-enum-known-answer-2
+enum-known-answer-2 c = search needs
+
 same-length : tie.Need-same-length
 same-length c = search needs
 
 returns : tie.Need-returns
-returns c =
-    let r = c .before .before .before .before .before .before .replay in
-    prints-as (played-text _ _ _ _ _ (search needs) (r .ensures)) (c .before .before .listing .ensures)
+returns c = played-given _ _ _ _ _ (search needs) (c .before .before .before .before .before .before .before .before .before .replay .ensures) _ (c .before .before .before .before .before .before .answer .given .1) (c .before .before .listing .ensures)
+
+returns-2 : tie.Need-returns-2
+returns-2 c = played-refused _ _ _ _ _ (search needs) (c .before .before .before .before .replay .ensures) _ (c .before .answer2 .given .1) _
 
 pub played-spec : {M : Type 1} → statement M
 played-spec =
@@ -33,7 +37,10 @@ played-spec =
     (tie.spec
     slice-aggregate-replay
     replay-requires
+    enum-known-answer
     slice-aggregate-listing
     listing-requires
+    enum-known-answer-2
     same-length
-    returns)
+    returns
+    returns-2)

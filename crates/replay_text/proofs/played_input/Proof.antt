@@ -1,12 +1,8 @@
 -- `replay_text::played_input` meets its contract: the cuts of 65 lines print what the whole input prints.
-use Prim.Native.Nat.{ℕ}
-use mathlib.Core.Path.{_≡_, sym, _∙_, ap}
+use mathlib.Core.Path.{sym}
 use borrow.Author.Needs.{needs}
-use lib.ListN.{length}
 use lib.Seq.{length-take-le}
-use Rattle.replay_text.specs.Text.{textOf}
-use Rattle.listing.proofs.Printing.{prints-as}
-use Rattle.replay_text.proofs.Text.{cuts-fit, cuts-read, input-text}
+use Rattle.replay_text.proofs.Text.{cuts-fit, input-says}
 use Rattle.replay_text.proofs.played_input.Statement.{statement}
 use Rattle.replay_text.proofs.played_input.Tie as tie
 
@@ -30,8 +26,7 @@ same-length c = search needs
 
 returns : tie.Need-returns
 returns c =
-    let read = c .before .before .before .before .before .before .cuts .ensures in
-    prints-as (ap (textOf _) (cuts-read _ _ _ _ (search needs) read) ∙ input-text _ _) (c .before .before .played .ensures)
+    input-says (c .before .before .before .before .before .before .before .before .before .before .before .args .row .now) (search needs) (c .before .before .before .before .before .before .cuts .ensures) (c .before .before .played .ensures)
 
 pub played-input-spec : {M : Type 1} → statement M
 played-input-spec =

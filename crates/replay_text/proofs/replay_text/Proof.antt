@@ -2,10 +2,9 @@
 use mathlib.Core.Path.{sym, _∙_}
 use borrow.Author.Needs.{needs}
 use lib.Seq.{length-take-le}
-use Rattle.listing.proofs.Lines.{refused-parts}
-use Rattle.listing.proofs.Printing.{prints-as}
 use Rattle.plan.proofs.Reading.{read-given, read-refused, read-row, read-fit}
-use Rattle.replay_text.proofs.Text.{text-refused, text-row}
+use Rattle.listing.proofs.Printing.{says-as, says-refused}
+use Rattle.replay_text.proofs.Text.{text-row, may-refused, may-given}
 use Rattle.replay_text.proofs.replay_text.Statement.{statement}
 use Rattle.replay_text.proofs.replay_text.Tie as tie
 
@@ -22,25 +21,13 @@ array-share-prefix-row : tie.Need-array-share-prefix-row
 array-share-prefix-row c = read-fit _ _ _ _ (c .before .before .before .before .read-file .ensures) _ (c .before .read .given .1)
 
 slice-aggregate-played-input : tie.Need-slice-aggregate-played-input
-slice-aggregate-played-input c =
-    sym
-    (length-take-le _ _
-    (read-fit _ _ _ _ (c .before .before .before .before .before .read-file .ensures) _ (c .before .before .read .given .1)))
+slice-aggregate-played-input c = sym (length-take-le _ _ (read-fit _ _ _ _ (c .before .before .before .before .before .read-file .ensures) _ (c .before .before .read .given .1)))
 
 played-input-requires : tie.Need-played-input-requires
 played-input-requires c κs = search needs
 
 enum-known-read-2 : tie.Need-enum-known-read-2
 enum-known-read-2 c = search needs
-
-slice-aggregate-listing : tie.Need-slice-aggregate-listing
-slice-aggregate-listing c = search needs
-
-slice-aggregate-listing-2 : tie.Need-slice-aggregate-listing-2
-slice-aggregate-listing-2 c = search needs
-
-listing-requires : tie.Need-listing-requires
-listing-requires c κs = search needs
 
 same-length : tie.Need-same-length
 same-length c = search needs
@@ -50,18 +37,13 @@ returns c =
     let known = c .before .before .before .before .before in
     let read = known .before .before .before .before .read-file .ensures in
     let gave = known .before .read .given .1 in
-    prints-as (text-row _ _ _ _ (read-given _ _ _ _ read _ _ (search needs) gave) (read-row _ _ _ _ read _ gave))
+    says-as
+    (may-given _ _ _ _ (read-given _ _ _ _ read _ _ (search needs) gave) (read-row _ _ _ _ read _ gave))
+    (text-row _ _ _ _ (read-given _ _ _ _ read _ _ (search needs) gave) (read-row _ _ _ _ read _ gave))
     (c .before .before .played-input .ensures)
 
-same-length-2 : tie.Need-same-length-2
-same-length-2 c = search needs
-
 returns-2 : tie.Need-returns-2
-returns-2 c =
-    let known = c .before .before .before .before .before .before in
-    let read = known .before .before .before .before .read-file .ensures in
-    let refused = known .before .read2 .given .1 in
-    prints-as (refused-parts _ _ _ ∙ sym (text-refused _ _ _ (read-refused _ _ _ _ read _ _ (search needs) refused))) (c .before .before .listing .ensures)
+returns-2 c = says-refused _ _ _ (may-refused _ _ _ (read-refused _ _ _ _ (c .before .before .before .before .read-file .ensures) _ _ (search needs) (c .before .read2 .given .1)))
 
 pub replay-text-spec : {M : Type 1} → statement M
 replay-text-spec =
@@ -74,10 +56,6 @@ replay-text-spec =
     slice-aggregate-played-input
     played-input-requires
     enum-known-read-2
-    slice-aggregate-listing
-    slice-aggregate-listing-2
-    listing-requires
     same-length
     returns
-    same-length-2
     returns-2)

@@ -1,11 +1,10 @@
 -- `row_text::row_text` meets its contract: by what reading the file gives.
-use mathlib.Core.Path.{sym, _∙_}
+use mathlib.Core.Path.{sym}
 use borrow.Author.Needs.{needs}
 use lib.Seq.{length-take-le}
-use Rattle.listing.proofs.Lines.{refused-parts}
-use Rattle.listing.proofs.Printing.{prints-as}
+use Rattle.listing.proofs.Printing.{prints-as, says-given, says-refused}
 use Rattle.plan.proofs.Reading.{read-given, read-refused, read-row, read-fit}
-use Rattle.row_text.proofs.Ways.{text-refused, text-given, row-short}
+use Rattle.row_text.proofs.Ways.{text-given, row-short}
 use Rattle.row_text.proofs.row_text.Statement.{statement}
 use Rattle.row_text.proofs.row_text.Tie as tie
 
@@ -35,15 +34,6 @@ listed-requires c κs =
 enum-known-read-2 : tie.Need-enum-known-read-2
 enum-known-read-2 c = search needs
 
-slice-aggregate-listing : tie.Need-slice-aggregate-listing
-slice-aggregate-listing c = search needs
-
-slice-aggregate-listing-2 : tie.Need-slice-aggregate-listing-2
-slice-aggregate-listing-2 c = search needs
-
-listing-requires : tie.Need-listing-requires
-listing-requires c κs = search needs
-
 same-length : tie.Need-same-length
 same-length c = search needs
 
@@ -52,17 +42,11 @@ returns c =
     let known = c .before .before .before .before .before in
     let read = known .before .before .before .before .read-file .ensures in
     let gave = known .before .read .given .1 in
-    prints-as (text-given _ _ _ (read-given _ _ _ _ read _ _ (search needs) gave) (read-row _ _ _ _ read _ gave)) (c .before .before .listed .ensures)
-
-same-length-2 : tie.Need-same-length-2
-same-length-2 c = search needs
+    says-given _ (read-given _ _ _ _ read _ _ (search needs) gave)
+    (prints-as (text-given _ _ _ (read-given _ _ _ _ read _ _ (search needs) gave) (read-row _ _ _ _ read _ gave)) (c .before .before .listed .ensures))
 
 returns-2 : tie.Need-returns-2
-returns-2 c =
-    let known = c .before .before .before .before .before .before in
-    let read = known .before .before .before .before .read-file .ensures in
-    let refused = known .before .read2 .given .1 in
-    prints-as (refused-parts _ _ _ ∙ sym (text-refused _ _ (read-refused _ _ _ _ read _ _ (search needs) refused))) (c .before .before .listing .ensures)
+returns-2 c = says-refused _ _ _ (read-refused _ _ _ _ (c .before .before .before .before .read-file .ensures) _ _ (search needs) (c .before .read2 .given .1))
 
 pub row-text-spec : {M : Type 1} → statement M
 row-text-spec =
@@ -75,10 +59,6 @@ row-text-spec =
     slice-aggregate-listed
     listed-requires
     enum-known-read-2
-    slice-aggregate-listing
-    slice-aggregate-listing-2
-    listing-requires
     same-length
     returns
-    same-length-2
     returns-2)

@@ -2,8 +2,6 @@
 use mathlib.Core.Path.{sym}
 use borrow.Author.Needs.{needs}
 use lib.Seq.{length-take-le}
-use Rattle.listing.proofs.Lines.{refused-parts}
-use Rattle.listing.proofs.Printing.{prints-as}
 use Rattle.plan.proofs.Reading.{read-given, read-refused, read-row, read-fit}
 use Rattle.verdict_text.proofs.Theorems.{prints-refused, prints-given, read-good}
 use Rattle.verdict.proofs.whole_text.Statement.{statement}
@@ -30,14 +28,8 @@ all-lines-requires c κs = read-good _ _ _ (read-given _ _ _ _ (c .before .befor
 enum-known-read-2 : tie.Need-enum-known-read-2
 enum-known-read-2 c = search needs
 
-slice-aggregate-listing : tie.Need-slice-aggregate-listing
-slice-aggregate-listing c = search needs
-
-slice-aggregate-listing-2 : tie.Need-slice-aggregate-listing-2
-slice-aggregate-listing-2 c = search needs
-
-listing-requires : tie.Need-listing-requires
-listing-requires c κs = search needs
+refusal-text-requires : tie.Need-refusal-text-requires
+refusal-text-requires c κs = search needs
 
 same-length : tie.Need-same-length
 same-length c = search needs
@@ -49,7 +41,9 @@ same-length-2 : tie.Need-same-length-2
 same-length-2 c = search needs
 
 returns-2 : tie.Need-returns-2
-returns-2 c = prints-refused _ _ _ _ _ (read-refused _ _ _ _ (c .before .before .before .before .before .before .before .before .before .before .read-file .ensures) _ _ (search needs) (c .before .before .before .before .before .before .before .read2 .given .1)) (prints-as (refused-parts _ _ _) (c .before .before .listing .ensures))
+returns-2 c =
+    prints-refused _ _ _ _ _ (read-refused _ _ _ _ (c .before .before .before .before .before .before .before .before .read-file .ensures) _ _ (search needs) (c .before .before .before .before .before .read2 .given .1))
+    (c .before .before .refusal-text .ensures)
 
 pub whole-text-spec : {M : Type 1} → statement M
 whole-text-spec =
@@ -62,9 +56,7 @@ whole-text-spec =
     slice-aggregate-all-lines
     all-lines-requires
     enum-known-read-2
-    slice-aggregate-listing
-    slice-aggregate-listing-2
-    listing-requires
+    refusal-text-requires
     same-length
     returns
     same-length-2

@@ -1,0 +1,20 @@
+-- `pack::packed` meets its contract: it packs what came.
+use borrow.Author.Needs.{needs}
+use Rattle.files.proofs.Fits.{came-whole}
+use Rattle.pack.proofs.packed.Statement.{statement}
+use Rattle.pack.proofs.packed.Tie as tie
+
+slice-aggregate-pack-text : tie.Need-slice-aggregate-pack-text
+slice-aggregate-pack-text c = came-whole _ _ _ (c .before .before .before .pre .0)
+
+pack-text-requires : tie.Need-pack-text-requires
+pack-text-requires c κs = search needs
+
+same-length : tie.Need-same-length
+same-length c = search needs
+
+returns : tie.Need-returns
+returns c = search needs
+
+pub packed-spec : {M : Type 1} → statement M
+packed-spec = tie.close (tie.spec slice-aggregate-pack-text pack-text-requires same-length returns)
