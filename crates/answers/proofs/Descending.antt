@@ -22,7 +22,7 @@ use Rattle.order.specs.Search.{NoneOf}
 use Rattle.touch.specs.Bound.{Fails}
 use Rattle.hunt.proofs.Answer.{all-leave}
 use Rattle.resist.specs.Lent.{MayAskOn}
-use Rattle.answers.specs.Answers.{resistant, failing, Says, seven, needed, AllSaid}
+use Rattle.answers.specs.Answers.{failing, Says, seven, needed, AllSaid}
 use Rattle.answers.specs.Filling.{Filled, MayFill, MayPut}
 
 -- a list that ends in zeros

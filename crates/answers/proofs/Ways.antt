@@ -1,13 +1,11 @@
 -- All answers at once: one law for each answer, that a row, k and a list allow one outcome, and that each answer is the verdict's.
-use Prim.Native.Nat.{ℕ, zero, suc, _+_, _-_, _*_, _/_, _≤_, _<_}
+use Prim.Native.Nat.{ℕ, zero, suc, _+_, _*_, _≤_, _<_}
 use native.Mathlib.Omega.{arith}
 use mathlib.Core.Path.{_≡_, refl, sym, _∙_, ap, ap₂, subst}
-use mathlib.Core.Logic.{_⊎_, inl, inr, ⊎-elim}
-use mathlib.Core.Bool.{Bool, true, false, _||_}
-use mathlib.Core.List.{List, [], _∷_, _++_}
-use lib.ListN.{length, take, drop, take-append-drop}
+use mathlib.Core.Logic.{inl, inr}
+use mathlib.Core.List.{List, _++_}
+use lib.ListN.{length, take, take-append-drop}
 use lib.Seq.{take-add}
-use lib.Dec.{ltb, leb}
 use borrow.Author.Tests.{lt-ltb, le-ltb, le-leb, lt-leb}
 use Rattle.scope.specs.declared.Answer.{Answer}
 use Rattle.scope.specs.declared.Answer.the-variants.{Gives, Refused}
@@ -20,7 +18,7 @@ use Rattle.view.proofs.Parts.{message-count}
 use Rattle.plan.proofs.Outcomes.{same-answer}
 use Rattle.plan.specs.Answers.{GoodRow}
 use Rattle.plan.proofs.Theorems.{judged}
-use Rattle.answers.specs.Answers.{Says, SaysResistant, SaysFailing, failing, seven, needed, mayAnswer, AllSaid, After, AnswersAll}
+use Rattle.answers.specs.Answers.{Says, failing, seven, needed, mayAnswer, AllSaid, After, AnswersAll}
 use Rattle.answers.specs.Filling.{MayFillAll}
 
 -- the answers

@@ -9,7 +9,7 @@ use scope::limits::SLOTS;
 use scope::limits::TABLE;
 use scope::refuse;
 use step::Standing;
-ghost use Prim.Native.Nat.{_+_, _-_, _*_, _≤_, _<_};
+ghost use Prim.Native.Nat.{_+_, _*_, _≤_, _<_};
 ghost use mathlib.Core.Path.{_≡_};
 ghost use mathlib.Core.List.{_++_, _∷_};
 ghost use lib.ListN.{length, drop};

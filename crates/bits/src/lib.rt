@@ -2,7 +2,7 @@
 // three bytes that such a field can touch as one number, so the work does not grow with the width. It leans on scope's `Bits`.
 ghost use mathlib.Core.Path.{_≡_};
 ghost use Prim.Native.Nat.{_+_, _%_, _^_, _≤_, _<_};
-ghost use lib.ListN.{getD, set};
+ghost use lib.ListN.{set};
 ghost use lib.Seq.{sets};
 ghost use Rattle.scope.specs.Bits.{bits, bitsOf};
 ghost use Rattle.bits.specs.Word.{wordAt, mixed, Power, Byte, Within, Read};

@@ -1,7 +1,7 @@
 -- The rules of document 01 as a first path's places, and a table, break them: the tests of refusals 7 to 10 of a message that stands
 -- anywhere.
 use Prim.Native.Nat.{ℕ}
-use mathlib.Core.Bool.{Bool, true, false, not, _&&_, _||_}
+use mathlib.Core.Bool.{Bool, false, not, _&&_, _||_}
 use mathlib.Core.List.{List, [], _∷_}
 use lib.Dec.{leb, eqb}
 use Rattle.scope.specs.Plan.{Plan, Place, linkOf}

@@ -1,17 +1,16 @@
 -- A number of at most 63 as it is read by `text`, and what document 01 has there: the same bytes and the same value, or none; a digit
 -- behind a single one shows that there is none.
-use Prim.Native.Nat.{ℕ, suc, _+_, _-_, _*_, _/_, _%_, _≤_, _<_}
+use Prim.Native.Nat.{ℕ, _+_, _-_, _*_, _/_, _%_, _≤_, _<_}
 use mathlib.Core.Path.{_≡_, refl, sym, _∙_, ap}
-use mathlib.Core.Bool.{Bool, true, false, cond, _&&_}
-use mathlib.Core.List.{List, [], _∷_, _++_}
+use mathlib.Core.Bool.{Bool, true, false, _&&_}
+use mathlib.Core.List.{List, [], _∷_}
 use native.Mathlib.Omega.{arith}
-use native.Mathlib.Numerals.{add-one}
 use lib.ListN.{length, getD, take, drop, length-drop, List·getD-eq-default}
 use lib.Seq.{drop-cons, getD-drop, length-take-le}
 use lib.Dec.{ltb, leb}
 use borrow.Author.Tests.{lt-ltb, le-leb, ltb-true, ltb-false, leb-false}
 use Rattle.scope.specs.Lines.{byteAt, decimal, isDigit, numberAt, numberSize}
-use Rattle.text.specs.Reading.{goesOn, sizeFrom, sizeAt, valueAt, Reads}
+use Rattle.text.specs.Reading.{goesOn, sizeFrom, sizeAt, Reads}
 use Rattle.text.specs.declared.Number.{Number}
 use Rattle.text.proofs.Decimal.{decimal-small}
 use Rattle.text.proofs.Read.{number-printed, number-stops}

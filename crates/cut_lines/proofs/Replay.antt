@@ -4,7 +4,7 @@ use mathlib.Core.Path.{_≡_, refl, sym, _∙_, ap}
 use mathlib.Core.Bool.{Bool, true, false, cond}
 use mathlib.Core.List.{List, [], _∷_}
 use native.Mathlib.Omega.{arith}
-use lib.ListN.{length, getD, take}
+use lib.ListN.{length, take}
 use lib.Dec.{ltb, eqb}
 use borrow.Author.Tests.{ltb-true}
 use Rattle.scope.specs.declared.Fields.{Fields}
@@ -13,7 +13,7 @@ use Rattle.scope.specs.declared.Refusal.{Refusal}
 use Rattle.scope.specs.Outcome.{Outcome, gives, refused, refuse, andThen, room}
 use Rattle.scope.specs.Fields.{opening, edition, step, width}
 use Rattle.scope.specs.Row.{walkFrom, walkRow}
-use Rattle.scope.specs.Plan.{Plan, planOf, at, linksAt, linkCount, firstLink}
+use Rattle.scope.specs.Plan.{planOf, at, linksAt, linkCount, firstLink}
 use Rattle.scope.specs.Good.{rules}
 use Rattle.scope.specs.Cuts.{checkCuts}
 use Rattle.scope.specs.Cycle.{eventRow, arrivals}

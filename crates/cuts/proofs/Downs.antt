@@ -1,17 +1,17 @@
 -- Laws of what is down in a slot: one more pair, and what is known of `isCut` after all pairs.
 use Prim.Native.Nat.{ℕ, _+_, _≤_, _<_}
 use mathlib.Core.Path.{_≡_, refl, sym, _∙_, ap}
-use mathlib.Core.Bool.{Bool, true, false, cond, _&&_, _||_, or-false, or-true, and-false}
+use mathlib.Core.Bool.{Bool, true, false, cond, _&&_, or-false, or-true, and-false}
 use mathlib.Core.List.{List}
 use native.Mathlib.Omega.{arith}
-use lib.ListN.{length, getD, set, replicate, getD-replicate, length-replicate, length-set, List·getD-eq-default}
+use lib.ListN.{length, set, replicate, getD-replicate, length-replicate, length-set, List·getD-eq-default}
 use lib.Seq.{getD-set-same, getD-set-other, set-out}
 use lib.Dec.{ltb, leb, eqb}
 use borrow.Author.Tests.{le-ltb, le-leb, lt-leb, ltb-true, ltb-false, eqb-true, eqb-false}
 use Rattle.scope.specs.Limits.{mostLinks}
 use Rattle.scope.specs.Lowest.{seek, some}
 use Rattle.scope.specs.Cuts.{cutSlot, cutLink, pairs, isCut}
-use Rattle.cuts.specs.Down.{isDown, withPair, cutBelow, DownIn}
+use Rattle.cuts.specs.Down.{isDown, withPair, DownIn}
 use Rattle.cuts.proofs.Some.{some-more}
 
 pub down-past : (down : List ℕ) (e : ℕ) → length down ≤ e → isDown down e ≡ false

@@ -10,7 +10,7 @@ use Rattle.view.proofs.Parts.{message-count}
 use Rattle.table.specs.Table.{entryAt}
 use Rattle.cuts.specs.Down.{cutBelow, DownIn}
 use Rattle.step.specs.declared.Standing.{Standing}
-use Rattle.step.specs.Stand.{positionsOf, Become}
+use Rattle.step.specs.Stand.{positionsOf}
 use Rattle.step.specs.Slot.{downNow, inSlot, GoesOn}
 use Rattle.cycle.specs.Play.{doIn, endsWith, tells, Begins, Done, MayRun, Ran, MayPlay, Played}
 use Rattle.cycle.proofs.Agree.{slot-same}

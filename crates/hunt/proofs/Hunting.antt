@@ -4,12 +4,12 @@ use native.Mathlib.Omega.{arith}
 use mathlib.Core.Path.{_≡_, refl, sym, _∙_, ap, subst}
 use mathlib.Core.Bool.{Bool, true, false, true≢false}
 use mathlib.Core.List.{List, []}
-use lib.ListN.{length, take, getD-replicate}
+use lib.ListN.{length, take}
 use lib.Dec.{ltb}
-use borrow.Author.Tests.{ltb-true, ltb-false, lt-leb}
+use borrow.Author.Tests.{ltb-true, ltb-false}
 use Rattle.scope.specs.Limits.{mostLinks, mostCuts}
-use Rattle.scope.specs.Plan.{Plan, planOf}
-use Rattle.scope.specs.Cuts.{pairs, isCut}
+use Rattle.scope.specs.Plan.{planOf}
+use Rattle.scope.specs.Cuts.{pairs}
 use Rattle.scope.specs.Cycle.{arrivals}
 use Rattle.laws.proofs.Cuts.{no-cuts}
 use Rattle.step.specs.declared.Standing.{Standing}

@@ -1,7 +1,7 @@
 -- The two loops of the search: over the links of a slot, and over the slots.
 use Prim.Native.Nat.{ℕ, _+_, _-_, _*_, _≤_, _<_}
 use native.Mathlib.Omega.{arith}
-use mathlib.Core.Path.{_≡_, refl, sym, _∙_, ap, subst}
+use mathlib.Core.Path.{_≡_, refl, sym, _∙_, subst}
 use mathlib.Core.Bool.{Bool, true, false, not, _&&_, and-eq-true-iff}
 use mathlib.Core.List.{List, [], _∷_, _++_}
 use lib.ListN.{length, getD, take}
@@ -18,7 +18,7 @@ use Rattle.touch.specs.Marks.{Marks}
 use Rattle.hunt.specs.declared.Asked.{Asked}
 use Rattle.hunt.specs.declared.Picked.{Picked}
 use Rattle.hunt.specs.declared.Found.{Found}
-use Rattle.order.specs.Search.{code, Not, NoneOf, NoneIn, FirstOf, FirstFrom}
+use Rattle.order.specs.Search.{code, Not, NoneOf, NoneIn}
 use Rattle.hunt.specs.Hunt.{cutsOf, withPair, passes, Seeks, noFound, Ready, Holding, StandAt, MayAdvance, MaySeek, MaySeekIn, Sought, SoughtIn}
 use Rattle.order.proofs.Steps.{none-before, passed, cut-already, no-list-here, first-here, slot-over, joined, first-in-slot, all-over, first-of-all}
 use Rattle.hunt.proofs.Weigh.{too-light, too-light-now}

@@ -4,8 +4,8 @@ use mathlib.Core.Path.{_≡_}
 use mathlib.Core.Bool.{Bool, true, false, not, _&&_}
 use mathlib.Core.List.{List, []}
 use lib.ListN.{length, getD, take, set, replicate}
-use lib.Dec.{ltb, eqb}
-use Rattle.scope.specs.Limits.{mostCuts, mostSlots, mostLinks, mostMessages, tableSize}
+use lib.Dec.{ltb}
+use Rattle.scope.specs.Limits.{mostCuts, mostSlots, mostLinks, tableSize}
 use Rattle.scope.specs.Plan.{planOf}
 use Rattle.scope.specs.Cuts.{isCut}
 use Rattle.scope.specs.Verdict.{FirstFailing}

@@ -7,7 +7,7 @@ use scope::limits::LINKS;
 use scope::limits::MESSAGES;
 use step::Position;
 use step::Standing;
-ghost use Prim.Native.Nat.{ℕ, _+_, _-_, _*_, _<_, _≤_};
+ghost use Prim.Native.Nat.{_+_, _-_, _*_, _<_, _≤_};
 ghost use mathlib.Core.Path.{_≡_};
 ghost use lib.ListN.{length};
 ghost use lib.Dec.{ltb};

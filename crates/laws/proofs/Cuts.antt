@@ -5,8 +5,8 @@ use mathlib.Core.Path.{_≡_, refl, sym, _∙_, ap, subst₂}
 use mathlib.Core.Bool.{Bool, true, false, _&&_, and-eq-true-iff}
 use mathlib.Core.List.{List, [], _∷_}
 use lib.ListN.{length, length-map, List·getD-map}
-use lib.Dec.{leb, eqb}
-use borrow.Author.Tests.{ltb-true, leb-true, eqb-true}
+use lib.Dec.{leb}
+use borrow.Author.Tests.{ltb-true, leb-true}
 use Rattle.scope.specs.Lowest.{seek, lowest}
 use Rattle.scope.specs.Plan.{Plan, Place, pathOf}
 use Rattle.scope.specs.Slot.{onFirst, Event}

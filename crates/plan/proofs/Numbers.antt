@@ -1,6 +1,6 @@
 -- A refusal's number is never 0, so that 0 says that nothing is refused.
 use Prim.Native.Nat.{ℕ, _+_, _^_}
-use mathlib.Core.Path.{_≡_, refl, sym, _∙_, ap}
+use mathlib.Core.Path.{_≡_}
 use mathlib.Core.Bool.{Bool, true, false, cond}
 use mathlib.Core.List.{List, [], _∷_}
 use native.Mathlib.Omega.{arith}
@@ -9,7 +9,7 @@ use lib.Dec.{ltb, eqb}
 use Rattle.scope.specs.declared.Fields.{Fields}
 use Rattle.scope.specs.Lowest.{lowest}
 use Rattle.scope.specs.declared.Refusal.{Refusal}
-use Rattle.scope.specs.Outcome.{Outcome, gives, refused, refuse, andThen, unlessSome, number}
+use Rattle.scope.specs.Outcome.{Outcome, gives, refused, refuse, andThen, unlessSome}
 use Rattle.scope.specs.Fields.{width, step, opening, edition}
 use Rattle.scope.specs.Row.{walkFrom, walkRow}
 use Rattle.scope.specs.Plan.{Plan, planOf}

@@ -3,9 +3,8 @@ use Prim.Native.Nat.{ℕ, _≤_, _<_}
 use mathlib.Core.Path.{_≡_, refl, sym, _∙_, ap}
 use mathlib.Core.Bool.{Bool, true, false, cond}
 use mathlib.Core.List.{List, _++_}
-use native.Mathlib.Omega.{arith}
 use lib.ListN.{length, drop}
-use lib.Dec.{ltb, leb}
+use lib.Dec.{ltb}
 use borrow.Author.Tests.{le-leb, lt-leb}
 use Rattle.scope.specs.declared.Answer.{Answer}
 use Rattle.scope.specs.declared.Answer.the-variants.{Gives, Refused}
@@ -13,12 +12,10 @@ use Rattle.scope.specs.declared.Refusal.{Refusal}
 use Rattle.scope.specs.Lowest.{lowest}
 use Rattle.scope.proofs.Outcomes.{not-both}
 use Rattle.scope.specs.Outcome.{Outcome, outcomeOf, gives, refused, refuse, andThen, unlessSome, room}
-use Rattle.scope.specs.File.{walkFile, rowOf, fileOf}
-use Rattle.scope.specs.Row.{walkRow}
-use Rattle.scope.specs.Plan.{Plan, planOf}
+use Rattle.scope.specs.Plan.{Plan}
 use Rattle.scope.specs.Good.{badEnds, repeats, badFirstPath, badSlots, badTable, badSecondPath, rules}
-use Rattle.scope.specs.Questions.{after, judge, readFile, writeFile}
-use Rattle.plan.specs.Answers.{Answers, GoodRow}
+use Rattle.scope.specs.Questions.{after}
+use Rattle.plan.specs.Answers.{Answers}
 
 -- an answer is known by its outcome
 pub same-answer : (a b : Answer) → outcomeOf a ≡ outcomeOf b → a ≡ b

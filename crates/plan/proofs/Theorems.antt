@@ -1,14 +1,13 @@
 -- The file half of demand 2, on the questions as they are asked: accepted files, read and written back, are the same bytes, and good
 -- rows, written and read back, the same numbers. And demand 1: what is allowed of a call is one outcome.
 use Prim.Native.Nat.{ℕ, _≤_}
-use mathlib.Core.Path.{_≡_, refl, sym, _∙_, ap}
+use mathlib.Core.Path.{_≡_, sym, _∙_}
 use mathlib.Core.List.{List}
 use native.Mathlib.Omega.{arith}
 use lib.ListN.{length}
 use Rattle.scope.specs.declared.Answer.{Answer}
-use Rattle.scope.specs.Outcome.{Outcome, outcomeOf, gives, andThen, room}
-use Rattle.scope.specs.File.{walkFile, rowOf, rowBits, fileOf}
-use Rattle.scope.specs.Row.{walkRow}
+use Rattle.scope.specs.Outcome.{outcomeOf, gives, andThen, room}
+use Rattle.scope.specs.File.{walkFile, rowOf, fileOf}
 use Rattle.scope.specs.Plan.{planOf}
 use Rattle.scope.specs.Good.{rules}
 use Rattle.scope.specs.Questions.{judge, readFile, writeFile}

@@ -1,22 +1,20 @@
 -- One law for each way out of a function of this crate, from what its callees ensure.
 use Prim.Native.Nat.{ℕ, _≤_, _<_}
 use mathlib.Core.Path.{_≡_, refl, sym, _∙_, ap}
-use mathlib.Core.Bool.{Bool, true, false, cond}
-use mathlib.Core.List.{List, [], _∷_, _++_}
+use mathlib.Core.List.{List, [], _++_}
 use native.Mathlib.Omega.{arith}
-use lib.ListN.{length, take, drop}
-use lib.Dec.{eqb}
-use borrow.Author.Tests.{eq-eqb, ne-eqb}
+use lib.ListN.{length, drop}
+use borrow.Author.Tests.{ne-eqb}
 use Rattle.scope.specs.declared.Answer.{Answer}
 use Rattle.scope.specs.declared.Answer.the-variants.{Gives, Refused}
 use Rattle.scope.specs.declared.Refusal.{Refusal}
-use Rattle.scope.specs.Outcome.{Outcome, outcomeOf, gives, refused, refuse, andThen, room, number}
+use Rattle.scope.specs.Outcome.{Outcome, outcomeOf, gives, refused, refuse, andThen, room}
 use Rattle.scope.specs.File.{walkFile, rowOf, fileOf}
 use Rattle.scope.specs.Row.{walkRow}
 use Rattle.scope.specs.Plan.{planOf}
 use Rattle.scope.specs.Good.{rules}
-use Rattle.scope.specs.SecondPath.{hasSecond, shown}
-use Rattle.scope.specs.Questions.{after, judge, readFile, writeFile, secondPath}
+use Rattle.scope.specs.SecondPath.{shown}
+use Rattle.scope.specs.Questions.{judge, readFile, writeFile, secondPath}
 use Rattle.view.specs.View.{PartAt, secondPart, secondIndex}
 use Rattle.flow.proofs.Theorems.{file-row, row-count}
 use Rattle.plan.specs.Answers.{Answers, Accepts, GoodRow, shownIndex}

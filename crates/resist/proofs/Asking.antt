@@ -1,8 +1,8 @@
 -- What the search is lent is right: the table, the weights and the first positions of a good row.
-use Prim.Native.Nat.{ℕ, _+_, _-_, _≤_, _<_}
+use Prim.Native.Nat.{ℕ, _+_, _-_, _≤_}
 use native.Mathlib.Omega.{arith}
 use mathlib.Core.Path.{_≡_, sym, _∙_, ap}
-use mathlib.Core.List.{List, [], map}
+use mathlib.Core.List.{List, map}
 use lib.ListN.{length}
 use Rattle.scope.specs.Limits.{mostCuts, longestRow}
 use Rattle.scope.specs.Plan.{messageCount, linkCount, timeoutOf, firstMessage, messagesAt, planOf}
@@ -22,7 +22,7 @@ use Rattle.cycle.proofs.Whole.{start-is}
 use Rattle.cycle.proofs.Agree.{owner-same}
 use Rattle.hunt.specs.declared.Asked.{Asked}
 use Rattle.hunt.specs.declared.Hunted.{Hunted}
-use Rattle.hunt.specs.Hunt.{noHunted, StandAt, MayHunt, Hunts}
+use Rattle.hunt.specs.Hunt.{noHunted, MayHunt, Hunts}
 use Rattle.hunt.proofs.Hunting.{hunts-none}
 use Rattle.resist.specs.Lent.{Lent, MayAskOn}
 

@@ -1,19 +1,18 @@
 -- The verdict: one law for each answer, and that a row, k, l and a list allow one outcome.
-use Prim.Native.Nat.{ℕ, _+_, _-_, _*_, _/_, _≤_, _<_}
+use Prim.Native.Nat.{ℕ, _*_, _≤_, _<_}
 use native.Mathlib.Omega.{arith}
 use mathlib.Core.Path.{_≡_, refl, sym, _∙_, ap, ap₂}
-use mathlib.Core.Bool.{Bool, true, false, _||_, or-true}
-use mathlib.Core.List.{List, [], _++_}
-use lib.ListN.{length, take, drop, length-take, take-append-drop}
+use mathlib.Core.Bool.{true, false, or-true}
+use mathlib.Core.List.{List, _++_}
+use lib.ListN.{length, take, drop, take-append-drop}
 use lib.Seq.{length-take-le, take-at, drop-at}
-use lib.Dec.{ltb, leb}
+use lib.Dec.{ltb}
 use borrow.Author.Tests.{lt-ltb, le-ltb, le-leb, lt-leb}
 use Rattle.scope.specs.declared.Refusal.{Refusal}
 use Rattle.scope.proofs.Outcomes.{not-both}
 use Rattle.scope.specs.Outcome.{gives, refused, refusalAt}
 use Rattle.scope.specs.Plan.{planOf, messageCount}
 use Rattle.scope.specs.Cuts.{pairs}
-use Rattle.scope.specs.Verdict.{FirstFailing}
 use Rattle.scope.specs.Questions.{judge, mayJudge}
 use Rattle.scope.proofs.Order.{first-once, resistant-or-failing}
 use Rattle.view.proofs.Parts.{message-count}

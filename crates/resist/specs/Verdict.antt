@@ -4,7 +4,7 @@ use mathlib.Core.Path.{_≡_}
 use mathlib.Core.List.{List}
 use lib.ListN.{length, take, drop}
 use Rattle.scope.specs.declared.Refusal.{Refusal}
-use Rattle.scope.specs.Outcome.{Outcome, gives, refused}
+use Rattle.scope.specs.Outcome.{gives, refused}
 use Rattle.scope.specs.Plan.{planOf}
 use Rattle.scope.specs.Cuts.{pairs}
 use Rattle.scope.specs.Verdict.{FirstFailing, Resistant as AlwaysLeaves}

@@ -10,11 +10,11 @@ use lib.Seq.{getD-set-same, getD-set-other}
 use lib.Dec.{ltb, eqb}
 use Rattle.scope.specs.Lowest.{lowest}
 use Rattle.scope.specs.Outcome.{gives, refuse}
-use Rattle.scope.specs.Plan.{Plan, Place, messageAt, afterMessage, firstMessage, messageCount, linkCount, planOf, pathOf}
+use Rattle.scope.specs.Plan.{Plan, messageAt, afterMessage, firstMessage, messageCount, planOf, pathOf}
 use Rattle.scope.specs.Good.{badEnds, repeats, badFirstPath, badSlots, badTable, badSecondPath, rules}
 use Rattle.scope.specs.SecondPath.{messageIndex}
 use Rattle.view.specs.View.{Is}
-use Rattle.view.specs.Lies.{MessageLies, PlanLies}
+use Rattle.view.specs.Lies.{MessageLies}
 use Rattle.view.proofs.Index.{messages-suc}
 use Rattle.view.proofs.Parts.{path-at, message-count, link-count}
 use Rattle.rules.specs.Rules.{Starts, Judging, breaks, countFor, rulesFrom}

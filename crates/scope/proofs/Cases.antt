@@ -1,6 +1,6 @@
 -- The table of document 01's cases marked P holds, and so does our own, each row by computing.
-use mathlib.Core.Path.{_≡_, refl}
-use mathlib.Core.List.{List, [], _∷_}
+use mathlib.Core.Path.{refl}
+use mathlib.Core.List.{[], _∷_}
 use lib.Dec.{lit<, lit≤}
 use Rattle.scope.specs.Lowest.{seek}
 use Rattle.scope.specs.Bits.{bitsOf, bits, numberFrom, bytesOf}

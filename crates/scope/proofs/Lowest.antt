@@ -1,11 +1,11 @@
 -- Laws of "the lowest such": for loops that look for it, and for readers.
 use Prim.Native.Nat.{ℕ, zero, suc, _+_, _-_, _≤_, _<_}
-use mathlib.Core.Path.{_≡_, refl, sym, _∙_, ap}
+use mathlib.Core.Path.{_≡_, refl}
 use mathlib.Core.Bool.{Bool, true, false, cond}
 use native.Mathlib.Omega.{arith}
 use lib.Dec.{ltb}
-use borrow.Author.Tests.{lt-ltb, ltb-true, le-ltb, ltb-false}
-use Rattle.scope.specs.Lowest.{seek, lowest, some}
+use borrow.Author.Tests.{ltb-true, ltb-false}
+use Rattle.scope.specs.Lowest.{seek}
 
 module _ (test : ℕ → Bool) where
   -- a loop at i, with the numbers below n to look at: it is found, it goes on, it is done

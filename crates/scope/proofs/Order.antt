@@ -1,11 +1,11 @@
 -- The order of cut lists is total, so that a plan has at most one first failing list, and none if it is resistant.
-use Prim.Native.Nat.{ℕ, _<_, _≤_}
+use Prim.Native.Nat.{ℕ, _≤_}
 use mathlib.Core.Path.{_≡_, refl, sym, ap₂}
-use mathlib.Core.Bool.{Bool, true, false, _&&_, _||_, true≢false}
+use mathlib.Core.Bool.{false, _&&_, true≢false}
 use mathlib.Core.List.{List, [], _∷_}
 use native.Mathlib.Omega.{arith}
 use lib.Dec.{ltb, eqb}
-use borrow.Author.Tests.{ltb-false, le-ltb, eq-eqb, eqb-true}
+use borrow.Author.Tests.{ltb-false, le-ltb, eq-eqb}
 use Rattle.scope.specs.Plan.{Plan}
 use Rattle.scope.specs.Cuts.{pairs}
 use Rattle.scope.specs.Cycle.{arrivals}

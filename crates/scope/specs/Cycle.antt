@@ -6,9 +6,9 @@ use mathlib.Core.List.{List, [], _∷_, _++_, map}
 use lib.ListN.{length}
 use lib.Dec.{ltb, eqb}
 use Rattle.scope.specs.Lowest.{lowest}
-use Rattle.scope.specs.Plan.{Plan, Place, pathOf}
+use Rattle.scope.specs.Plan.{Plan, pathOf}
 use Rattle.scope.specs.Good.{holds}
-use Rattle.scope.specs.Slot.{Position, onFirst, Event, Moved, atTarget, turn, tries, nextSecond, act}
+use Rattle.scope.specs.Slot.{Position, onFirst, Moved, atTarget, turn, tries, nextSecond, act}
 use Rattle.scope.specs.Cuts.{isCut}
 
 -- the rank of a message: who has the lower rank goes first

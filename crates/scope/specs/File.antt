@@ -1,8 +1,8 @@
 -- What a file of bytes says: its fields, refusals 1, 2 and 4, and the file of a row.
-use Prim.Native.Nat.{ℕ, zero, suc, _+_, _-_, _*_, _/_, _<_}
+use Prim.Native.Nat.{ℕ, zero, suc, _+_, _-_, _*_, _/_}
 use mathlib.Core.Bool.{Bool, true, cond, _&&_}
 use mathlib.Core.List.{List, [], _∷_, _++_}
-use lib.ListN.{length, getD, take, drop, replicate}
+use lib.ListN.{length, drop, replicate}
 use lib.Dec.{ltb, leb, eqb}
 use Rattle.scope.specs.declared.Fields.{Fields}
 use Rattle.scope.specs.Outcome.{Outcome, gives, refuse, andThen}

@@ -1,6 +1,6 @@
 -- "V switches and hosts ("vertices", 1 to 64), E directed links (1 to 64), M messages (1 to 32) and a timeout t (1 to 64)", and what
 -- follows from these sizes. src/limits.rt has the same for code.
-use Prim.Native.Nat.{ℕ, _*_}
+use Prim.Native.Nat.{ℕ}
 
 abbrev pub mostVertices : ℕ
 mostVertices = 64

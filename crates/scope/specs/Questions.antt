@@ -1,19 +1,17 @@
 -- Every question of document 01, with its refusals in their order: "The lowest number that applies is given".
-use Prim.Native.Nat.{ℕ, _+_, _*_, _≤_, _<_}
-use mathlib.Core.Path.{_≡_}
-use mathlib.Core.Bool.{Bool, cond, _||_}
-use mathlib.Core.List.{List, [], _++_}
-use lib.ListN.{length, take, drop}
+use Prim.Native.Nat.{ℕ, _*_}
+use mathlib.Core.Bool.{cond, _||_}
+use mathlib.Core.List.{List, _++_}
+use lib.ListN.{length, drop}
 use lib.IntN.{ℤ}
-use lib.Dec.{ltb, leb}
+use lib.Dec.{ltb}
 use Rattle.scope.specs.Outcome.{Outcome, gives, refused, refuse, andThen, room}
 use Rattle.scope.specs.File.{walkFile, rowOf, fileOf}
 use Rattle.scope.specs.Row.{walkRow}
-use Rattle.scope.specs.Plan.{Plan, Place, planOf}
+use Rattle.scope.specs.Plan.{planOf}
 use Rattle.scope.specs.Good.{rules}
-use Rattle.scope.specs.Cuts.{checkCuts, pairs}
+use Rattle.scope.specs.Cuts.{checkCuts}
 use Rattle.scope.specs.Cycle.{arrivals, eventRow, orderOf}
-use Rattle.scope.specs.Verdict.{Resistant, FirstFailing}
 use Rattle.scope.specs.Spare.{slackOf, placeOf, noSecond}
 use Rattle.scope.specs.SecondPath.{shown}
 

@@ -1,5 +1,5 @@
 -- What a row of numbers says about its form: refusals 1 to 4, "2 and 3 by the first one met from the front".
-use Prim.Native.Nat.{ℕ, zero, suc, _+_, _^_}
+use Prim.Native.Nat.{ℕ, _+_, _^_}
 use mathlib.Core.Bool.{cond}
 use mathlib.Core.List.{List, [], _∷_}
 use lib.Dec.{ltb, eqb}

@@ -7,14 +7,13 @@ use mathlib.Core.Bool.{Bool, true, false, cond, _&&_}
 use mathlib.Core.List.{List, [], _∷_}
 use lib.ListN.{length, getD}
 use lib.IntN.{ℤ, pos, negsuc, subℕ}
-use lib.Signed.{_≤ℤ_}
 use lib.Dec.{ltb, le→leb}
 use borrow.Author.Tests.{ltb-true, ltb-false}
 use Rattle.scope.proofs.Outcomes.{not-both}
 use Rattle.scope.specs.Outcome.{Outcome, gives, refuse}
-use Rattle.scope.specs.Plan.{Place, numbersAt, secondStart, secondCount, placeCount, messageAt, planOf, pathOf}
+use Rattle.scope.specs.Plan.{Place, secondStart, secondCount, placeCount, planOf, pathOf}
 use Rattle.scope.specs.SecondPath.{messageIndex, placeIndex}
-use Rattle.scope.specs.Good.{rules, slotsRise}
+use Rattle.scope.specs.Good.{slotsRise}
 use Rattle.scope.specs.Cycle.{byNumber, orderOf}
 use Rattle.scope.specs.Spare.{hasSecondThrough, entries, lowerThrough, delay, placeOf, noSecond}
 use Rattle.scope.specs.Questions.{judge, maySpare, slack}
@@ -29,7 +28,7 @@ use Rattle.plan.proofs.Ways.{good-row}
 use Rattle.spare.specs.declared.Spare.the-variants.{Slots}
 use Rattle.spare.specs.Slack.{Slacks, unlessRefused, Between, SlackLies, AnswerLies}
 use Rattle.spare.proofs.Held.{entries-few}
-use Rattle.spare.proofs.There.{There, there, slot-is, second-is}
+use Rattle.spare.proofs.There.{There, there, second-is}
 
 -- b(m, e) is at most the number of messages from j on that are lower than m
 lower-few : (m e j : ℕ) (paths : List (List Place)) → lowerThrough byNumber m e j paths ≤ m - j

@@ -1,7 +1,7 @@
 -- The table of a good plan has at most t entries on a link: each slot has at most one, and each entry lies in a slot below t.
 use Prim.Native.Nat.{ℕ, zero, suc, _+_, _≤_, _<_}
 use native.Mathlib.Omega.{arith}
-use mathlib.Core.Path.{_≡_, refl, sym, _∙_, ap, ap₂, subst}
+use mathlib.Core.Path.{_≡_, refl, sym, _∙_, ap₂, subst}
 use mathlib.Core.Bool.{Bool, true, false, cond, _&&_, and-true, and-false}
 use mathlib.Core.List.{List, [], _∷_}
 use lib.ListN.{getD}
@@ -14,7 +14,7 @@ use Rattle.scope.specs.Cycle.{tableOf}
 use Rattle.scope.specs.Spare.{entriesOf, entries}
 use Rattle.laws.specs.Links.{TableGives}
 use Rattle.laws.proofs.Good.{good-rises}
-use Rattle.laws.proofs.Rising.{rises, earlier}
+use Rattle.laws.proofs.Rising.{rises}
 use Rattle.laws.proofs.Table.{table-gives}
 
 -- the entries of a first path, and of all of them, on link e in slots that pass a test

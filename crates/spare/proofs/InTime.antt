@@ -1,5 +1,5 @@
 -- A slack of 0 or more means arrival in time, as document 01 says it and as the answers of `slack` and of the replay show it.
-use Prim.Native.Nat.{ℕ, _<_}
+use Prim.Native.Nat.{ℕ}
 use native.Mathlib.Omega.{arith}
 use mathlib.Core.Path.{_≡_, refl}
 use mathlib.Core.Bool.{Bool, true, false, not, cond}

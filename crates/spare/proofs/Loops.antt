@@ -1,12 +1,12 @@
 -- What each loop of this crate has left to look at, one law for each way that a turn can go.
 use Prim.Native.Nat.{ℕ, zero, suc, _+_, _-_, _≤_, _<_}
-use mathlib.Core.Path.{_≡_, refl, sym, _∙_, ap}
-use mathlib.Core.Bool.{Bool, true, false, cond, _&&_, _||_}
+use mathlib.Core.Path.{_≡_, refl, sym, _∙_}
+use mathlib.Core.Bool.{Bool, true, false, cond, _&&_}
 use mathlib.Core.List.{List, [], _∷_}
 use native.Mathlib.Omega.{arith}
 use borrow.Author.Tests.{eq-eqb, ne-eqb, le-ltb, lt-ltb}
 use lib.Dec.{eqb, ltb}
-use Rattle.scope.specs.Plan.{Place, at, placeCount, numbersAt, placeAt, placesAt, placeSize, secondAt, messageAt, messagesAt, afterMessage, afterMessages, planOf, firstMessage, messageCount}
+use Rattle.scope.specs.Plan.{Place, at, placeCount, numbersAt, placesAt, placeSize, secondAt, messageAt, messagesAt, afterMessage, afterMessages, planOf, messageCount}
 use Rattle.scope.specs.SecondPath.{messageIndex}
 use Rattle.scope.specs.Good.{has}
 use Rattle.scope.specs.Cycle.{byNumber, orderOf}

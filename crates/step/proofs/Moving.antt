@@ -9,7 +9,7 @@ use lib.ListN.{length, getD, drop, set, length-drop, drop-of-length-le}
 use lib.Seq.{set-getD, getD-drop, drop-cons, ext-getD}
 use Rattle.scope.specs.Plan.{planOf}
 use Rattle.scope.specs.Slot as S
-use Rattle.scope.specs.Cycle.{slot, nexts}
+use Rattle.scope.specs.Cycle.{nexts}
 use Rattle.step.specs.declared.Position.{Position}
 use Rattle.step.specs.Where.{positionOf}
 use Rattle.step.specs.Stand.{home, positionsOf}

@@ -1,10 +1,10 @@
 -- Laws of what a message does once it has turned, one for each way.
 use Prim.Native.Nat.{ℕ, _+_, _-_, _≤_, _<_}
-use mathlib.Core.Path.{_≡_, refl, sym, _∙_, ap}
+use mathlib.Core.Path.{_≡_, refl, sym, _∙_}
 use mathlib.Core.Bool.{Bool, true, false, not}
 use mathlib.Core.List.{List}
 use native.Mathlib.Omega.{arith}
-use lib.Dec.{ltb, eqb}
+use lib.Dec.{eqb}
 use borrow.Author.Tests.{eq-eqb, ne-eqb, lt-ltb, le-ltb, eqb-true, eqb-false}
 use Rattle.scope.specs.Plan.{at, numbersAt, placesAt, placeAt, placeSize}
 use Rattle.scope.specs.Slot.{Position, onFirst, onSecond, moved, atTarget, turn, tries, onFirstPath, onSecondPath, act}

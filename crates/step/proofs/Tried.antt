@@ -5,18 +5,16 @@ use mathlib.Core.Bool.{Bool, true, false, cond, _&&_, and-false}
 use mathlib.Core.List.{List, [], _∷_, _++_, map}
 use native.Mathlib.Numerals.{add-one}
 use native.Mathlib.Omega.{arith}
-use lib.ListN.{length, getD, take, drop, set, length-set, List·getD-eq-default}
+use lib.ListN.{length, getD, take, drop, set, length-set}
 use lib.Seq.{take-suc, drop-cons, getD-set-same, getD-set-other}
 use lib.Dec.{ltb, eqb}
 use borrow.Author.Tests.{lt-ltb, le-ltb, ltb-true, ltb-false, eq-eqb, ne-eqb, eqb-true, eqb-false}
 use Rattle.scope.specs.Lowest.{seek, lowest}
 use Rattle.scope.proofs.Lowest.{seek-most}
-use Rattle.scope.specs.Slot as S
 use Rattle.scope.specs.Cycle.{byNumber, foremost}
 use Rattle.step.specs.declared.Position.{Position}
 use Rattle.step.specs.Where.{positionOf}
 use Rattle.step.specs.Stand.{home, positionsOf}
-use Rattle.table.specs.Table.{entryAt}
 use Rattle.step.specs.Pass.{triers, triedLink, triedBy, foundAt, firstTrier, noted, Noting}
 
 -- one more element through a function

@@ -1,17 +1,16 @@
 -- Laws of a number that is read: one step of a digit, and the end.
 use Prim.Native.Nat.{ℕ, suc, _+_, _-_, _*_, _≤_, _<_}
-use mathlib.Core.Path.{_≡_, refl, sym, _∙_, ap}
-use mathlib.Core.Bool.{Bool, true, false, not, cond, _&&_, _||_}
-use mathlib.Core.List.{List, [], _∷_, _++_}
+use mathlib.Core.Path.{_≡_, refl}
+use mathlib.Core.Bool.{Bool, true, false, not, _&&_, _||_}
+use mathlib.Core.List.{List, [], _∷_}
 use native.Mathlib.Omega.{arith}
 use native.Mathlib.Numerals.{add-one}
-use lib.ListN.{length, getD, drop, drop-of-length-le}
+use lib.ListN.{length, drop, drop-of-length-le}
 use lib.Seq.{drop-cons}
 use lib.Dec.{ltb, leb}
 use borrow.Author.Tests.{lt-ltb, le-ltb, leb-true, ltb-true}
 use Rattle.scope.specs.Lines.{byteAt}
 use Rattle.text.specs.Reading.{goesOn, sizeFrom, valueFrom, sizeAt, valueAt, Reads}
-use Rattle.text.specs.declared.Number.{Number}
 
 -- tests that hold together hold each
 and-split : (a b : Bool) → (a && b) ≡ true → (a ≡ true) × (b ≡ true)

@@ -1,5 +1,5 @@
 -- Laws of parts of a list: the lesser of two counts, a part moved to the front, and bytes as pairs of digits.
-use Prim.Native.Nat.{ℕ, suc, _+_, _-_, _/_, _%_, _≤_, _<_}
+use Prim.Native.Nat.{ℕ, _+_, _-_, _/_, _%_, _≤_, _<_}
 use mathlib.Core.Path.{_≡_, refl, sym, _∙_, ap}
 use mathlib.Core.Bool.{Bool, true, false, cond, _&&_}
 use mathlib.Core.List.{List, [], _∷_, _++_}
@@ -7,8 +7,8 @@ use native.Mathlib.Omega.{arith}
 use native.Mathlib.Numerals.{add-one}
 use lib.ListN.{length, getD, take, drop, set, length-drop, drop-of-length-le, length-set, List·getD-eq-default}
 use lib.Seq.{drop-cons, drop-drop, drop-set-lt, getD-take, getD-drop, length-take-le, take-all}
-use lib.Dec.{ltb, leb, eqb}
-use borrow.Author.Tests.{lt-ltb, le-ltb, le-leb, lt-leb, ltb-true, ltb-false, eq-eqb, ne-eqb}
+use lib.Dec.{ltb, leb}
+use borrow.Author.Tests.{le-leb, lt-leb, ltb-true, ltb-false, eq-eqb, ne-eqb}
 use Rattle.scope.specs.Lines.{byteAt}
 use Rattle.text.specs.Text.{Puts}
 use Rattle.text.proofs.Laid.{Left, left-first, left-is, left-more, left-done, puts-one, word-more, word-done}

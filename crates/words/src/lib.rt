@@ -2,7 +2,7 @@
 // compared with their filling. What each gives is in specs/Words. It leans on `text` for what is read and written, and on `verdict_lines`
 // for numbers behind spaces.
 ghost use mathlib.Core.Path.{_≡_};
-ghost use Prim.Native.Nat.{_+_, _≤_, _<_, _/_, _%_};
+ghost use Prim.Native.Nat.{_+_, _<_, _/_, _%_};
 ghost use mathlib.Core.List.{[], _∷_};
 ghost use lib.ListN.{length, take, drop, replicate};
 ghost use Rattle.scope.specs.Lines.{decimal};

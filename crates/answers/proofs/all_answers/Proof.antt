@@ -4,10 +4,6 @@ use Rattle.answers.proofs.Ways.{bad-row}
 use borrow.Author.Needs.{needs}
 use Rattle.answers.proofs.all_answers.Statement.{statement}
 use Rattle.answers.proofs.all_answers.Tie as tie
-use Rattle.answers.proofs.all_answers.Reads as reads
-use Rattle.answers.proofs.all_answers.Lts as lts
-use Rattle.answers.proofs.answers_good.Reads as answers-good-reads
-use Rattle.plan.proofs.judge.Reads as judge-reads
 
 judge-requires : tie.Need-judge-requires
 judge-requires c κs = search needs

@@ -4,10 +4,6 @@ use Rattle.answers.proofs.Ways.{k-too-large, too-short, may-fill-all, a
 use borrow.Author.Needs.{needs}
 use Rattle.answers.proofs.answers_good.Statement.{statement}
 use Rattle.answers.proofs.answers_good.Tie as tie
-use Rattle.answers.proofs.answers_good.Reads as reads
-use Rattle.answers.proofs.answers_good.Lts as lts
-use Rattle.answers.proofs.fill.Reads as fill-reads
-use Rattle.view.proofs.messages.Reads as messages-reads
 
 refuse-requires : tie.Need-refuse-requires
 refuse-requires c κs = search needs

@@ -4,11 +4,6 @@ use native.Mathlib.Omega.{arith}
 use Rattle.answers.proofs.Descending.{Descending, ask-first, descend-first, may-put, ask-next, less, descend-on, room-all, descend-done}
 use Rattle.answers.proofs.descend.Statement.{statement}
 use Rattle.answers.proofs.descend.Tie as tie
-use Rattle.answers.proofs.descend.Reads as reads
-use Rattle.answers.proofs.descend.Lts as lts
-use Rattle.resist.proofs.ask.Reads as ask-reads
-use Rattle.answers.proofs.put_answers.Reads as put-answers-reads
-use Rattle.answers.proofs.put_failing.Reads as put-failing-reads
 
 abbrev Inv-loop : tie.InvT-loop
 Inv-loop row table weights most ps a k out₀ l₀ h₀ out l h = Descending row a k out₀ l h out

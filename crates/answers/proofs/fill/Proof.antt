@@ -4,11 +4,6 @@ use Rattle.resist.proofs.Asking.{may-start, may-ask-on}
 use borrow.Author.Needs.{needs}
 use Rattle.answers.proofs.fill.Statement.{statement}
 use Rattle.answers.proofs.fill.Tie as tie
-use Rattle.answers.proofs.fill.Reads as reads
-use Rattle.answers.proofs.fill.Lts as lts
-use Rattle.answers.proofs.descend.Reads as descend-reads
-use Rattle.cycle.proofs.start_all.Reads as start-all-reads
-use Rattle.resist.proofs.lend.Reads as lend-reads
 
 slice-aggregate-lend : tie.Need-slice-aggregate-lend
 slice-aggregate-lend c = search needs

@@ -7,9 +7,6 @@ use Rattle.answers.proofs.Putting.{puts-seven, seven-length, room-left}
 use borrow.Author.Needs.{needs}
 use Rattle.answers.proofs.put_answer.Statement.{statement}
 use Rattle.answers.proofs.put_answer.Tie as tie
-use Rattle.answers.proofs.put_answer.Reads as reads
-use Rattle.answers.proofs.put_answer.Lts as lts
-use Rattle.plan.proofs.copy.Reads as copy-reads
 
 slice-write-out : tie.Need-slice-write-out
 slice-write-out c = search needs

@@ -6,9 +6,6 @@ use borrow.Author.Needs.{needs}
 use Rattle.answers.proofs.Putting.{room-left, Putting, putting-none, putting-more, putting-done}
 use Rattle.answers.proofs.put_answers.Statement.{statement}
 use Rattle.answers.proofs.put_answers.Tie as tie
-use Rattle.answers.proofs.put_answers.Reads as reads
-use Rattle.answers.proofs.put_answers.Lts as lts
-use Rattle.answers.proofs.put_answer.Reads as put-answer-reads
 
 abbrev Inv-loop : tie.InvT-loop
 Inv-loop out₀ from to head numbers l₀ out l = Putting from to head numbers out₀ l out

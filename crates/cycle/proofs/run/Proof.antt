@@ -1,5 +1,5 @@
 -- `cycle::run` meets its contract. The loop's invariant: what is told, with what is still to tell, is all. Assumes nothing.
-use Prim.Native.Nat.{_-_, _+_, _<_, _≤_}
+use Prim.Native.Nat.{_-_, _<_}
 use mathlib.Core.Path.{_≡_, _∙_, ap, refl}
 use lib.ListN.{length, take, drop, length-drop}
 use lib.Seq.{length-take-le}

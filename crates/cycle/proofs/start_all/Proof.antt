@@ -1,5 +1,5 @@
 -- `cycle::start_all` meets its contract: the first records, at the first time. Assumes nothing.
-use mathlib.Core.Path.{_≡_, sym, _∙_, ap}
+use mathlib.Core.Path.{_≡_, _∙_, ap}
 use lib.ListN.{length}
 use borrow.Author.Needs.{needs}
 use Rattle.scope.specs.Limits.{mostMessages}

@@ -6,11 +6,6 @@ use Rattle.hunt.proofs.Playing.{may-step, stepped}
 use borrow.Author.Needs.{needs}
 use Rattle.hunt.proofs.advance.Statement.{statement}
 use Rattle.hunt.proofs.advance.Tie as tie
-use Rattle.hunt.proofs.advance.Reads as reads
-use Rattle.hunt.proofs.advance.Lts as lts
-use Rattle.step.proofs.Standing.after.Reads as after-reads
-use Rattle.step.proofs.Standing.time.Reads as time-reads
-use Rattle.step.proofs.Time.begins.Reads as begins-reads
 
 time-requires : tie.Need-time-requires
 time-requires c κs = search needs

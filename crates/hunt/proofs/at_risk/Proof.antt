@@ -2,10 +2,6 @@
 use borrow.Author.Needs.{needs}
 use Rattle.hunt.proofs.at_risk.Statement.{statement}
 use Rattle.hunt.proofs.at_risk.Tie as tie
-use Rattle.hunt.proofs.at_risk.Reads as reads
-use Rattle.hunt.proofs.at_risk.Lts as lts
-use Rattle.hunt.proofs.count_risks.Reads as count-risks-reads
-use Rattle.step.proofs.Standing.positions.Reads as positions-reads
 
 positions-requires : tie.Need-positions-requires
 positions-requires c κs = search needs

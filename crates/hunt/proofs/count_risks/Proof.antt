@@ -7,9 +7,6 @@ use Rattle.step.specs.Stand.{home}
 use Rattle.hunt.proofs.Risk.{Counting, counting-none, risk-small, counting-more, counting-done}
 use Rattle.hunt.proofs.count_risks.Statement.{statement}
 use Rattle.hunt.proofs.count_risks.Tie as tie
-use Rattle.hunt.proofs.count_risks.Reads as reads
-use Rattle.hunt.proofs.count_risks.Lts as lts
-use Rattle.hunt.proofs.risk_one.Reads as risk-one-reads
 
 abbrev Inv-loop : tie.InvT-loop
 Inv-loop n marks ps count₀ m₀ count m = Counting marks ps n m count

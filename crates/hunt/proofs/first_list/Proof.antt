@@ -6,12 +6,6 @@ use borrow.Author.Needs.{needs}
 use Rattle.hunt.proofs.Hunting.{Hunting, hunt-first, may-mark-none, may-seek, hunt-some, hunt-on, hunt-over}
 use Rattle.hunt.proofs.first_list.Statement.{statement}
 use Rattle.hunt.proofs.first_list.Tie as tie
-use Rattle.hunt.proofs.first_list.Reads as reads
-use Rattle.hunt.proofs.first_list.Lts as lts
-use Rattle.hunt.proofs.level.Reads as level-reads
-use Rattle.hunt.proofs.marks_of.Reads as marks-of-reads
-use Rattle.hunt.proofs.no_pair.Reads as no-pair-reads
-use Rattle.hunt.proofs.no_list.Reads as no-list-reads
 
 abbrev Inv-loop : tie.InvT-loop
 Inv-loop row table weights most a ps low k p marks n₀ n = Hunting row a low k n

@@ -2,11 +2,8 @@
 use native.Mathlib.Omega.{arith}
 use mathlib.Core.Path.{refl}
 use native.Mathlib.Nat.{mul-le-mul-right}
-use borrow.Author.Needs.{needs}
 use Rattle.hunt.proofs.heaviest.Statement.{statement}
 use Rattle.hunt.proofs.heaviest.Tie as tie
-use Rattle.hunt.proofs.heaviest.Reads as reads
-use Rattle.hunt.proofs.heaviest.Lts as lts
 
 mul-result : tie.Need-mul-result
 mul-result c = omega (arith, mul-le-mul-right (c .args .top) (c .pre .1))

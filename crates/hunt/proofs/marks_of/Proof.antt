@@ -6,9 +6,6 @@ use Rattle.hunt.proofs.Risk.{may-mark-all}
 use borrow.Author.Needs.{needs}
 use Rattle.hunt.proofs.marks_of.Statement.{statement}
 use Rattle.hunt.proofs.marks_of.Tie as tie
-use Rattle.hunt.proofs.marks_of.Reads as reads
-use Rattle.hunt.proofs.marks_of.Lts as lts
-use Rattle.touch.proofs.mark_all.Reads as mark-all-reads
 
 mul-numbers : tie.Need-mul-numbers
 mul-numbers c = search needs

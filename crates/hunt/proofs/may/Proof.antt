@@ -5,10 +5,6 @@ use mathlib.Core.Path.{sym, _∙_}
 use borrow.Author.Needs.{needs}
 use Rattle.hunt.proofs.may.Statement.{statement}
 use Rattle.hunt.proofs.may.Tie as tie
-use Rattle.hunt.proofs.may.Reads as reads
-use Rattle.hunt.proofs.may.Lts as lts
-use Rattle.cuts.proofs.is_down.Reads as is-down-reads
-use Rattle.hunt.proofs.hopeless.Reads as hopeless-reads
 
 is-down-requires : tie.Need-is-down-requires
 is-down-requires c κs = search needs

@@ -7,9 +7,6 @@ use Rattle.scope.proofs.Lowest.{seek-found, seek-next, seek-done}
 use Rattle.hunt.specs.Hunt.{passes}
 use Rattle.hunt.proofs.next_link.Statement.{statement}
 use Rattle.hunt.proofs.next_link.Tie as tie
-use Rattle.hunt.proofs.next_link.Reads as reads
-use Rattle.hunt.proofs.next_link.Lts as lts
-use Rattle.hunt.proofs.may.Reads as may-reads
 
 abbrev Inv-loop : tie.InvT-loop
 Inv-loop down weights base need rest e links i₀ i =

@@ -6,14 +6,6 @@ use Rattle.hunt.proofs.Playing.{settled-none, settled-some, Ending, end
 use borrow.Author.Needs.{needs}
 use Rattle.hunt.proofs.play_out.Statement.{statement}
 use Rattle.hunt.proofs.play_out.Tie as tie
-use Rattle.hunt.proofs.play_out.Reads as reads
-use Rattle.hunt.proofs.play_out.Lts as lts
-use Rattle.cycle.proofs.count_home.Reads as count-home-reads
-use Rattle.hunt.proofs.advance.Reads as advance-reads
-use Rattle.hunt.proofs.answers.Reads as answers-reads
-use Rattle.hunt.proofs.at_risk.Reads as at-risk-reads
-use Rattle.hunt.proofs.hopeless.Reads as hopeless-reads
-use Rattle.hunt.proofs.nothing.Reads as nothing-reads
 
 abbrev Inv-loop : tie.InvT-loop
 Inv-loop row table marks a p qs₀ i₀ qs i = Ending row a p i qs

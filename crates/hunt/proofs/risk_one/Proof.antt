@@ -2,8 +2,6 @@
 use Rattle.hunt.proofs.Risk.{risk-home, risk-free, risk-some}
 use Rattle.hunt.proofs.risk_one.Statement.{statement}
 use Rattle.hunt.proofs.risk_one.Tie as tie
-use Rattle.hunt.proofs.risk_one.Reads as reads
-use Rattle.hunt.proofs.risk_one.Lts as lts
 
 returns : tie.Need-returns
 returns c = risk-home (c .before .before .args .mark) (c .before .before .args .p) (c .if1 .taken)

@@ -4,7 +4,7 @@ use mathlib.Core.Path.{_≡_, refl, sym, _∙_}
 use native.Mathlib.Omega.{arith}
 use borrow.Author.Needs.{needs}
 use lib.ListN.{length}
-use Rattle.scope.specs.Plan.{planOf, linkOf}
+use Rattle.scope.specs.Plan.{planOf}
 use Rattle.view.proofs.Parts.{link-count}
 use Rattle.paths.proofs.Laws.{to-small}
 use Rattle.paths.proofs.Walk as law

@@ -1,6 +1,5 @@
 -- `plan::accept` meets its contract: the rules come first, then the room. Assumes nothing.
 use borrow.Author.Needs.{needs}
-use native.Mathlib.Omega.{arith}
 use Rattle.plan.proofs.Ways as law
 use Rattle.plan.proofs.accept.Statement.{statement}
 use Rattle.plan.proofs.accept.Tie as tie

@@ -1,6 +1,5 @@
 -- `plan::judge` meets its contract: refusals 1 to 4 come first, then 5 to 10. Assumes nothing.
 use borrow.Author.Needs.{needs}
-use native.Mathlib.Omega.{arith}
 use Rattle.plan.proofs.Ways as law
 use Rattle.plan.proofs.judge.Statement.{statement}
 use Rattle.plan.proofs.judge.Tie as tie

@@ -3,7 +3,6 @@ use mathlib.Core.Path.{sym, _∙_, ap}
 use lib.ListN.{length}
 use Rattle.flow.proofs.Theorems.{unpacked-row}
 use borrow.Author.Needs.{needs}
-use native.Mathlib.Omega.{arith}
 use Rattle.plan.proofs.Ways as law
 use Rattle.plan.proofs.read_file.Statement.{statement}
 use Rattle.plan.proofs.read_file.Tie as tie

@@ -1,6 +1,5 @@
 -- `plan::second_path` meets its contract: a bad row shows nothing. Assumes nothing.
 use borrow.Author.Needs.{needs}
-use native.Mathlib.Omega.{arith}
 use Rattle.plan.proofs.Ways as law
 use Rattle.plan.proofs.second_path.Statement.{statement}
 use Rattle.plan.proofs.second_path.Tie as tie

@@ -4,7 +4,6 @@ use mathlib.Core.List.{_++_}
 use lib.ListN.{drop}
 use lib.Seq.{length-take-le}
 use borrow.Author.Needs.{needs}
-use native.Mathlib.Omega.{arith}
 use Rattle.plan.proofs.Ways as law
 use Rattle.plan.proofs.write_file.Statement.{statement}
 use Rattle.plan.proofs.write_file.Tie as tie

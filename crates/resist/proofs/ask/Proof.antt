@@ -3,11 +3,6 @@ use Rattle.resist.proofs.Asking.{asks-nought, asks}
 use borrow.Author.Needs.{needs}
 use Rattle.resist.proofs.ask.Statement.{statement}
 use Rattle.resist.proofs.ask.Tie as tie
-use Rattle.resist.proofs.ask.Reads as reads
-use Rattle.resist.proofs.ask.Lts as lts
-use Rattle.hunt.proofs.first_list.Reads as first-list-reads
-use Rattle.hunt.proofs.no_list.Reads as no-list-reads
-use Rattle.touch.proofs.need.Reads as need-reads
 
 no-list-requires : tie.Need-no-list-requires
 no-list-requires c κs = search needs

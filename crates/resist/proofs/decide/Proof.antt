@@ -4,11 +4,6 @@ use Rattle.resist.proofs.Asking.{may-start, may-ask-on}
 use borrow.Author.Needs.{needs}
 use Rattle.resist.proofs.decide.Statement.{statement}
 use Rattle.resist.proofs.decide.Tie as tie
-use Rattle.resist.proofs.decide.Reads as reads
-use Rattle.resist.proofs.decide.Lts as lts
-use Rattle.cycle.proofs.start_all.Reads as start-all-reads
-use Rattle.resist.proofs.ask.Reads as ask-reads
-use Rattle.resist.proofs.lend.Reads as lend-reads
 
 slice-aggregate-lend : tie.Need-slice-aggregate-lend
 slice-aggregate-lend c = search needs

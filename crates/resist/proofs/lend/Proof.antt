@@ -3,14 +3,6 @@ use Rattle.resist.proofs.Asking.{lies, lent}
 use borrow.Author.Needs.{needs}
 use Rattle.resist.proofs.lend.Statement.{statement}
 use Rattle.resist.proofs.lend.Tie as tie
-use Rattle.resist.proofs.lend.Reads as reads
-use Rattle.resist.proofs.lend.Lts as lts
-use Rattle.table.proofs.fill_table.Reads as fill-table-reads
-use Rattle.touch.proofs.tops.Reads as tops-reads
-use Rattle.touch.proofs.weigh.Reads as weigh-reads
-use Rattle.view.proofs.links.Reads as links-reads
-use Rattle.view.proofs.messages.Reads as messages-reads
-use Rattle.view.proofs.timeout.Reads as timeout-reads
 
 fill-table-requires : tie.Need-fill-table-requires
 fill-table-requires c κs =

@@ -4,10 +4,6 @@ use Rattle.resist.proofs.Ways.{bad-row}
 use borrow.Author.Needs.{needs}
 use Rattle.resist.proofs.verdict.Statement.{statement}
 use Rattle.resist.proofs.verdict.Tie as tie
-use Rattle.resist.proofs.verdict.Reads as reads
-use Rattle.resist.proofs.verdict.Lts as lts
-use Rattle.plan.proofs.judge.Reads as judge-reads
-use Rattle.resist.proofs.verdict_good.Reads as verdict-good-reads
 
 judge-requires : tie.Need-judge-requires
 judge-requires c κs = search needs

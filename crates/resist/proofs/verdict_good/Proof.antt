@@ -5,11 +5,6 @@ use Rattle.resist.proofs.Ways.{k-too-large, l-too-large, may-ask, too-s
 use borrow.Author.Needs.{needs}
 use Rattle.resist.proofs.verdict_good.Statement.{statement}
 use Rattle.resist.proofs.verdict_good.Tie as tie
-use Rattle.resist.proofs.verdict_good.Reads as reads
-use Rattle.resist.proofs.verdict_good.Lts as lts
-use Rattle.plan.proofs.copy.Reads as copy-reads
-use Rattle.resist.proofs.decide.Reads as decide-reads
-use Rattle.view.proofs.messages.Reads as messages-reads
 
 refusal-at-requires : tie.Need-refusal-at-requires
 refusal-at-requires c κs = search needs

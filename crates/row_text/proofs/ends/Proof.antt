@@ -1,5 +1,4 @@
 -- `row_text::ends` meets its contract: the second byte is asked for where the first is not there.
-use borrow.Author.Needs.{needs}
 use borrow.Author.Tests.{eq-eqb, ne-eqb}
 use Rattle.row_text.proofs.ends.Statement.{statement}
 use Rattle.row_text.proofs.ends.Tie as tie

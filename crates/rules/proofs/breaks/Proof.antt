@@ -2,7 +2,6 @@
 use Prim.Native.Nat.{_≤_, _<_}
 use mathlib.Core.Path.{_∙_, sym, ap}
 use native.Mathlib.Omega.{arith}
-use borrow.Author.Needs.{needs}
 use lib.ListN.{length, getD}
 use Rattle.scope.specs.Plan.{planOf}
 use Rattle.broken.specs.Broken.{brokenPath, brokenSlots, brokenSeconds}

@@ -1,6 +1,6 @@
 -- `spare::delay` meets its contract. The invariant: what is summed and what is left to sum make the whole. Assumes nothing.
 use Prim.Native.Nat.{_+_, _-_, _*_, _≤_}
-use mathlib.Core.Path.{_≡_, sym, _∙_}
+use mathlib.Core.Path.{_≡_}
 use Rattle.scope.specs.Plan.{numbersAt, planOf}
 use Rattle.scope.specs.Cycle.{orderOf}
 use Rattle.scope.specs.Spare.{delay}

@@ -1,6 +1,6 @@
 -- `spare::entries_of` meets its contract. The invariant: what is counted and what is left to count make the whole. Assumes nothing.
 use Prim.Native.Nat.{_+_, _-_, _*_, _≤_}
-use mathlib.Core.Path.{_≡_, sym, _∙_}
+use mathlib.Core.Path.{_≡_}
 use Rattle.scope.specs.Plan.{placesAt}
 use Rattle.scope.specs.Spare.{entriesOf}
 use borrow.Author.Needs.{needs}

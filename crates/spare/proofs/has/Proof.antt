@@ -1,5 +1,5 @@
 -- `spare::has` meets its contract. The invariant: what is left has the link exactly if all have it. Assumes nothing.
-use Prim.Native.Nat.{_+_, _-_, _*_, _≤_}
+use Prim.Native.Nat.{_+_, _-_, _≤_}
 use mathlib.Core.Path.{_≡_, sym, _∙_}
 use Rattle.scope.specs.Plan.{numbersAt}
 use Rattle.scope.specs.Good.{has}

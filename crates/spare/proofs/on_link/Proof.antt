@@ -4,7 +4,6 @@ use borrow.Author.Tests.{eq-eqb, ne-eqb}
 use Rattle.scope.specs.Plan.{at}
 use borrow.Author.Needs.{needs}
 use native.Mathlib.Omega.{arith}
-use Rattle.spare.proofs.Loops as law
 use Rattle.spare.proofs.on_link.Statement.{statement}
 use Rattle.spare.proofs.on_link.Tie as tie
 

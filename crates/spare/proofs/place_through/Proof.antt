@@ -1,7 +1,6 @@
 -- `spare::place_through` meets its contract: without the flag there is no second path. Assumes nothing.
 use mathlib.Core.Path.{sym}
 use borrow.Author.Needs.{needs}
-use native.Mathlib.Omega.{arith}
 use Rattle.spare.proofs.Loops as law
 use Rattle.spare.proofs.place_through.Statement.{statement}
 use Rattle.spare.proofs.place_through.Tie as tie

@@ -1,5 +1,4 @@
 -- `spare::slack_of_good` meets its contract: one law for each way out. Assumes nothing.
-use native.Mathlib.Omega.{arith}
 use borrow.Author.Needs.{needs}
 use Rattle.spare.proofs.There.{There}
 use Rattle.spare.proofs.Ways as law

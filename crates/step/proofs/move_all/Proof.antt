@@ -40,7 +40,7 @@ use denote.Builtin.{u8, u16, usize}
 use denote.Ref.{RefT}
 use denote.Slice.{sliceTy, sliceVal, slice-vals, MutSlice, ShrSlice, heres, Room, at-slice, codedHoleys, mut-slice-tells, shr-slice-tells, shr-slice-copy}
 use denote.Lend.{Held}
-use denote.Index.{row, others, place-is, elem-out, elem-back, elem-put, opens-slice, closes-slice}
+use denote.Index.{row, place-is, elem-out, elem-back, elem-put, opens-slice, closes-slice}
 use denote.Steps.{only, owned, peeks, heard, nothing}
 use denote.Struct.Laws as LL
 use denote.Triple.Entry.{onEntry}

@@ -4,8 +4,6 @@ use lib.ListN.{List·getD-eq-default}
 use borrow.Author.Needs.{needs}
 use Rattle.touch.proofs.at.Statement.{statement}
 use Rattle.touch.proofs.at.Tie as tie
-use Rattle.touch.proofs.at.Reads as reads
-use Rattle.touch.proofs.at.Lts as lts
 
 mul-result : tie.Need-mul-result
 mul-result c = search needs

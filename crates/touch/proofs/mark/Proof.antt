@@ -6,9 +6,6 @@ use Rattle.touch.proofs.Marking.{Marking, marking-none, marking-more, m
 use borrow.Author.Needs.{needs}
 use Rattle.touch.proofs.mark.Statement.{statement}
 use Rattle.touch.proofs.mark.Tie as tie
-use Rattle.touch.proofs.mark.Reads as reads
-use Rattle.touch.proofs.mark.Lts as lts
-use Rattle.table.proofs.entry.Reads as entry-reads
 
 abbrev Inv-loop : tie.InvT-loop
 Inv-loop table s e marks₀ i₀ marks i = Marking table s e marks₀ marks i

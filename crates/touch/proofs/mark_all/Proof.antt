@@ -6,9 +6,6 @@ use Rattle.touch.proofs.Marking.{MarkingAll, marking-all-none, may-mark
 use borrow.Author.Needs.{needs}
 use Rattle.touch.proofs.mark_all.Statement.{statement}
 use Rattle.touch.proofs.mark_all.Tie as tie
-use Rattle.touch.proofs.mark_all.Reads as reads
-use Rattle.touch.proofs.mark_all.Lts as lts
-use Rattle.touch.proofs.mark.Reads as mark-reads
 
 abbrev Inv-loop : tie.InvT-loop
 Inv-loop table cuts marks₀ n j₀ marks j = MarkingAll table cuts marks j

@@ -5,8 +5,6 @@ use borrow.Author.Needs.{needs}
 use Rattle.touch.proofs.Weights.{Topping, topping-none, topping-more, topping-done}
 use Rattle.touch.proofs.tops.Statement.{statement}
 use Rattle.touch.proofs.tops.Tie as tie
-use Rattle.touch.proofs.tops.Reads as reads
-use Rattle.touch.proofs.tops.Lts as lts
 
 abbrev Inv-loop : tie.InvT-loop
 Inv-loop weights most₀ top₀ k₀ most top k = Topping weights most top k

@@ -7,10 +7,6 @@ use Rattle.touch.proofs.Weights.{Weighing, weighing-none, weighing-smal
 use borrow.Author.Needs.{needs}
 use Rattle.touch.proofs.weigh.Statement.{statement}
 use Rattle.touch.proofs.weigh.Tie as tie
-use Rattle.touch.proofs.weigh.Reads as reads
-use Rattle.touch.proofs.weigh.Lts as lts
-use Rattle.table.proofs.entry.Reads as entry-reads
-use Rattle.touch.proofs.at.Reads as at-reads
 
 abbrev Inv-loop : tie.InvT-loop
 Inv-loop table weights₀ k₀ weights k = Weighing table weights k

@@ -1,7 +1,6 @@
 -- `words::pair` meets its contract: one law for each way.
 use mathlib.Core.Path.{_∙_, ap}
 use borrow.Author.Needs.{needs}
-use native.Mathlib.Omega.{arith}
 use Rattle.words.specs.Words.{hexOf}
 use Rattle.words.proofs.Found.{pair-past, pair-half, pair-high, pair-low, pair-found}
 use Rattle.words.proofs.pair.Statement.{statement}

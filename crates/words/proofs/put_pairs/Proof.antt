@@ -1,6 +1,5 @@
 -- `words::put_pairs` meets its contract: what the loop has left of the bytes is still to be laid from `next` on.
 use Prim.Native.Nat.{_-_, _≤_}
-use mathlib.Core.Path.{_≡_, refl}
 use borrow.Author.Needs.{needs}
 use lib.ListN.{length, drop}
 use Rattle.text.proofs.Laid.{Left, left-first, left-is, left-told, left-more, left-done, left-same}
