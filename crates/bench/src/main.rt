@@ -21,7 +21,7 @@ fn mixed(sum: usize, numbers: &[u16]) -> usize
     let mut all = sum;
     let mut i = 0;
     while i < numbers.len() {
-        all = (all * 31 + view::number(numbers, i)) % 1000003;
+        all = (all * 31 + rows::number(numbers, i)) % 1000003;
         i += 1;
     }
     all
@@ -41,7 +41,7 @@ fn replay(row: &[u16], cuts: &[u16], events: &mut [u16], turns: usize) -> usize 
     let mut sum: usize = 0;
     let mut i = 0;
     while i < turns {
-        sum = (sum + small(replays::replay(row, cuts, events))) % 65536;
+        sum = (sum + small(cut_replay::replay(row, cuts, events))) % 65536;
         i += 1;
     }
     mixed(sum, events)
@@ -51,7 +51,7 @@ fn verdict(row: &[u16], k: usize, answers: &mut [u16], turns: usize) -> usize {
     let mut sum: usize = 0;
     let mut i = 0;
     while i < turns {
-        sum = (sum + small(answers::all_answers(row, k, answers))) % 65536;
+        sum = (sum + small(all_verdicts::all_answers(row, k, answers))) % 65536;
         i += 1;
     }
     mixed(sum, answers)
@@ -61,7 +61,7 @@ fn verdict(row: &[u16], k: usize, answers: &mut [u16], turns: usize) -> usize {
 fn turns() -> usize {
     let mut word = [0u8; 8];
     let n = os::arg(2, &mut word);
-    words::number(&word[..n], 0).value
+    probe_words::number(&word[..n], 0).value
 }
 
 // The third letter tells the questions apart: reAd, rePlay, veRdict. A verdict's last letter is k.
@@ -83,9 +83,9 @@ fn ask(what: u8, digit: u8, file: &[u8], row: &mut [u16]) -> usize {
 
 fn main() {
     let mut file = [0u8; scope::limits::PLAN_ROOM];
-    let mut row = [0u16; flow::LONGEST_ROW];
+    let mut row = [0u16; forms::LONGEST_ROW];
     let mut name = [0u8; 8];
-    let n = files::read_plan(b"bench", &mut file);
+    let n = program_io::read_plan(b"bench", &mut file);
     os::arg(1, &mut name);
     let sum = ask(name[2], name[7], &file[..n], &mut row);
     io::print_decimal(libc::STDOUT_FILENO, sum as u64);

@@ -12,7 +12,7 @@ use Rattle.scope.specs.Outcome.{gives, refuse}
 use Rattle.scope.specs.Plan.{linkCount, timeoutOf, planOf}
 use Rattle.scope.specs.Cuts.{cutSlot, cutLink, pairs, falls, badPair, checkCuts}
 use Rattle.scope.proofs.Lowest.{seek-same}
-use Rattle.view.proofs.Parts.{link-count, timeout-is}
+use Rattle.rows.proofs.Parts.{link-count, timeout-is}
 use Rattle.cuts.specs.Pairs.{isTwice, isBad}
 
 leb-not : (a b : ℕ) → leb a b ≡ not (ltb b a)

@@ -1,10 +1,10 @@
 // Cut lists: refusal 12, and what is down in a slot, so that "is this link down" is one read.
-// It leans on specs/ of `scope` (Cuts, Outcome) and on the total read of `view`. No function but `bad_pair` and its parts asks
+// It leans on specs/ of `scope` (Cuts, Outcome) and on the total read of `rows`. No function but `bad_pair` and its parts asks
 // anything of the list, and no list is passed over further than its first bad pair.
+use rows::number;
 use scope::Answer;
 use scope::limits::LINKS;
 use scope::refuse;
-use view::number;
 ghost use Prim.Native.Nat.{_+_, _*_, _<_, _^_};
 ghost use mathlib.Core.Path.{_≡_};
 ghost use Rattle.scope.specs.Lowest.{lowest};
@@ -134,7 +134,7 @@ pub fn check(row: &[u16], cuts: &[u16]) -> Answer
     ensures { λ r. ⌜ outcomeOf r ≡ checkCuts (planOf (now (row .entry))) (now (cuts .entry)) ⌝ }
 {
     let n = count(cuts);
-    let i = first_bad(view::timeout(row), view::links(row), cuts);
+    let i = first_bad(rows::timeout(row), rows::links(row), cuts);
     if i < n {
         refuse(12, i)
     } else {

@@ -18,8 +18,8 @@ use Rattle.scope.specs.Good.{holds}
 use Rattle.scope.specs.Cuts.{pairs, cutLink, cutSlot, badPair, falls, checkCuts, cutsLink, isCut}
 use Rattle.scope.specs.Slot as S
 use Rattle.scope.specs.Cycle.{tableOf, slot, nexts, numbers, positions, events}
-use Rattle.view.specs.Lies.{PlanLies}
-use Rattle.view.proofs.Parts.{message-count, path-at}
+use Rattle.rows.specs.Lies.{PlanLies}
+use Rattle.rows.proofs.Parts.{message-count, path-at}
 use Rattle.table.specs.Table.{Table, entryAt}
 use Rattle.table.proofs.Entries.{no-link}
 use Rattle.cuts.specs.Down.{cutBelow}

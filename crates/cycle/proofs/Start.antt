@@ -16,7 +16,7 @@ use Rattle.step.specs.declared.Position.{Position}
 use Rattle.step.specs.Where.{positionOf, endOf}
 use Rattle.step.proofs.Left.{after-least}
 use Rattle.step.proofs.Steps.{home-is}
-use Rattle.view.proofs.Index.{messages-next}
+use Rattle.rows.proofs.Index.{messages-next}
 use Rattle.step.specs.Stand.{home, positionsOf, Become}
 use Rattle.step.proofs.Tried.{map-snoc, positions-more}
 use Rattle.cycle.specs.Play.{MayStart}

@@ -6,7 +6,7 @@ use lib.ListN.{length, drop, length-map}
 use Rattle.scope.specs.Plan.{messageCount, timeoutOf, firstMessage, messagesAt, planOf}
 use Rattle.scope.specs.Slot as S
 use Rattle.scope.specs.Cycle.{orderOf, numbers, nexts, arrived, start}
-use Rattle.view.proofs.Parts.{message-count}
+use Rattle.rows.proofs.Parts.{message-count}
 use Rattle.table.specs.Table.{entryAt}
 use Rattle.cuts.specs.Down.{cutBelow, DownIn}
 use Rattle.step.specs.declared.Standing.{Standing}

@@ -61,17 +61,17 @@ fn first_records(row: &[u16], n: usize) -> [Position; MESSAGES]
         left: 0,
         turned: false,
     }; MESSAGES];
-    let mut at = view::links(row) * 2 + 5;
+    let mut at = rows::links(row) * 2 + 5;
     let mut m = 0;
     while m < n {
-        let left = view::place_count(row, at);
+        let left = rows::place_count(row, at);
         let p = Position {
             at: (at + 1) as u16,
             left: left as u16,
             turned: false,
         };
         ps[m] = p;
-        at = view::after_message(row, at);
+        at = rows::after_message(row, at);
         m += 1;
     }
     ps
@@ -136,8 +136,8 @@ pub fn play(row: &[u16], table: &[u8], cuts: &[u16], out: &mut [u16]) -> usize
     requires { ⌜ MayPlay (now row) (length (now out)) ⌝ }
     ensures { λ r. ⌜ Played (now (row .entry)) (now (table .entry)) (now (cuts .entry)) (now (out .entry)) (now (out .exit)) r ⌝ }
 {
-    let n = view::messages(row);
-    let timeout = view::timeout(row);
+    let n = rows::messages(row);
+    let timeout = rows::timeout(row);
     let first = start_all(row, n);
     let last = run(first, n, timeout, row, table, cuts, out);
     count_home(last, n)

@@ -13,7 +13,7 @@ use Rattle.scope.specs.Limits.{longestFile, longestRow, planRoom}
 use Rattle.scope.specs.Outcome.{Outcome, gives, refused}
 use Rattle.scope.specs.File.{walkFile}
 use Rattle.scope.specs.Questions.{readFile}
-use Rattle.flow.proofs.Theorems.{file-most, front-decides}
+use Rattle.forms.proofs.Theorems.{file-most, front-decides}
 
 form-refused : (file : List ℕ) (r : Refusal) → walkFile file ≡ refused r → readFile file longestRow ≡ refused r
 unfolding readFile

@@ -1,6 +1,6 @@
 // The lines that the programs print, laid into lent bytes: document 01, "Programs". `listing` is the whole text of a replay, `refusal_text`
 // that of a refusal; they ask nothing of what they print, and refuse with 13 where the buffer is too short. It leans on specs/Lines of
-// `scope`, on `view::number` (the total read of a row) and on `text` (a byte, a word, a number).
+// `scope`, on `rows::number` (the total read of a row) and on `text` (a byte, a word, a number).
 ghost use Prim.Native.Nat.{_*_, _<_, _^_};
 ghost use Rattle.listing.specs.Phrase.{phrase};
 ghost use Rattle.listing.specs.Prints.{Prints};
@@ -9,13 +9,13 @@ ghost use Rattle.scope.specs.Lines.{eventLine, eventLines, arrivedLine, refused
 ghost use Rattle.scope.specs.Lines.{listing as Lines·listing};
 ghost use Rattle.scope.specs.Outcome.{gives};
 ghost use Rattle.scope.specs.Plan.{planOf};
+use rows::number;
 use scope::Answer;
 use scope::Refusal;
 use scope::refuse;
 use text::put_decimal;
 use text::put_number;
 use text::put_word;
-use view::number;
 
 // One event: slot, message, kind and number.
 fn event_line(

@@ -22,10 +22,10 @@ use Rattle.scope.specs.Questions.{judge, readFile, writeFile, replay, mayJudge,
 use Rattle.scope.specs.Limits.{longestRow, longestEvents}
 use Rattle.scope.specs.Lines.{cutsOf}
 use Rattle.replay_text.specs.Text.{mayList}
-use Rattle.flow.proofs.Theorems.{file-row}
+use Rattle.forms.proofs.Theorems.{file-row}
 use Rattle.plan.proofs.Numbers.{judge-numbered}
 use Rattle.plan.proofs.Ways.{judge-bad}
-use Rattle.answers.specs.Answers.{needed, mayAnswer}
+use Rattle.all_verdicts.specs.Answers.{needed, mayAnswer}
 use Rattle.nuthatchet.specs.Told.{Numbered, ZeroSaysNone}
 
 given : (n : ℕ) → Numbered (gives n)

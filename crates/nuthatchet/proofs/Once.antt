@@ -11,9 +11,9 @@ use Rattle.scope.specs.declared.Answer.the-variants.{Gives, Refused}
 use Rattle.scope.specs.Outcome.{Outcome, outcomeOf, gives, refused}
 use Rattle.scope.specs.Plan.{secondStart}
 use Rattle.scope.specs.SecondPath.{placeIndex}
-use Rattle.resist.proofs.Ways as verdict
-use Rattle.answers.specs.Answers.{AnswersAll, mayAnswer}
-use Rattle.answers.proofs.Ways as all
+use Rattle.verdicts.proofs.Ways as verdict
+use Rattle.all_verdicts.specs.Answers.{AnswersAll, mayAnswer}
+use Rattle.all_verdicts.proofs.Ways as all
 use Rattle.nuthatchet.specs.Told.{Told, Tells, TellsAll, TellsSlack}
 use Rattle.nuthatchet.specs.Part.{TellsPart}
 use Rattle.nuthatchet.specs.Ruled.{ruled, TellsRuling}

@@ -13,8 +13,8 @@ use Rattle.scope.specs.Plan.{messageCount, placeCount, flagged, secondStart, se
 use Rattle.scope.specs.SecondPath.{messageIndex, placeIndex, hasSecond}
 use Rattle.scope.specs.Questions.{judge, secondPath}
 use Rattle.scope.proofs.Bools.{and-left, and-right}
-use Rattle.view.specs.Lies.{PlanLies}
-use Rattle.view.proofs.Walked.{walked}
+use Rattle.rows.specs.Lies.{PlanLies}
+use Rattle.rows.proofs.Walked.{walked}
 use Rattle.plan.proofs.Ways.{good-row, shown-part, shown-none}
 use Rattle.nuthatchet.specs.Part.{TellsPart}
 

@@ -17,9 +17,9 @@ use Rattle.scope.proofs.Bools.{or-right}
 use Rattle.laws.proofs.Cuts.{all-arrive-without-cuts}
 use Rattle.plan.proofs.Outcomes.{then-back}
 use Rattle.plan.proofs.Ways.{good-row}
-use Rattle.resist.specs.declared.Ruling.{Ruling}
-use Rattle.resist.specs.declared.Ruling.the-variants.{Resistant, Failing, Refused}
-use Rattle.resist.specs.Verdict.{Answered, IsFailing}
+use Rattle.verdicts.specs.declared.Ruling.{Ruling}
+use Rattle.verdicts.specs.declared.Ruling.the-variants.{Resistant, Failing, Refused}
+use Rattle.verdicts.specs.Verdict.{Answered, IsFailing}
 use Rattle.nuthatchet.specs.Told.{Told}
 use Rattle.nuthatchet.specs.Ruled.{ruled, TellsRuling}
 

@@ -7,9 +7,9 @@ use lib.ListN.{length}
 use Rattle.scope.specs.declared.Refusal.{Refusal}
 use Rattle.scope.specs.Outcome.{refused}
 use Rattle.scope.specs.Questions.{mayJudge}
-use Rattle.resist.specs.declared.Ruling.{Ruling}
-use Rattle.resist.specs.declared.Ruling.the-variants.{Resistant, Failing, Refused}
-use Rattle.resist.specs.Verdict.{Answered, IsResistant, IsFailing}
+use Rattle.verdicts.specs.declared.Ruling.{Ruling}
+use Rattle.verdicts.specs.declared.Ruling.the-variants.{Resistant, Failing, Refused}
+use Rattle.verdicts.specs.Verdict.{Answered, IsResistant, IsFailing}
 use Rattle.nuthatchet.specs.Told.{Told}
 use Rattle.nuthatchet.specs.Ruled.{ruled, PairsSay}
 use Rattle.nuthatchet.proofs.Numbered.{zero-says-none}

@@ -12,7 +12,7 @@ use Rattle.scope.specs.Outcome.{Outcome, outcomeOf, number, place, result}
 use Rattle.scope.specs.Questions.{after}
 use Rattle.plan.specs.Answers.{Answers}
 use Rattle.listing.specs.Prints.{Says}
-use Rattle.answers.specs.Answers.{AnswersAll}
+use Rattle.all_verdicts.specs.Answers.{AnswersAll}
 use Rattle.spare.specs.declared.Spare.{Spare}
 use Rattle.spare.specs.declared.Spare.the-variants.{Slots, Refused}
 use Rattle.spare.specs.Slack.{Slacks, said, value}

@@ -14,7 +14,7 @@ use Rattle.scope.specs.Questions.{after, judge, readFile, writeFile, replay, ma
 use Rattle.scope.specs.Limits.{longestRow}
 use Rattle.replay_text.specs.Text.{mayList}
 use Rattle.spare.specs.Slack.{unlessRefused}
-use Rattle.answers.specs.Answers.{mayAnswer, After}
+use Rattle.all_verdicts.specs.Answers.{mayAnswer, After}
 
 -- "A refusal gives its number and place, zero in every other result": n is returned, p and v are written
 pub record Told (o : Outcome) (n p v : ℕ) : Type 0 where

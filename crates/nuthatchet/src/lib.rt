@@ -1,11 +1,11 @@
 // Every public question for programs in other languages: `rt staticlib nuthatchet`, include/nuthatchet.h, docs/FACE.md. Numbers and slices
 // only. Each function takes anything and asks nothing, returns the number of the refusal, 0 where there is none, and writes its place
 // and the result, zero where document 01 says zero. It leans on the crate that answers the question, and adds only how it is said.
-use resist::Ruling;
 use scope::Answer;
 use scope::Refusal;
 use scope::refusal_at;
 use spare::Spare;
+use verdicts::Ruling;
 ghost use Rattle.scope.specs.Limits.{longestRow};
 ghost use Rattle.scope.specs.Lines.{replayText, refusedLine};
 ghost use Rattle.scope.specs.Outcome.{outcomeOf, gives, refused, refusalAt};
@@ -112,7 +112,7 @@ pub extern "C" fn nuthatchet_second_path(
         *index = 0;
         return 0;
     }
-    *index = view::place_index(row, m, p) + 4;
+    *index = rows::place_index(row, m, p) + 4;
     n
 }
 
@@ -127,7 +127,7 @@ pub extern "C" fn nuthatchet_replay(
 ) -> usize
     ensures { λ r. ⌜ TellsReplay (now (row .entry)) (now (cuts .entry)) (now (events .entry)) (now (events .exit)) r (now (place .exit)) (now (result .exit)) ⌝ }
 {
-    let answer = replays::replay(row, cuts, events);
+    let answer = cut_replay::replay(row, cuts, events);
     tell(answer, place, result)
 }
 
@@ -144,7 +144,7 @@ pub extern "C" fn nuthatchet_verdict(
 ) -> usize
     ensures { λ r. ⌜ TellsRuling (now (row .entry)) k l (now (list .entry)) (now (list .exit)) r (now (place .exit)) (now (pairs .exit)) ⌝ }
 {
-    let ruling = resist::verdict(row, k, l, list);
+    let ruling = verdicts::verdict(row, k, l, list);
     tell_ruling(ruling, place, pairs)
 }
 
@@ -159,7 +159,7 @@ pub extern "C" fn nuthatchet_all_answers(
 ) -> usize
     ensures { λ r. ⌜ TellsAll (now (row .entry)) k (now (out .entry)) (now (out .exit)) r (now (place .exit)) (now (result .exit)) ⌝ }
 {
-    let answer = answers::all_answers(row, k, out);
+    let answer = all_verdicts::all_answers(row, k, out);
     tell(answer, place, result)
 }
 

@@ -5,8 +5,8 @@ ghost use lib.ListN.{length, take};
 ghost use Rattle.scope.specs.Limits.{longestFile};
 ghost use Rattle.plan.specs.Answers.{Writes};
 ghost use Rattle.row_text.specs.Rows.{numbersOf, packRoom};
-ghost use Rattle.files.specs.Came.{Came, standardInput};
-use files::Read;
+ghost use Rattle.program_io.specs.Came.{Came, standardInput};
+use program_io::Read;
 use scope::Answer;
 use scope::Refusal;
 use scope::limits;
@@ -23,17 +23,17 @@ fn packed(text: &[u8], n: usize, plan: &mut [u8]) -> Answer
 fn refuse(refusal: Refusal) {
     let mut out = [0u8; 64];
     let said = listing::refusal_text(refusal, &mut out);
-    files::print(b"pack", said, &out);
+    program_io::print(b"pack", said, &out);
 }
 
 fn main() {
     let mut text = [0u8; row_text::TEXT_ROOM];
     let mut plan = [0u8; limits::FILE];
-    let read = files::read_input(b"pack", &mut text);
+    let read = program_io::read_input(b"pack", &mut text);
     if let Read::Bytes(n) = read {
         let answer = packed(&text, n, &mut plan);
         match answer {
-            Answer::Gives(bytes) => files::save(b"pack", &plan[..bytes]),
+            Answer::Gives(bytes) => program_io::save(b"pack", &plan[..bytes]),
             Answer::Refused(refusal) => refuse(refusal),
         }
     }

@@ -11,10 +11,10 @@ use lib.Seq.{take-suc-set, drop-set-lt, drop-drop}
 use lib.Dec.{ltb}
 use Rattle.scope.specs.Plan.{Plan, at, placeSize, placesAt, placeCount, messageAt, linkCount, planOf, linkOf}
 use Rattle.scope.specs.Good.{linksOf, headOf, lastOf, endOf}
-use Rattle.view.specs.declared.RowPlace.{RowPlace}
-use Rattle.view.specs.View.{IsPlace}
-use Rattle.view.specs.Lies.{PlanLies}
-use Rattle.view.proofs.Parts.{link-at, link-count, places-all, places-more, places-none}
+use Rattle.rows.specs.declared.RowPlace.{RowPlace}
+use Rattle.rows.specs.View.{IsPlace}
+use Rattle.rows.specs.Lies.{PlanLies}
+use Rattle.rows.proofs.Parts.{link-at, link-count, places-all, places-more, places-none}
 use Rattle.paths.specs.Path.{FirstLinks}
 
 module _ (row : List ℕ) (e : ℕ) where

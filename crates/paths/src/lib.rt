@@ -1,5 +1,5 @@
 // Paths as lists of links: the first link of a path that breaks a rule, if any, and where the path ends, as specs/ of `scope` (Good)
-// says of the plan of a row; it leans on `view`. A path is a slice of links, so that the second paths, which are parts of the row, and
+// says of the plan of a row; it leans on `rows`. A path is a slice of links, so that the second paths, which are parts of the row, and
 // the first paths, which are copied out of it, go by the same rule.
 use scope::limits::VERTICES;
 ghost use mathlib.Core.Path.{_≡_};
@@ -9,7 +9,7 @@ ghost use lib.ListN.{length};
 ghost use Rattle.scope.specs.Limits.{mostVertices};
 ghost use Rattle.scope.specs.Plan.{planOf, linkOf, placeCount};
 ghost use Rattle.scope.specs.Good.{isPathFrom, endOf};
-ghost use Rattle.view.specs.Lies.{PlanLies};
+ghost use Rattle.rows.specs.Lies.{PlanLies};
 ghost use Rattle.paths.specs.Path.{FirstLinks, firstFault};
 
 // The vertices where a link begins and ends, 0 where there is no such link.
@@ -17,8 +17,8 @@ pub fn link_from(row: &[u16], e: usize) -> usize
     requires { ⌜ e < 65536 ⌝ }
     ensures { λ r. ⌜ r ≡ linkOf (planOf (now (row .entry))) e .from ⌝ }
 {
-    if e < view::links(row) {
-        view::number(row, e * 2 + 5)
+    if e < rows::links(row) {
+        rows::number(row, e * 2 + 5)
     } else {
         0
     }
@@ -28,8 +28,8 @@ pub fn link_to(row: &[u16], e: usize) -> usize
     requires { ⌜ e < 65536 ⌝ }
     ensures { λ r. ⌜ r ≡ linkOf (planOf (now (row .entry))) e .to ⌝ }
 {
-    if e < view::links(row) {
-        view::number(row, e * 2 + 6)
+    if e < rows::links(row) {
+        rows::number(row, e * 2 + 6)
     } else {
         0
     }
@@ -46,13 +46,13 @@ pub fn first_fault(row: &[u16], v: usize, path: &[u16]) -> Fault
     requires { ⌜ PlanLies (now row) × (v < mostVertices) ⌝ }
     ensures { λ r. ⌜ r ≡ firstFault (planOf (now (row .entry))) (v ∷ []) v 0 (now (path .entry)) ⌝ }
 {
-    let links = view::links(row);
+    let links = rows::links(row);
     let mut met = [0u8; VERTICES];
     met[v] = 1;
     let mut at = v;
     let mut k = 0;
     while k < path.len() {
-        let e = view::number(path, k);
+        let e = rows::number(path, k);
         if links <= e {
             return Fault { rule: 1, step: k };
         }
@@ -85,7 +85,7 @@ pub fn path_end(row: &[u16], path: &[u16]) -> usize
     if n == 0 {
         return link_to(row, 0);
     }
-    link_to(row, view::number(path, n - 1))
+    link_to(row, rows::number(path, n - 1))
 }
 
 // Copies the links of the message at an index into the front of a list, and counts them.
@@ -93,11 +93,11 @@ pub fn first_links(row: &[u16], i: usize, path: &mut [u16]) -> usize
     requires { ⌜ (i < 2 ^ 60) × (placeCount (now row) i ≤ length (now path)) ⌝ }
     ensures { λ r. ⌜ FirstLinks (now (row .entry)) i (now (path .entry)) (now (path .exit)) r ⌝ }
 {
-    let n = view::place_count(row, i);
+    let n = rows::place_count(row, i);
     let mut at = i + 1;
     let mut k = 0;
     while k < n {
-        let here = view::place_at(row, at);
+        let here = rows::place_at(row, at);
         path[k] = here.link as u16;
         at = here.next;
         k += 1;

@@ -18,7 +18,7 @@ use Rattle.scope.specs.File.{walkFile, rowOf, fileOf}
 use Rattle.scope.specs.Plan.{planOf}
 use Rattle.scope.specs.Good.{rules}
 use Rattle.scope.specs.Questions.{after, judge, readFile, writeFile}
-use Rattle.flow.proofs.Theorems.{file-row}
+use Rattle.forms.proofs.Theorems.{file-row}
 use Rattle.plan.specs.Answers.{Reads, Writes}
 use Rattle.plan.proofs.Outcomes.{then-back}
 use Rattle.plan.proofs.Ways.{gave, refused-as}

@@ -13,7 +13,7 @@ use Rattle.scope.specs.Good.{rules}
 use Rattle.scope.specs.Questions.{judge, readFile, writeFile}
 use Rattle.bits.proofs.Laws.{AreBytes}
 use Rattle.scope.specs.Limits.{longestRow, longestFile}
-use Rattle.flow.proofs.Theorems.{file-row-file, file-row, row-file-row, row-file, file-most, row-most, row-file-most}
+use Rattle.forms.proofs.Theorems.{file-row-file, file-row, row-file-row, row-file, file-most, row-most, row-file-most}
 use Rattle.plan.specs.Answers.{GoodRow, Reads, Writes}
 use Rattle.plan.proofs.Outcomes.{then-back, rules-give, room-there, same-answer, only-one}
 use Rattle.plan.proofs.Ways.{good-row}

@@ -15,8 +15,8 @@ use Rattle.scope.specs.Plan.{planOf}
 use Rattle.scope.specs.Good.{rules}
 use Rattle.scope.specs.SecondPath.{shown}
 use Rattle.scope.specs.Questions.{judge, readFile, writeFile, secondPath}
-use Rattle.view.specs.View.{PartAt, secondPart, secondIndex}
-use Rattle.flow.proofs.Theorems.{file-row, row-count}
+use Rattle.rows.specs.View.{PartAt, secondPart, secondIndex}
+use Rattle.forms.proofs.Theorems.{file-row, row-count}
 use Rattle.plan.specs.Answers.{Answers, Accepts, GoodRow, shownIndex}
 use Rattle.plan.proofs.Numbers.{judge-numbered}
 use Rattle.plan.proofs.Outcomes.{then-refused, then-gives, then-back, rules-give, room-there, room-short, refuses, after-gives}

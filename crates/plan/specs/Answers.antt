@@ -12,7 +12,7 @@ use Rattle.scope.specs.Row.{walkRow}
 use Rattle.scope.specs.Plan.{planOf}
 use Rattle.scope.specs.Good.{rules}
 use Rattle.scope.specs.Questions.{after, judge, readFile, writeFile}
-use Rattle.view.specs.View.{secondIndex}
+use Rattle.rows.specs.View.{secondIndex}
 
 -- an answer with this outcome, and a buffer that held `entry` with this written to its front where nothing is refused
 pub record Answers (outcome : Outcome) (written entry exit : List ℕ) (r : Answer) : Type 0 where

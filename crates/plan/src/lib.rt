@@ -1,5 +1,5 @@
 // A plan as a file and as a row: judged, read, written, and one second path of it shown. Every function takes anything, refuses
-// what is bad by document 01's numbers, and then leaves what it was lent as it was. It leans on `flow` for the form of files and
+// what is bad by document 01's numbers, and then leaves what it was lent as it was. It leans on `forms` for the form of files and
 // rows and on `rules` for the rules of a good plan.
 use scope::Answer;
 use scope::refuse;
@@ -11,7 +11,7 @@ ghost use Rattle.scope.specs.Outcome.{outcomeOf};
 ghost use Rattle.scope.specs.Questions.{judge, secondPath};
 ghost use Rattle.scope.specs.Outcome.{gives};
 ghost use Rattle.scope.specs.Row.{walkRow};
-ghost use Rattle.view.specs.View.{PartAt};
+ghost use Rattle.rows.specs.View.{PartAt};
 ghost use Rattle.plan.specs.Answers.{Accepts, Reads, Writes, shownIndex};
 
 // The longest row that a file can have.
@@ -21,7 +21,7 @@ const LONGEST_ROW: usize = 10405;
 pub fn judge(row: &[u16]) -> Answer
     ensures { λ r. ⌜ outcomeOf r ≡ judge (now (row .entry)) ⌝ }
 {
-    let walked = flow::walk_row(row);
+    let walked = forms::walk_row(row);
     match walked {
         Answer::Gives(n) => {
             let checked = rules::check(row);
@@ -71,7 +71,7 @@ pub fn read_file(file: &[u8], row: &mut [u16]) -> Answer
     ensures { λ r. ⌜ Reads (now (file .entry)) (now (row .entry)) (now (row .exit)) r ⌝ }
 {
     let mut all = [0u16; LONGEST_ROW];
-    let unpacked = flow::unpack(file, &mut all);
+    let unpacked = forms::unpack(file, &mut all);
     let answer = unpacked.answer;
     let n = unpacked.count;
     match answer {
@@ -87,9 +87,9 @@ pub fn write_file(row: &[u16], file: &mut [u8]) -> Answer
     let judged = judge(row);
     match judged {
         Answer::Gives(_) => {
-            let n = flow::packed_bytes(row);
+            let n = forms::packed_bytes(row);
             if n <= file.len() {
-                flow::pack(row, &mut file[..n]);
+                forms::pack(row, &mut file[..n]);
                 Answer::Gives(n)
             } else {
                 refuse(13, n)
@@ -106,7 +106,7 @@ pub fn second_path(row: &[u16], m: usize, p: usize) -> &[u16]
 {
     let judged = judge(row);
     match judged {
-        Answer::Gives(_) => view::second_path_part(row, m, p),
+        Answer::Gives(_) => rows::second_path_part(row, m, p),
         Answer::Refused(_) => &row[..0],
     }
 }
@@ -118,7 +118,7 @@ pub fn second_index(row: &[u16], m: usize, p: usize) -> usize
     let judged = judge(row);
     match judged {
         Answer::Gives(_) => {
-            let span = view::second_span(row, m, p);
+            let span = rows::second_span(row, m, p);
             span.from
         }
         Answer::Refused(_) => 0,

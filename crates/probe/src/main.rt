@@ -1,6 +1,6 @@
 // The probe: every public question of the libraries as a line of text, answered in one line, in order, until the input ends
 // (docs/TESTING.md). It is for tests, above all for the comparison with the second program: it is proved to be safe and to end, and
-// what it writes is compared. The questions are in questions.rt; here is how lines come in and answers go out. It leans on `words`.
+// what it writes is compared. The questions are in questions.rt; here is how lines come in and answers go out. It leans on `probe_words`.
 mod questions;
 
 ghost use Prim.Native.Nat.{_≤_};
@@ -30,7 +30,7 @@ fn read(into: &mut [u8]) -> usize
 }
 
 fn flush(out: &[u8], waiting: usize) {
-    io::write_all(STDOUT_FILENO, words::part(out, 0, waiting));
+    io::write_all(STDOUT_FILENO, probe_words::part(out, 0, waiting));
 }
 
 // A count that lies within a buffer.
@@ -45,7 +45,7 @@ fn refill(p: Place, input: &mut [u8], out: &[u8]) -> Place
     ensures { λ r. ⌜ Stands (length (now (input .entry))) r ⌝ }
 {
     flush(out, p.waiting);
-    let moved = words::shift(input, p.from, p.to);
+    let moved = probe_words::shift(input, p.from, p.to);
     let left = at_most(moved, input.len());
     let got = read(&mut input[left..]);
     Place {
@@ -64,7 +64,7 @@ fn overlong(p: Place, out: &mut [u8]) -> Place
 {
     let mut waiting = p.waiting;
     if !p.skips {
-        waiting = words::put(out, waiting, b"?\n");
+        waiting = probe_words::put(out, waiting, b"?\n");
     }
     Place {
         from: 0,
@@ -156,7 +156,14 @@ fn last(
     out: &mut [u8],
 ) {
     if p.from < p.to {
-        let waiting = answer(p, words::part(input, p.from, p.to), given, lent, file, out);
+        let waiting = answer(
+            p,
+            probe_words::part(input, p.from, p.to),
+            given,
+            lent,
+            file,
+            out,
+        );
         flush(out, waiting);
         return;
     }

@@ -8,10 +8,10 @@ ghost use Rattle.probe_lines.specs.Answers.{Near};
 use probe_lines::told;
 use probe_lines::told_bytes;
 use probe_lines::unknown;
-use resist::Ruling;
 use scope::Answer;
 use spare::Spare;
 use text::stands;
+use verdicts::Ruling;
 
 const MARGIN: usize = 16;
 
@@ -31,7 +31,7 @@ fn read_file(file: &[u8], room: usize, lent: &mut [u16], out: &mut [u8], at: usi
     if lent.len() < all {
         return unknown(out, at);
     }
-    words::fill_16(&mut lent[0..all]);
+    probe_words::fill_16(&mut lent[0..all]);
     let answer = plan::read_file(file, &mut lent[0..room]);
     told(answer, count(answer), &lent[0..all], out, at)
 }
@@ -40,12 +40,12 @@ fn read_file(file: &[u8], room: usize, lent: &mut [u16], out: &mut [u8], at: usi
 fn read(line: &[u8], lent: &mut [u16], file: &mut [u8], out: &mut [u8], at: usize) -> usize
     requires { ⌜ at ≤ 2 ^ 63 ⌝ }
 {
-    let room = words::number(line, 4);
+    let room = probe_words::number(line, 4);
     if room.next == 4 {
         return unknown(out, at);
     }
-    let word = words::last_word(line, room.next);
-    let given = words::bytes(word, file);
+    let word = probe_words::last_word(line, room.next);
+    let given = probe_words::bytes(word, file);
     if !given.good {
         return unknown(out, at);
     }
@@ -60,7 +60,7 @@ fn write_file(row: &[u16], room: usize, lent: &mut [u8], out: &mut [u8], at: usi
     if lent.len() < all {
         return unknown(out, at);
     }
-    words::fill(&mut lent[0..all]);
+    probe_words::fill(&mut lent[0..all]);
     let answer = plan::write_file(row, &mut lent[0..room]);
     told_bytes(answer, &lent[0..all], out, at)
 }
@@ -69,11 +69,11 @@ fn write_file(row: &[u16], room: usize, lent: &mut [u8], out: &mut [u8], at: usi
 fn write(line: &[u8], given: &mut [u16], lent: &mut [u8], out: &mut [u8], at: usize) -> usize
     requires { ⌜ at ≤ 2 ^ 63 ⌝ }
 {
-    let n = words::numbers(line, 5, given);
+    let n = probe_words::numbers(line, 5, given);
     if n < 1 {
         return unknown(out, at);
     }
-    let room = view::number(given, 0);
+    let room = rows::number(given, 0);
     write_file(&given[1..n], room, lent, out, at)
 }
 
@@ -92,12 +92,12 @@ fn second_row(row: &[u16], m: usize, p: usize, out: &mut [u8], at: usize) -> usi
 fn second(line: &[u8], given: &mut [u16], out: &mut [u8], at: usize) -> usize
     requires { ⌜ at ≤ 2 ^ 63 ⌝ }
 {
-    let n = words::numbers(line, 6, given);
+    let n = probe_words::numbers(line, 6, given);
     if n < 2 {
         return unknown(out, at);
     }
-    let m = view::number(given, 0);
-    let p = view::number(given, 1);
+    let m = rows::number(given, 0);
+    let p = rows::number(given, 1);
     second_row(&given[2..n], m, p, out, at)
 }
 
@@ -109,25 +109,25 @@ fn where_row(row: &[u16], m: usize, p: usize, out: &mut [u8], at: usize) -> usiz
     if n == 0 {
         return probe_lines::told_place(0, 0, out, at);
     }
-    probe_lines::told_place(view::place_index(row, m, p) + 4, n, out, at)
+    probe_lines::told_place(rows::place_index(row, m, p) + 4, n, out, at)
 }
 
 // `where MESSAGE PLACE ROW...`
 fn where_second(line: &[u8], given: &mut [u16], out: &mut [u8], at: usize) -> usize
     requires { ⌜ at ≤ 2 ^ 63 ⌝ }
 {
-    let n = words::numbers(line, 5, given);
+    let n = probe_words::numbers(line, 5, given);
     if n < 2 {
         return unknown(out, at);
     }
-    let m = view::number(given, 0);
-    let p = view::number(given, 1);
+    let m = rows::number(given, 0);
+    let p = rows::number(given, 1);
     where_row(&given[2..n], m, p, out, at)
 }
 
 // How many numbers the events of a row's cycle are.
 fn events(row: &[u16]) -> usize {
-    view::timeout(row) * (2 * view::messages(row))
+    rows::timeout(row) * (2 * rows::messages(row))
 }
 
 fn replay_row(
@@ -144,8 +144,8 @@ fn replay_row(
     if lent.len() < all {
         return unknown(out, at);
     }
-    words::fill_16(&mut lent[0..all]);
-    let answer = replays::replay(row, cuts, &mut lent[0..room]);
+    probe_words::fill_16(&mut lent[0..all]);
+    let answer = cut_replay::replay(row, cuts, &mut lent[0..room]);
     told(answer, events(row), &lent[0..all], out, at)
 }
 
@@ -153,8 +153,8 @@ fn replay_row(
 fn replay_given(given: &[u16], lent: &mut [u16], out: &mut [u8], at: usize) -> usize
     requires { ⌜ at ≤ 2 ^ 63 ⌝ }
 {
-    let room = view::number(given, 0);
-    let split = view::number(given, 1) + 2;
+    let room = rows::number(given, 0);
+    let split = rows::number(given, 1) + 2;
     let n = given.len();
     if n < split {
         return unknown(out, at);
@@ -166,7 +166,7 @@ fn replay_given(given: &[u16], lent: &mut [u16], out: &mut [u8], at: usize) -> u
 fn replay(line: &[u8], given: &mut [u16], lent: &mut [u16], out: &mut [u8], at: usize) -> usize
     requires { ⌜ at ≤ 2 ^ 63 ⌝ }
 {
-    let n = words::numbers(line, 6, given);
+    let n = probe_words::numbers(line, 6, given);
     if n < 2 {
         return unknown(out, at);
     }
@@ -177,12 +177,12 @@ fn replay(line: &[u8], given: &mut [u16], lent: &mut [u16], out: &mut [u8], at: 
 fn slack(line: &[u8], given: &mut [u16], out: &mut [u8], at: usize) -> usize
     requires { ⌜ at ≤ 2 ^ 63 ⌝ }
 {
-    let n = words::numbers(line, 5, given);
+    let n = probe_words::numbers(line, 5, given);
     if n < 2 {
         return unknown(out, at);
     }
-    let m = view::number(given, 0);
-    let p = view::number(given, 1);
+    let m = rows::number(given, 0);
+    let p = rows::number(given, 1);
     told_slack(spare::slack(&given[2..n], m, p), out, at)
 }
 
@@ -221,8 +221,8 @@ fn verdict_row(
     if lent.len() < all {
         return unknown(out, at);
     }
-    words::fill_16(&mut lent[0..all]);
-    let ruling = resist::verdict(row, k, l, &mut lent[0..room]);
+    probe_words::fill_16(&mut lent[0..all]);
+    let ruling = verdicts::verdict(row, k, l, &mut lent[0..room]);
     told_ruling(ruling, &lent[0..all], out, at)
 }
 
@@ -230,13 +230,13 @@ fn verdict_row(
 fn verdict(line: &[u8], given: &mut [u16], lent: &mut [u16], out: &mut [u8], at: usize) -> usize
     requires { ⌜ at ≤ 2 ^ 63 ⌝ }
 {
-    let n = words::numbers(line, 7, given);
+    let n = probe_words::numbers(line, 7, given);
     if n < 3 {
         return unknown(out, at);
     }
-    let k = view::number(given, 0);
-    let l = view::number(given, 1);
-    let room = view::number(given, 2);
+    let k = rows::number(given, 0);
+    let l = rows::number(given, 1);
+    let room = rows::number(given, 2);
     verdict_row(&given[3..n], k, l, room, lent, out, at)
 }
 
@@ -259,7 +259,7 @@ fn spoil_row(index: usize, lent: &mut [u16], out: &mut [u8], at: usize) -> usize
     if lent.len() < MARGIN {
         return unknown(out, at);
     }
-    words::fill_16(&mut lent[0..MARGIN]);
+    probe_words::fill_16(&mut lent[0..MARGIN]);
     spoil_number(&mut lent[0..MARGIN], index);
     told(Answer::Gives(0), 0, &lent[0..MARGIN], out, at)
 }
@@ -271,7 +271,7 @@ fn spoil_bytes(index: usize, lent: &mut [u8], out: &mut [u8], at: usize) -> usiz
     if lent.len() < MARGIN {
         return unknown(out, at);
     }
-    words::fill(&mut lent[0..MARGIN]);
+    probe_words::fill(&mut lent[0..MARGIN]);
     spoil_byte(&mut lent[0..MARGIN], index);
     told_bytes(Answer::Gives(0), &lent[0..MARGIN], out, at)
 }
@@ -287,12 +287,12 @@ fn spoil(
 ) -> usize
     requires { ⌜ at ≤ 2 ^ 63 ⌝ }
 {
-    let n = words::numbers(line, 5, given);
+    let n = probe_words::numbers(line, 5, given);
     if n != 2 {
         return unknown(out, at);
     }
-    let bits = view::number(given, 0);
-    let index = view::number(given, 1);
+    let bits = rows::number(given, 0);
+    let index = rows::number(given, 1);
     if bits == 16 {
         return spoil_row(index, lent, out, at);
     }

@@ -9,7 +9,7 @@ use Rattle.scope.specs.Lines.{decimal, signed, space, lineFeed, spaced}
 use Rattle.scope.specs.Outcome.{Outcome, gives, refused}
 use Rattle.text.specs.Text.{Told}
 use Rattle.text.proofs.Decimal.{decimal-all}
-use Rattle.words.specs.Words.{hexWord, pairsOf, filler, filler16, allAre}
+use Rattle.probe_words.specs.Words.{hexWord, pairsOf, filler, filler16, allAre}
 use Rattle.probe_lines.specs.Answers.{ending, okText, refusedText, numbersEnd, bytesEnd, told, toldBytes, slackLine, refusedLine, resistantLine, failingLine, numbersOf, partLine, placeLine, Near}
 
 spaced-short : (s : List ℕ) → length (spaced s) ≤ 21 * length s

@@ -7,7 +7,7 @@ use lib.IntN.{ℤ}
 use lib.Dec.{ltb}
 use Rattle.scope.specs.Outcome.{Outcome, gives, refused}
 use Rattle.scope.specs.Lines.{decimal, signed, space, lineFeed, spaced}
-use Rattle.words.specs.Words.{hexWord, filler, filler16, allAre}
+use Rattle.probe_words.specs.Words.{hexWord, filler, filler16, allAre}
 
 -- "A line that is no question is answered `?`"
 abbrev pub unknownLine : List ℕ

@@ -1,21 +1,21 @@
 // The lines that the probe answers with, laid into lent bytes from an index on: an answer with the numbers or bytes that it wrote and whether
 // the lent buffer is as it should be, a slack, a verdict, and a part of a row. The texts are in specs/Answers. Each function gives the
-// index after its line, and asks that it begins in the lower half of what can be told. It leans on `text`, `verdict_lines` and `words`.
+// index after its line, and asks that it begins in the lower half of what can be told. It leans on `text`, `verdict_lines` and `probe_words`.
 ghost use Prim.Native.Nat.{_≤_, _^_};
 ghost use mathlib.Core.Path.{_≡_};
 ghost use Rattle.scope.specs.Outcome.{outcomeOf};
 ghost use Rattle.text.specs.Text.{Puts, Told};
 ghost use Rattle.probe_lines.specs.Answers.{unknownLine, ending, okText, refusedText, toldBytes, slackLine, refusedLine, resistantLine, failingLine, partLine, placeLine, numbersEnd, bytesEnd, Near};
 ghost use Rattle.probe_lines.specs.Answers.{told as Answers·told, numbersOf as Answers·numbersOf};
+use probe_words::kept;
+use probe_words::kept_16;
+use probe_words::put_bytes;
+use probe_words::put_numbers;
 use scope::Answer;
 use text::put_byte;
 use text::put_decimal;
 use text::put_number;
 use text::put_word;
-use words::kept;
-use words::kept_16;
-use words::put_bytes;
-use words::put_numbers;
 
 // A line that is no question.
 pub fn unknown(out: &mut [u8], at: usize) -> usize

@@ -7,8 +7,8 @@ ghost use Rattle.scope.specs.Limits.{planRoom, cutsRoom};
 ghost use Rattle.scope.specs.Lines.{replayText};
 ghost use Rattle.listing.specs.Prints.{Front, Printed};
 ghost use Rattle.listing.specs.Room.{listingRoom};
-ghost use Rattle.files.specs.Came.{Came, planFile, standardInput};
-use files::Read;
+ghost use Rattle.program_io.specs.Came.{Came, planFile, standardInput};
+use program_io::Read;
 use scope::Answer;
 use scope::limits;
 
@@ -30,10 +30,10 @@ fn main() {
     let mut plan = [0u8; limits::PLAN_ROOM];
     let mut input = [0u8; limits::CUTS_ROOM];
     let mut out = [0u8; listing::ROOM];
-    let p = files::read_plan(b"replay", &mut plan);
-    let read = files::read_input(b"replay", &mut input);
+    let p = program_io::read_plan(b"replay", &mut plan);
+    let read = program_io::read_input(b"replay", &mut input);
     if let Read::Bytes(i) = read {
         let answer = text(&plan, p, &input, i, &mut out);
-        files::print(b"replay", answer, &out);
+        program_io::print(b"replay", answer, &out);
     }
 }

@@ -14,8 +14,8 @@ use Rattle.scope.specs.Good.{holds}
 use Rattle.scope.specs.Slot.{Position, onFirst, onSecond, Moved, moved, turn, turned, tries, nextSecond, act}
 use Rattle.scope.specs.Cuts.{isCut}
 use Rattle.scope.specs.Cycle.{orderOf, foremost, tableOf, moves, slot, nexts, numbers, events, start, eventRow}
-use Rattle.view.specs.Lies.{PlanLies, MessageLies, PlaceLies, SecondLies}
-use Rattle.view.proofs.Parts.{numbers-length, numbers-at, places-length, places-at, message-count, path-at}
+use Rattle.rows.specs.Lies.{PlanLies, MessageLies, PlaceLies, SecondLies}
+use Rattle.rows.proofs.Parts.{numbers-length, numbers-at, places-length, places-at, message-count, path-at}
 
 -- each element is so
 data All {A : Type 0} (P : A → Type 0) : List A → Type 0 where

@@ -23,8 +23,8 @@ use Rattle.cut_lines.proofs.Enough.{enough, enough-cuts}
 use Rattle.cut_lines.proofs.Replay.{few-links, replay-enough}
 use Rattle.listing.specs.Prints.{Says, Prints}
 use Rattle.listing.proofs.Printing.{prints-as, says-as, says-given, says-refused}
-use Rattle.replays.specs.Replay.{Replays}
-use Rattle.replays.proofs.Ways.{numbers-needed}
+use Rattle.cut_replay.specs.Replay.{Replays}
+use Rattle.cut_replay.proofs.Ways.{numbers-needed}
 use Rattle.replay_text.specs.Text.{textOf, mayList}
 
 -- what stands behind the events is not looked at

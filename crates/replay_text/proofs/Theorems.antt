@@ -15,8 +15,8 @@ use Rattle.scope.specs.Cycle.{eventRow}
 use Rattle.scope.specs.Questions.{readFile, replay}
 use Rattle.scope.specs.Lines.{cutsFrom, cutsOf, replayText}
 use Rattle.scope.specs.Limits.{longestRow, longestEvents, planRoom, cutsRoom}
-use Rattle.view.proofs.Walked.{walked}
-use Rattle.view.proofs.Parts.{message-count, timeout-is}
+use Rattle.rows.proofs.Walked.{walked}
+use Rattle.rows.proofs.Parts.{message-count, timeout-is}
 use Rattle.plan.proofs.Ways.{good-row}
 use Rattle.plan.proofs.Reading.{read-judged}
 use Rattle.listing.proofs.Lines.{refused-size}

@@ -1,6 +1,6 @@
 // The listing of a replay for the bytes of a plan file and of its input: document 01, "Programs". `replay_text` takes any bytes, lays the
 // whole text into a lent buffer, and refuses a bad plan, bad cuts and a buffer that is too short. It leans on `plan` (the row of a file),
-// `cut_lines` (the cuts of an input), `replays` (the replay) and `listing` (the text). That the first bytes of a long file and a long
+// `cut_lines` (the cuts of an input), `cut_replay` (the replay) and `listing` (the text). That the first bytes of a long file and a long
 // input print what the whole prints is in proofs/Theorems.
 ghost use Rattle.listing.specs.Prints.{Says};
 ghost use Rattle.scope.specs.Questions.{replay};
@@ -18,7 +18,7 @@ fn played(row: &[u16], cuts: &[u16], out: &mut [u8]) -> Answer
     ensures { λ r. ⌜ Says (replay (now (row .entry)) (now (cuts .entry)) longestEvents) (textOf (now (row .entry)) (now (cuts .entry))) (now (out .entry)) (now (out .exit)) r ⌝ }
 {
     let mut events = [0u16; limits::EVENTS];
-    let answer = replays::replay(row, cuts, &mut events);
+    let answer = cut_replay::replay(row, cuts, &mut events);
     match answer {
         Answer::Gives(n) => listing::listing(n, row, &events, out),
         Answer::Refused(refusal) => Answer::Refused(refusal),

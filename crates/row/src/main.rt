@@ -6,7 +6,7 @@ ghost use lib.ListN.{length};
 ghost use Rattle.scope.specs.Limits.{planRoom};
 ghost use Rattle.listing.specs.Prints.{Front, Printed};
 ghost use Rattle.row_text.specs.Rows.{rowText, rowTextRoom};
-ghost use Rattle.files.specs.Came.{Came, planFile};
+ghost use Rattle.program_io.specs.Came.{Came, planFile};
 use scope::Answer;
 use scope::limits;
 
@@ -25,7 +25,7 @@ fn text(plan: &[u8], p: usize, out: &mut [u8]) -> Answer
 fn main() {
     let mut plan = [0u8; limits::PLAN_ROOM];
     let mut out = [0u8; row_text::ROOM];
-    let p = files::read_plan(b"row", &mut plan);
+    let p = program_io::read_plan(b"row", &mut plan);
     let answer = text(&plan, p, &mut out);
-    files::print(b"row", answer, &out);
+    program_io::print(b"row", answer, &out);
 }

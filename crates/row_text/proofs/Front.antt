@@ -16,7 +16,7 @@ use Rattle.scope.specs.Row.{walkFrom, walkRow}
 use Rattle.scope.specs.Questions.{after, judge, writeFile}
 use Rattle.scope.specs.File.{fileOf}
 use Rattle.grammar.proofs.Most.{numbers, falls, numbers-opening}
-use Rattle.flow.proofs.Theorems.{row-most}
+use Rattle.forms.proofs.Theorems.{row-most}
 use Rattle.plan.specs.Answers.{Writes}
 
 -- a walk that ends within the first k numbers goes the same over them

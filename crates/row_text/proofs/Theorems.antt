@@ -17,7 +17,7 @@ use Rattle.listing.proofs.Lines.{refused-size}
 use Rattle.listing.specs.Prints.{Says, Front}
 use Rattle.listing.proofs.Printing.{says-only}
 use Rattle.listing.proofs.Fronts.{from-front}
-use Rattle.flow.proofs.Theorems.{row-small}
+use Rattle.forms.proofs.Theorems.{row-small}
 use Rattle.plan.specs.Answers.{Writes}
 use Rattle.plan.proofs.Reading.{read-room, read-judged}
 use Rattle.plan.proofs.Theorems.{one-writing}

@@ -12,13 +12,13 @@ ghost use Rattle.listing.specs.Prints.{Says, Prints};
 ghost use Rattle.plan.specs.Answers.{Writes};
 ghost use Rattle.row_text.specs.Rows.{mark, rowLine, numbersOf};
 ghost use Rattle.row_text.specs.Rows.{ends as Rows·ends, rowText as Rows·rowText};
+use rows::number;
 use scope::Answer;
 use scope::limits;
 use scope::refuse;
 use text::byte;
 use text::number_at;
 use text::put_number;
-use view::number;
 
 // Bytes enough for the longest row as text, or for a refusal, with at most six bytes a number.
 pub const ROOM: usize = 62430;

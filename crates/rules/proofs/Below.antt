@@ -12,10 +12,10 @@ use Rattle.scope.specs.Plan.{Plan, Place, at, messageAt, pathOf}
 use Rattle.scope.specs.Good.{holds, taken}
 use Rattle.scope.specs.Cycle.{entryOf, tableOf}
 use Rattle.scope.proofs.Lowest.{seek-is, seek-low}
-use Rattle.view.specs.Lies.{MessageLies}
-use Rattle.view.proofs.Parts.{places-length, places-at}
+use Rattle.rows.specs.Lies.{MessageLies}
+use Rattle.rows.proofs.Parts.{places-length, places-at}
 use Rattle.table.specs.Table.{Table, entryAt}
-use Rattle.broken.specs.Broken.{heldBelow}
+use Rattle.faults.specs.Broken.{heldBelow}
 
 -- the lowest of n that pass a test, where m passes it: below m exactly if some number below m passes it
 module _ (test : ℕ → Bool) (n m : ℕ) (within : m < n) (passes : test m ≡ true) where

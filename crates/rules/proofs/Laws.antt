@@ -13,10 +13,10 @@ use Rattle.scope.specs.Outcome.{gives, refuse}
 use Rattle.scope.specs.Plan.{Plan, messageAt, afterMessage, firstMessage, messageCount, planOf, pathOf}
 use Rattle.scope.specs.Good.{badEnds, repeats, badFirstPath, badSlots, badTable, badSecondPath, rules}
 use Rattle.scope.specs.SecondPath.{messageIndex}
-use Rattle.view.specs.View.{Is}
-use Rattle.view.specs.Lies.{MessageLies}
-use Rattle.view.proofs.Index.{messages-suc}
-use Rattle.view.proofs.Parts.{path-at, message-count, link-count}
+use Rattle.rows.specs.View.{Is}
+use Rattle.rows.specs.Lies.{MessageLies}
+use Rattle.rows.proofs.Index.{messages-suc}
+use Rattle.rows.proofs.Parts.{path-at, message-count, link-count}
 use Rattle.rules.specs.Rules.{Starts, Judging, breaks, countFor, rulesFrom}
 
 -- a loop over messages that notes where they stand, at message m, which stands at index j

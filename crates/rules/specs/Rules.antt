@@ -11,7 +11,7 @@ use Rattle.scope.specs.Plan.{Plan, messageCount, planOf}
 use Rattle.scope.specs.Good.{badEnds, repeats, badFirstPath, badSlots, badTable, badSecondPath}
 use Rattle.scope.specs.SecondPath.{messageIndex}
 use Rattle.scope.specs.Cycle.{tableOf}
-use Rattle.view.specs.Lies.{PlanLies}
+use Rattle.rows.specs.Lies.{PlanLies}
 use Rattle.table.specs.Table.{Table}
 
 -- link m, and from rule 7 on message m, breaks rule n

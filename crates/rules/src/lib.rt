@@ -1,6 +1,6 @@
 // Refusals 5 to 10 of a row that has the form of a plan: `check` gives 0, or the lowest refusal that applies with its place, as
 // `rules` of document 01 says. The rules are numbered by their refusals: one loop looks for the lowest link or message that breaks rule n, and one
-// goes through the rules. It leans on `broken` for the test of one link or message, and on `view` and `table`.
+// goes through the rules. It leans on `faults` for the test of one link or message, and on `rows` and `table`.
 use scope::Answer;
 use scope::limits::MESSAGES;
 use scope::limits::TABLE;
@@ -22,12 +22,12 @@ fn message_starts(row: &[u16]) -> [usize; MESSAGES]
     ensures { λ r. ⌜ Starts (now (row .entry)) (messageCount (now (row .entry))) r ⌝ }
 {
     let mut starts = [0usize; MESSAGES];
-    let n = view::messages(row);
-    let mut at = view::message_index(row, 0);
+    let n = rows::messages(row);
+    let mut at = rows::message_index(row, 0);
     let mut m = 0;
     while m < n {
         starts[m] = at;
-        at = view::after_message(row, at);
+        at = rows::after_message(row, at);
         m += 1;
     }
     starts
@@ -39,12 +39,12 @@ fn breaks(row: &[u16], starts: &[usize; MESSAGES], table: &[u8], n: usize, m: us
     ensures { λ r. ⌜ r ≡ breaks (planOf (now (row .entry))) n m ⌝ }
 {
     match n {
-        5 => broken::bad_ends(row, m),
-        6 => broken::repeats_earlier(row, m),
-        7 => broken::bad_path(row, starts[m]),
-        8 => broken::bad_slots(row, starts[m]),
-        9 => broken::held_below(row, starts[m], m, table),
-        _ => broken::bad_seconds(row, starts[m]),
+        5 => faults::bad_ends(row, m),
+        6 => faults::repeats_earlier(row, m),
+        7 => faults::bad_path(row, starts[m]),
+        8 => faults::bad_slots(row, starts[m]),
+        9 => faults::held_below(row, starts[m], m, table),
+        _ => faults::bad_seconds(row, starts[m]),
     }
 }
 
@@ -53,9 +53,9 @@ fn count_for(row: &[u16], n: usize) -> usize
     ensures { λ r. ⌜ r ≡ countFor (planOf (now (row .entry))) n ⌝ }
 {
     if n < 7 {
-        view::links(row)
+        rows::links(row)
     } else {
-        view::messages(row)
+        rows::messages(row)
     }
 }
 

@@ -19,9 +19,9 @@ use Rattle.scope.specs.Spare.{hasSecondThrough, entries, lowerThrough, delay, p
 use Rattle.scope.specs.Questions.{judge, maySpare, slack}
 use Rattle.laws.proofs.Good.{good-rises}
 use Rattle.laws.proofs.Rising.{rises}
-use Rattle.view.specs.Lies.{PlanLies}
-use Rattle.view.proofs.Walked.{walked}
-use Rattle.view.proofs.Parts.{numbers-length, places-length, path-at, timeout-is}
+use Rattle.rows.specs.Lies.{PlanLies}
+use Rattle.rows.proofs.Walked.{walked}
+use Rattle.rows.proofs.Parts.{numbers-length, places-length, path-at, timeout-is}
 use Rattle.plan.specs.Answers.{GoodRow}
 use Rattle.plan.proofs.Outcomes.{then-back}
 use Rattle.plan.proofs.Ways.{good-row}

@@ -17,7 +17,7 @@ use Rattle.scope.specs.Cycle.{orderOf, tableOf, start, arrivals, eventRow}
 use Rattle.scope.specs.Questions.{judge, slack, replay}
 use Rattle.laws.proofs.Replay.{lengths-kept}
 use Rattle.laws.proofs.Slack.{slack-under-cuts}
-use Rattle.view.proofs.Parts.{message-count}
+use Rattle.rows.proofs.Parts.{message-count}
 use Rattle.plan.proofs.Outcomes.{then-back}
 use Rattle.spare.specs.InTime.{atTimeout, SlackInTime, SlackAndReplay}
 use Rattle.spare.proofs.Bounds.{asked, answered}

@@ -11,7 +11,7 @@ use Rattle.scope.specs.SecondPath.{messageIndex}
 use Rattle.scope.specs.Good.{has}
 use Rattle.scope.specs.Cycle.{byNumber, orderOf}
 use Rattle.scope.specs.Spare.{entriesOf, entries, hasSecondThrough, lowerThrough, delay}
-use Rattle.view.proofs.Parts.{places-all, places-more, places-none}
+use Rattle.rows.proofs.Parts.{places-all, places-more, places-none}
 
 module _ (row : List ℕ) where
   numbers-more : (i n k : ℕ) → k < n → numbersAt row i (n - k) ≡ at row i ∷ numbersAt row (i + 1) (n - (k + 1))

@@ -10,7 +10,7 @@ use borrow.Author.Tests.{ltb-true, ltb-false}
 use Rattle.scope.specs.Plan.{Place, at, numbersAt, flagged, secondStart, secondCount, secondAt, placeAt, placeCount, messageAt, messageCount, planOf, pathOf}
 use Rattle.scope.specs.SecondPath.{messageIndex, placeIndex}
 use Rattle.scope.specs.Spare.{placeOf, noSecond}
-use Rattle.view.proofs.Parts.{places-length, places-at, message-count, path-at}
+use Rattle.rows.proofs.Parts.{places-length, places-at, message-count, path-at}
 
 -- there is such a message, such a place and a second path from it
 pub record There (row : List ℕ) (m p : ℕ) : Type 0 where

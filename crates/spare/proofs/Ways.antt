@@ -17,7 +17,7 @@ use Rattle.scope.specs.SecondPath.{messageIndex, placeIndex}
 use Rattle.scope.specs.Cycle.{orderOf}
 use Rattle.scope.specs.Spare.{delay, placeOf, noSecond}
 use Rattle.scope.specs.Questions.{judge, maySpare, slack}
-use Rattle.view.proofs.Parts.{timeout-is}
+use Rattle.rows.proofs.Parts.{timeout-is}
 use Rattle.plan.specs.Answers.{GoodRow}
 use Rattle.spare.specs.declared.Spare.{Spare}
 use Rattle.spare.specs.declared.Spare.the-variants.{Slots, Refused}

@@ -1,6 +1,6 @@
 // Spare slots of a second path: a(e), b(m, e), D and the slack, of `scope`'s Spare. `slack` takes anything, and refuses what is bad by
 // document 01's numbers; proofs/ has that the slack lies between -1,535 and 63, and what 0 or more means for the replay. It leans on
-// `view` for where things stand, on `plan` for what a good row is, and on `laws` for the replay. Counting is by total reads of the row.
+// `rows` for where things stand, on `plan` for what a good row is, and on `laws` for the replay. Counting is by total reads of the row.
 use scope::Answer;
 use scope::Refusal;
 use scope::refusal_at;
@@ -13,7 +13,7 @@ ghost use Rattle.scope.specs.Plan.{at, numbersAt, placesAt, secondAt, secondSta
 ghost use Rattle.scope.specs.Good.{has};
 ghost use Rattle.scope.specs.Cycle.{orderOf};
 ghost use Rattle.scope.specs.Spare.{entriesOf, entries, hasSecondThrough, lowerThrough, delay};
-ghost use Rattle.view.specs.View.{Is};
+ghost use Rattle.rows.specs.View.{Is};
 ghost use Rattle.plan.specs.Answers.{GoodRow};
 ghost use Rattle.spare.specs.Slack.{Slacks};
 
@@ -30,7 +30,7 @@ fn has(row: &[u16], e: usize, i: usize, n: usize) -> bool
 {
     let mut k = 0;
     while k < n {
-        if view::number(row, i + k) == e {
+        if rows::number(row, i + k) == e {
             return true;
         }
         k += 1;
@@ -43,8 +43,8 @@ fn place_through(row: &[u16], e: usize, i: usize) -> bool
     requires { ⌜ i < 2 ^ 61 ⌝ }
     ensures { λ r. ⌜ r ≡ has e (secondAt (now (row .entry)) i) ⌝ }
 {
-    if view::number(row, i + 2) == 1 {
-        has(row, e, i + 4, view::number(row, i + 3) + 1)
+    if rows::number(row, i + 2) == 1 {
+        has(row, e, i + 4, rows::number(row, i + 3) + 1)
     } else {
         false
     }
@@ -61,7 +61,7 @@ fn through(row: &[u16], e: usize, i: usize, n: usize) -> bool
         if place_through(row, e, at) {
             return true;
         }
-        at = at + view::place_size(row, at);
+        at = at + rows::place_size(row, at);
         k += 1;
     }
     false
@@ -71,7 +71,7 @@ fn through(row: &[u16], e: usize, i: usize, n: usize) -> bool
 fn on_link(row: &[u16], e: usize, i: usize) -> usize
     ensures { λ r. ⌜ Is (cond (eqb (at (now (row .entry)) i) e) 1 0) 1 r ⌝ }
 {
-    if view::number(row, i) == e { 1 } else { 0 }
+    if rows::number(row, i) == e { 1 } else { 0 }
 }
 
 // How many of so many places from an index on are on link e.
@@ -84,7 +84,7 @@ fn entries_of(row: &[u16], e: usize, i: usize, n: usize) -> usize
     let mut k = 0;
     while k < n {
         sum = sum + on_link(row, e, at);
-        at = at + view::place_size(row, at);
+        at = at + rows::place_size(row, at);
         k += 1;
     }
     sum
@@ -94,13 +94,13 @@ fn entries_of(row: &[u16], e: usize, i: usize, n: usize) -> usize
 fn entries(row: &[u16], e: usize) -> usize
     ensures { λ r. ⌜ Is (entries e (planOf (now (row .entry)) .messages)) 4294967296 r ⌝ }
 {
-    let n = view::messages(row);
+    let n = rows::messages(row);
     let mut sum: usize = 0;
-    let mut at = view::message_index(row, 0);
+    let mut at = rows::message_index(row, 0);
     let mut k = 0;
     while k < n {
-        sum = sum + entries_of(row, e, at + 1, view::place_count(row, at));
-        at = view::after_message(row, at);
+        sum = sum + entries_of(row, e, at + 1, rows::place_count(row, at));
+        at = rows::after_message(row, at);
         k += 1;
     }
     sum
@@ -111,7 +111,7 @@ fn message_through(row: &[u16], e: usize, i: usize) -> usize
     requires { ⌜ i < 2 ^ 59 ⌝ }
     ensures { λ r. ⌜ Is (cond (hasSecondThrough e (messageAt (now (row .entry)) i)) 1 0) 1 r ⌝ }
 {
-    if through(row, e, i + 1, view::place_count(row, i)) {
+    if through(row, e, i + 1, rows::place_count(row, i)) {
         1
     } else {
         0
@@ -124,11 +124,11 @@ fn lower_through(row: &[u16], m: usize, e: usize) -> usize
     ensures { λ r. ⌜ Is (lowerThrough (orderOf (planOf (now (row .entry)))) m e 0 (planOf (now (row .entry)) .messages)) m r ⌝ }
 {
     let mut sum: usize = 0;
-    let mut at = view::message_index(row, 0);
+    let mut at = rows::message_index(row, 0);
     let mut j = 0;
     while j < m {
         sum = sum + message_through(row, e, at);
-        at = view::after_message(row, at);
+        at = rows::after_message(row, at);
         j += 1;
     }
     sum
@@ -142,7 +142,7 @@ fn delay(row: &[u16], m: usize, i: usize, n: usize) -> usize
     let mut sum: usize = 0;
     let mut k = 0;
     while k < n {
-        let e = view::number(row, i + k);
+        let e = rows::number(row, i + k);
         sum = sum + 1 + entries(row, e) + lower_through(row, m, e);
         k += 1;
     }
@@ -162,7 +162,7 @@ fn used(row: &[u16], m: usize, i: usize) -> usize
     requires { ⌜ (i < 2 ^ 59) × (m ≤ messageCount (now row)) ⌝ }
     ensures { λ r. ⌜ r ≡ at (now (row .entry)) (i + 1) + delay (orderOf (planOf (now (row .entry)))) (planOf (now (row .entry)) .messages) m (numbersAt (now (row .entry)) (secondStart i) (secondCount (now (row .entry)) i)) ⌝ }
 {
-    view::number(row, i + 1) + delay(row, m, i + 4, view::number(row, i + 3) + 1)
+    rows::number(row, i + 1) + delay(row, m, i + 4, rows::number(row, i + 3) + 1)
 }
 
 // The slack of the second path of message m from place p, of a row that is known to be good.
@@ -170,18 +170,18 @@ pub fn slack_of_good(row: &[u16], m: usize, p: usize) -> Spare
     requires { ⌜ GoodRow (now row) ⌝ }
     ensures { λ r. ⌜ Slacks (now (row .entry)) m p r ⌝ }
 {
-    if view::messages(row) <= m {
+    if rows::messages(row) <= m {
         return Spare::Refused(refusal_at(11, 0));
     }
-    let i = view::message_index(row, m);
-    if view::place_count(row, i) <= p {
+    let i = rows::message_index(row, m);
+    if rows::place_count(row, i) <= p {
         return Spare::Refused(refusal_at(11, 0));
     }
-    let at = view::after_places(row, i + 1, p);
-    if view::number(row, at + 2) != 1 {
+    let at = rows::after_places(row, i + 1, p);
+    if rows::number(row, at + 2) != 1 {
         return Spare::Refused(refusal_at(11, 0));
     }
-    Spare::Slots(less(view::timeout(row), used(row, m, at)))
+    Spare::Slots(less(rows::timeout(row), used(row, m, at)))
 }
 
 // The slack of the second path of message m from place p: timeout less slot less D, or refusal 1 to 10, 11.

@@ -5,8 +5,8 @@
 // A slot is one pass over the messages, in their order, in records that are lent: `move_all` and `lend` alone hold a slice of records,
 // and their proofs are walks by hand.
 use cuts::is_down;
+use rows::number;
 use scope::limits::MESSAGES;
-use view::number;
 ghost use Prim.Native.Nat.{_+_, _-_, _*_, _<_, _≤_};
 ghost use mathlib.Core.Path.{_≡_};
 ghost use mathlib.Core.Bool.{true, false, not};
@@ -181,7 +181,7 @@ impl Position {
     {
         let at = self.at as usize;
         Position {
-            at: (at + view::place_size(row, at)) as u16,
+            at: (at + rows::place_size(row, at)) as u16,
             left: self.left - 1,
             turned: false,
         }

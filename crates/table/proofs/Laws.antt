@@ -17,9 +17,9 @@ use Rattle.scope.specs.Plan.{Place, at, placeAt, placeSize, placesAt, afterPlac
 use Rattle.scope.specs.SecondPath.{messageIndex}
 use Rattle.scope.specs.Good.{holds}
 use Rattle.scope.specs.Cycle.{entryOf, tableOf}
-use Rattle.view.specs.View.{Is}
-use Rattle.view.proofs.Index.{places-first, places-next, places-done, messages-suc}
-use Rattle.view.proofs.Parts.{places-all, places-more, places-none, message-count, path-at}
+use Rattle.rows.specs.View.{Is}
+use Rattle.rows.proofs.Index.{places-first, places-next, places-done, messages-suc}
+use Rattle.rows.proofs.Parts.{places-all, places-more, places-none, message-count, path-at}
 use Rattle.table.specs.Table.{Table, Entered, Below, indexOf, entryAt, marked, entered, ownerBelow}
 use Rattle.table.proofs.Entries.{entry-in}
 

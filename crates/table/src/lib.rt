@@ -1,5 +1,5 @@
 // The table of a plan, a byte for each slot and link: which message holds a link in a slot. `fill_table` makes the whole of it, as `tableOf` of
-// document 01 says; `enter` puts one message. It leans on `view` and on specs/ of `scope` (Plan, Good, Cycle).
+// document 01 says; `enter` puts one message. It leans on `rows` and on specs/ of `scope` (Plan, Good, Cycle).
 use scope::limits::LINKS;
 use scope::limits::SLOTS;
 use scope::limits::TABLE;
@@ -56,14 +56,14 @@ pub fn enter(row: &[u16], i: usize, w: u8, table: &mut [u8]) -> usize
     requires { ⌜ (i < 2 ^ 60) × (length (now table) ≡ tableSize) × (0 < w) ⌝ }
     ensures { λ r. ⌜ Entered (now (row .entry)) i w (now (table .entry)) (now (table .exit)) r ⌝ }
 {
-    let n = view::place_count(row, i);
+    let n = rows::place_count(row, i);
     let mut at = i + 1;
     let mut k = 0;
     while k < n {
-        let link = view::number(row, at);
-        let slot = view::number(row, at + 1);
+        let link = rows::number(row, at);
+        let slot = rows::number(row, at + 1);
         mark(table, link, slot, w);
-        at = at + view::place_size(row, at);
+        at = at + rows::place_size(row, at);
         k += 1;
     }
     at
@@ -87,8 +87,8 @@ pub fn fill_table(row: &[u16], table: &mut [u8])
     ensures { λ r. ⌜ Table (tableOf (planOf (now (row .entry)))) (now (table .exit)) ⌝ }
 {
     clear(table);
-    let n = view::messages(row);
-    let mut at = view::message_index(row, 0);
+    let n = rows::messages(row);
+    let mut at = rows::message_index(row, 0);
     let mut m = 0;
     while m < n {
         let w = (m + 1) as u8;

@@ -11,14 +11,14 @@ ghost use Rattle.plan.specs.Answers.{GoodRow};
 ghost use Rattle.verdict_text.specs.Layout.{Lays, LaidUntil, PrintsOne, PrintedOne, verdictRoom};
 ghost use Rattle.listing.specs.Prints.{Front};
 ghost use Rattle.scope.specs.Limits.{planRoom};
-ghost use Rattle.files.specs.Came.{Came, planFile};
+ghost use Rattle.program_io.specs.Came.{Came, planFile};
 use scope::Answer;
 use scope::limits;
 
 // On standard error, how far it is, once the clock shows another second than at the start.
 fn progress(k: usize, start: i64) {
-    if files::seconds() != start {
-        files::say(b"verdict: trying lists of up to ", k as u64, b" cuts\n");
+    if program_io::seconds() != start {
+        program_io::say(b"verdict: trying lists of up to ", k as u64, b" cuts\n");
     }
 }
 
@@ -42,7 +42,7 @@ fn all_lines(row: &[u16], out: &mut [u8]) -> usize
     requires { ⌜ GoodRow (now row) ⌝ }
     ensures { λ r. ⌜ Lays (VerdictLines (planOf (now (row .entry))) 0 (1 + highestK (planOf (now (row .entry))))) verdictRoom (now (out .entry)) (now (out .exit)) 0 r ⌝ }
 {
-    let start = files::seconds();
+    let start = program_io::seconds();
     let next = table(row, 1 + verdict_text::highest(row), start, out);
     verdict_text::slack_lines(row, out, next)
 }
@@ -71,7 +71,7 @@ fn text(plan: &[u8], p: usize, out: &mut [u8]) -> Answer
 fn main() {
     let mut plan = [0u8; limits::PLAN_ROOM];
     let mut out = [0u8; verdict_text::ROOM];
-    let p = files::read_plan(b"verdict", &mut plan);
+    let p = program_io::read_plan(b"verdict", &mut plan);
     let answer = text(&plan, p, &mut out);
-    files::print(b"verdict", answer, &out);
+    program_io::print(b"verdict", answer, &out);
 }

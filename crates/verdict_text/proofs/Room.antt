@@ -16,11 +16,11 @@ use Rattle.scope.specs.SecondPath.{messageIndex}
 use Rattle.scope.specs.Cycle.{orderOf}
 use Rattle.scope.specs.Spare.{slackOf}
 use Rattle.scope.specs.Lines.{resistantLine, failingLine, spaced, signed, slackLine, slackLineOf, messageSlacks, slackLines, highestK}
-use Rattle.view.specs.Lies.{PlanLies}
-use Rattle.view.proofs.Walked.{walked}
-use Rattle.view.proofs.Parts.{message-count, link-count, timeout-is, path-at, places-length}
+use Rattle.rows.specs.Lies.{PlanLies}
+use Rattle.rows.proofs.Walked.{walked}
+use Rattle.rows.proofs.Parts.{message-count, link-count, timeout-is, path-at, places-length}
 use Rattle.plan.specs.Answers.{GoodRow}
-use Rattle.answers.specs.Answers.{Says, seven, AnswersAll}
+use Rattle.all_verdicts.specs.Answers.{Says, seven, AnswersAll}
 use Rattle.text.specs.Text.{Told, Puts}
 use Rattle.text.proofs.Decimal.{decimal-all, decimal-most}
 use Rattle.verdict_text.specs.Layout.{listOf, lineOf, linesOf, Sevens, LinesUnder, Lays}

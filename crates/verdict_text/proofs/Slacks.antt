@@ -21,7 +21,7 @@ use Rattle.scope.specs.Cycle.{orderOf}
 use Rattle.scope.specs.Spare.{placeOf, noSecond, slackOf}
 use Rattle.scope.specs.Questions.{maySpare, slack}
 use Rattle.scope.specs.Lines.{slackLine, slackLineOf, messageSlacks, slackLines}
-use Rattle.view.proofs.Parts.{places-length, path-at, message-count}
+use Rattle.rows.proofs.Parts.{places-length, path-at, message-count}
 use Rattle.plan.specs.Answers.{GoodRow}
 use Rattle.spare.specs.declared.Spare.{Spare}
 use Rattle.spare.specs.declared.Spare.the-variants.{Slots, Refused}

@@ -16,12 +16,12 @@ use Rattle.scope.specs.Plan.{Plan, planOf}
 use Rattle.scope.specs.Cuts.{pairs, badPair, isCutList}
 use Rattle.scope.specs.Questions.{judge}
 use Rattle.scope.specs.Lines.{resistantLine, failingLine, VerdictLine, resistant, failing, UnderK}
-use Rattle.view.specs.Lies.{PlanLies}
-use Rattle.view.proofs.Walked.{walked}
-use Rattle.view.proofs.Parts.{message-count}
+use Rattle.rows.specs.Lies.{PlanLies}
+use Rattle.rows.proofs.Walked.{walked}
+use Rattle.rows.proofs.Parts.{message-count}
 use Rattle.plan.specs.Answers.{GoodRow}
 use Rattle.order.proofs.Some.{none-below}
-use Rattle.answers.specs.Answers.{Says, SaysResistant, SaysFailing, seven, needed, mayAnswer, AllSaid, After, AnswersAll}
+use Rattle.all_verdicts.specs.Answers.{Says, SaysResistant, SaysFailing, seven, needed, mayAnswer, AllSaid, After, AnswersAll}
 use Rattle.text.specs.Text.{Told, Puts}
 use Rattle.verdict_text.specs.Layout.{lineOf, linesOf, Sevens, LinesUnder}
 
@@ -138,7 +138,7 @@ module _ (plan : Plan) (k : ℕ) (all : List ℕ) (each : (l : ℕ) → l ≤ le
   pub sevens : (count : ℕ) → k ≤ 3 → count ≡ length (plan .messages) + 1 → count ≤ 33 → 7 * count ≤ length all → Sevens all count
   sevens count h e few room = record { few = few; room = room; pairs = λ l below. says-few plan k l (seven l all) h (each l (omega arith)) }
 
--- what `answers` says of a good row
+-- what `all_verdicts` says of a good row
 pub judged : (row : List ℕ) → GoodRow row → judge row ≡ gives (length row)
 unfolding judge
 judged row g = rw (g .form, g .keeps)

@@ -1,4 +1,4 @@
--- How the answers are laid out in lines: by the seven numbers that `answers` gives for each l, and by message and place.
+-- How the answers are laid out in lines: by the seven numbers that `all_verdicts` gives for each l, and by message and place.
 use Prim.Native.Nat.{ℕ, zero, suc, _+_, _-_, _*_, _≤_, _<_}
 use mathlib.Core.Path.{_≡_}
 use mathlib.Core.Bool.{cond}
@@ -9,7 +9,7 @@ use Rattle.scope.specs.declared.Answer.{Answer}
 use Rattle.scope.specs.Plan.{Plan}
 use Rattle.scope.specs.Spare.{placeOf}
 use Rattle.scope.specs.Lines.{resistantLine, failingLine, slackLineOf, UnderK, VerdictLines}
-use Rattle.answers.specs.Answers.{seven}
+use Rattle.all_verdicts.specs.Answers.{seven}
 use Rattle.text.specs.Text.{Puts}
 use Rattle.listing.specs.Prints.{Prints, Printed}
 

@@ -1,5 +1,5 @@
 // The lines of the verdict program, laid into lent bytes from an index on: document 01, "Programs". `lines_under` lays the lines under one
-// k and `slack_lines` those of the spare slots; each gives the index after them. They lean on `answers` and `spare` for what the lines say,
+// k and `slack_lines` those of the spare slots; each gives the index after them. They lean on `all_verdicts` and `spare` for what the lines say,
 // and on `verdict_lines` for one line. That the lines under every k and then the slack lines are the whole text, that every text has room in
 // `ROOM` bytes, and that a file has one text, is in proofs/. The program composes them, since it tells between two k how far it is.
 ghost use Prim.Native.Nat.{_+_, _*_, _≤_, _<_, _^_};
@@ -26,7 +26,7 @@ fn line(out: &mut [u8], at: usize, k: usize, l: usize, numbers: &[u16]) -> usize
     requires { ⌜ (2 * getD (now numbers) 0 0 ≤ length (now numbers) + 1) × Told at (lineOf k l (now numbers)) ⌝ }
     ensures { λ r. ⌜ Puts (lineOf k l (now (numbers .entry))) (now (out .entry)) (now (out .exit)) at r ⌝ }
 {
-    let pairs = view::number(numbers, 0);
+    let pairs = rows::number(numbers, 0);
     if pairs == 0 {
         return resistant_line(out, at, k, l);
     }
@@ -56,8 +56,8 @@ pub fn lines_under(row: &[u16], k: usize, out: &mut [u8], at: usize) -> usize
     ensures { λ r. ⌜ Lays (LinesUnder (planOf (now (row .entry))) k) 4323 (now (out .entry)) (now (out .exit)) at r ⌝ }
 {
     let mut all = [0u16; ANSWERS];
-    answers::all_answers(row, k, &mut all);
-    lines(out, at, k, &all, view::messages(row) + 1)
+    all_verdicts::all_answers(row, k, &mut all);
+    lines(out, at, k, &all, rows::messages(row) + 1)
 }
 
 // The slack line of a place, if it has a second path.
@@ -77,7 +77,7 @@ fn message_slacks(row: &[u16], m: usize, out: &mut [u8], at: usize) -> usize
     requires { ⌜ GoodRow (now row) × (m < messageCount (now row)) × Told at (messageSlacks (planOf (now row)) m 0 (pathOf (planOf (now row)) m)) ⌝ }
     ensures { λ r. ⌜ Puts (messageSlacks (planOf (now (row .entry))) m 0 (pathOf (planOf (now (row .entry))) m)) (now (out .entry)) (now (out .exit)) at r ⌝ }
 {
-    let count = view::place_count(row, view::message_index(row, m));
+    let count = rows::place_count(row, rows::message_index(row, m));
     let mut next = at;
     let mut p: usize = 0;
     while p < count {
@@ -92,7 +92,7 @@ pub fn slack_lines(row: &[u16], out: &mut [u8], at: usize) -> usize
     requires { ⌜ GoodRow (now row) × (at < 2 ^ 32) ⌝ }
     ensures { λ r. ⌜ Puts (slackLines (planOf (now (row .entry))) 0 (planOf (now (row .entry)) .messages)) (now (out .entry)) (now (out .exit)) at r ⌝ }
 {
-    let count = view::messages(row);
+    let count = rows::messages(row);
     let mut next = at;
     let mut m: usize = 0;
     while m < count {
@@ -106,7 +106,7 @@ pub fn slack_lines(row: &[u16], out: &mut [u8], at: usize) -> usize
 pub fn highest(row: &[u16]) -> usize
     ensures { λ r. ⌜ r ≡ highestK (planOf (now (row .entry))) ⌝ }
 {
-    if view::links(row) * view::timeout(row) <= 64 {
+    if rows::links(row) * rows::timeout(row) <= 64 {
         3
     } else {
         1

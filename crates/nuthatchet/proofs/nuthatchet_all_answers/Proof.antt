@@ -1,4 +1,4 @@
--- `nuthatchet::nuthatchet_all_answers` meets its contract: the answer of `answers::all_answers`, told. Assumes nothing.
+-- `nuthatchet::nuthatchet_all_answers` meets its contract: the answer of `all_verdicts::all_answers`, told. Assumes nothing.
 use borrow.Author.Needs.{needs}
 use Rattle.nuthatchet.proofs.Ways.{says-all}
 use Rattle.nuthatchet.proofs.nuthatchet_all_answers.Statement.{statement}

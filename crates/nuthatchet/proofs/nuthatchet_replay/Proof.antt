@@ -1,4 +1,4 @@
--- `nuthatchet::nuthatchet_replay` meets its contract: the answer of `replays::replay`, told. Assumes nothing.
+-- `nuthatchet::nuthatchet_replay` meets its contract: the answer of `cut_replay::replay`, told. Assumes nothing.
 use borrow.Author.Needs.{needs}
 use Rattle.nuthatchet.proofs.Ways.{tells}
 use Rattle.nuthatchet.proofs.nuthatchet_replay.Statement.{statement}

@@ -1,4 +1,4 @@
--- `nuthatchet::nuthatchet_verdict` meets its contract: the ruling of `resist::verdict`, told, and a failing list has a pair. Assumes nothing.
+-- `nuthatchet::nuthatchet_verdict` meets its contract: the ruling of `verdicts::verdict`, told, and a failing list has a pair. Assumes nothing.
 use borrow.Author.Needs.{needs}
 use Rattle.nuthatchet.proofs.Rulings.{tells-ruling}
 use Rattle.nuthatchet.proofs.nuthatchet_verdict.Statement.{statement}

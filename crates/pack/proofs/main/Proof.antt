@@ -3,7 +3,7 @@ use mathlib.Core.Path.{sym}
 use borrow.Author.Needs.{needs}
 use lib.Seq.{length-take-le}
 use Rattle.plan.proofs.Reading.{write-fit}
-use Rattle.files.proofs.Fits.{bytes-came}
+use Rattle.program_io.proofs.Fits.{bytes-came}
 use Rattle.pack.proofs.main.Statement.{statement}
 use Rattle.pack.proofs.main.Tie as tie
 

@@ -1,6 +1,6 @@
 -- `pack::packed` meets its contract: it packs what came.
 use borrow.Author.Needs.{needs}
-use Rattle.files.proofs.Fits.{came-whole}
+use Rattle.program_io.proofs.Fits.{came-whole}
 use Rattle.pack.proofs.packed.Statement.{statement}
 use Rattle.pack.proofs.packed.Tie as tie
 

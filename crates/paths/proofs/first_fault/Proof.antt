@@ -5,7 +5,7 @@ use native.Mathlib.Omega.{arith}
 use borrow.Author.Needs.{needs}
 use lib.ListN.{length}
 use Rattle.scope.specs.Plan.{planOf}
-use Rattle.view.proofs.Parts.{link-count}
+use Rattle.rows.proofs.Parts.{link-count}
 use Rattle.paths.proofs.Laws.{to-small}
 use Rattle.paths.proofs.Walk as law
 use Rattle.paths.proofs.Walk.{Walking}

@@ -1,7 +1,7 @@
 -- `plan::read_file` meets its contract: the form of the file comes first, then what `accept` says of its row. Assumes nothing.
 use mathlib.Core.Path.{sym, _∙_, ap}
 use lib.ListN.{length}
-use Rattle.flow.proofs.Theorems.{unpacked-row}
+use Rattle.forms.proofs.Theorems.{unpacked-row}
 use borrow.Author.Needs.{needs}
 use Rattle.plan.proofs.Ways as law
 use Rattle.plan.proofs.read_file.Statement.{statement}

@@ -1,6 +1,6 @@
 -- `replay::main` is safe: what is printed is the text of what came, in whole buffers.
 use borrow.Author.Needs.{needs}
-use Rattle.files.proofs.Fits.{bytes-came}
+use Rattle.program_io.proofs.Fits.{bytes-came}
 use Rattle.replay.proofs.main.Statement.{statement}
 use Rattle.replay.proofs.main.Tie as tie
 

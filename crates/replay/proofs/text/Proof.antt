@@ -1,6 +1,6 @@
 -- `replay::text` meets its contract: what came prints what the whole file and the whole input print.
 use borrow.Author.Needs.{needs}
-use Rattle.files.proofs.Fits.{came-whole}
+use Rattle.program_io.proofs.Fits.{came-whole}
 use Rattle.replay.proofs.Program.{given, refuses}
 use Rattle.replay.proofs.text.Statement.{statement}
 use Rattle.replay.proofs.text.Tie as tie

@@ -1,6 +1,6 @@
 -- `row::text` meets its contract: what came prints what the whole file prints.
 use borrow.Author.Needs.{needs}
-use Rattle.files.proofs.Fits.{came-whole}
+use Rattle.program_io.proofs.Fits.{came-whole}
 use Rattle.row.proofs.Program.{given, refuses}
 use Rattle.row.proofs.text.Statement.{statement}
 use Rattle.row.proofs.text.Tie as tie

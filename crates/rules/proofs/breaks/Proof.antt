@@ -4,7 +4,7 @@ use mathlib.Core.Path.{_∙_, sym, ap}
 use native.Mathlib.Omega.{arith}
 use lib.ListN.{length, getD}
 use Rattle.scope.specs.Plan.{planOf}
-use Rattle.broken.specs.Broken.{brokenPath, brokenSlots, brokenSeconds}
+use Rattle.faults.specs.Broken.{brokenPath, brokenSlots, brokenSeconds}
 use Rattle.rules.proofs.Below.{taken-is}
 use Rattle.rules.proofs.Laws as law
 use Rattle.rules.proofs.breaks.Statement.{statement}

@@ -2,7 +2,7 @@
 use mathlib.Core.Path.{_∙_, sym}
 use borrow.Author.Needs.{needs}
 use Rattle.scope.specs.Plan.{planOf}
-use Rattle.view.proofs.Parts.{link-count, message-count}
+use Rattle.rows.proofs.Parts.{link-count, message-count}
 use Rattle.rules.proofs.Laws as law
 use Rattle.rules.proofs.count_for.Statement.{statement}
 use Rattle.rules.proofs.count_for.Tie as tie

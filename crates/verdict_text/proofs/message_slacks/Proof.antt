@@ -5,7 +5,7 @@ use native.Mathlib.Omega.{arith}
 use lib.ListN.{drop}
 use Rattle.scope.specs.Plan.{planOf, pathOf}
 use Rattle.scope.specs.Lines.{messageSlacks}
-use Rattle.view.proofs.Walked.{walked}
+use Rattle.rows.proofs.Walked.{walked}
 use Rattle.text.proofs.Laid.{Left, left-first, left-is, left-told, left-more, left-done, left-same}
 use Rattle.verdict_text.proofs.Slacks.{places-more, places-done, counted, counted-all}
 use Rattle.verdict_text.proofs.message_slacks.Statement.{statement}

@@ -1,0 +1,140 @@
+-- The loops that fill the tables from their ends: from index k on they are done.
+use Prim.Native.Nat.{ℕ, zero, suc, _+_, _-_, _*_, _/_, _%_, _≤_, _<_}
+use native.Mathlib.Omega.{arith}
+use mathlib.Core.Path.{_≡_, refl, sym, _∙_, ap, ap₂}
+use mathlib.Core.Bool.{Bool, true, false}
+use mathlib.Core.List.{List}
+use lib.ListN.{length, getD, set, length-set, List·getD-eq-default}
+use lib.Seq.{getD-set-same, getD-set-other}
+use lib.Dec.{ltb, eqb}
+use borrow.Author.Tests.{eqb-true, eqb-false, lt-ltb}
+use Rattle.scope.specs.Limits.{mostSlots, mostLinks, tableSize}
+use Rattle.table.specs.Table.{entryAt}
+use Rattle.bound.specs.Sums.{sumOf, oneIf}
+use Rattle.bound.specs.Touch.{touchedIn}
+use Rattle.bound.specs.Weights.{entriesFrom, below, Weighs, Tops}
+use Rattle.bound.proofs.Sums.{sum-le, sum-same, sum-first, sum-ones}
+
+from-more : (table : List ℕ) (s e : ℕ) → s < mostSlots → entriesFrom table s e ≡ oneIf (ltb 0 (entryAt table s e)) + entriesFrom table (s + 1) e
+from-more table s e h =
+    let n : mostSlots - s ≡ suc (mostSlots - (s + 1)) = omega arith in
+    let z : s + 0 ≡ s = omega arith in
+    ap (λ (n : ℕ). touchedIn (entryAt table) n s e) n ∙ sum-first (λ i. oneIf (ltb 0 (entryAt table (s + i) e))) (mostSlots - (s + 1)) ∙
+    ap₂ _+_ (ap (λ (i : ℕ). oneIf (ltb 0 (entryAt table i e))) z)
+    (sum-same (λ i. oneIf (ltb 0 (entryAt table (s + suc i) e))) (λ i. oneIf (ltb 0 (entryAt table (s + 1 + i) e))) (mostSlots - (s + 1))
+    (λ i l. let t : s + suc i ≡ s + 1 + i = omega arith in ap (λ (j : ℕ). oneIf (ltb 0 (entryAt table j e))) t))
+
+below-more : (table : List ℕ) (k : ℕ) → k < tableSize →
+    below table k ≡ oneIf (ltb 0 (entryAt table (k / mostLinks) (k % mostLinks))) + below table (k + mostLinks)
+below-more table k h =
+    let s : k / mostLinks + 1 ≡ (k + mostLinks) / mostLinks = omega arith in
+    let e : k % mostLinks ≡ (k + mostLinks) % mostLinks = omega arith in
+    from-more table (k / mostLinks) (k % mostLinks) (omega arith) ∙
+    ap (λ (n : ℕ). oneIf (ltb 0 (entryAt table (k / mostLinks) (k % mostLinks))) + n) (ap₂ (entriesFrom table) s e)
+
+below-past : (table : List ℕ) (k : ℕ) → tableSize ≤ k → below table k ≡ 0
+unfolding sumOf
+below-past table k h =
+    let e : mostSlots - k / mostLinks ≡ zero = omega arith in
+    ap (λ (n : ℕ). touchedIn (entryAt table) n (k / mostLinks) (k % mostLinks)) e
+
+at-most-one : (b : Bool) → oneIf b ≤ 1
+at-most-one true = omega arith
+at-most-one false = omega arith
+
+below-small : (table : List ℕ) (k : ℕ) → below table k ≤ mostSlots
+below-small table k =
+    let s = k / mostLinks in
+    let e = k % mostLinks in
+    let less = sum-le (λ i. oneIf (ltb 0 (entryAt table (s + i) e))) (λ i. 1) (mostSlots - s) (λ i l. at-most-one (ltb 0 (entryAt table (s + i) e))) in
+    omega (arith, less, sum-ones (mostSlots - s))
+
+pub record Weighing (table weights : List ℕ) (k : ℕ) : Type 0 where
+  pub few : k ≤ tableSize
+  pub long : length weights ≡ tableSize
+  pub is : (j : ℕ) → k ≤ j → getD weights j 0 ≡ below table j
+
+pub weighing-none : (table weights : List ℕ) → length weights ≡ tableSize → Weighing table weights tableSize
+weighing-none table weights l =
+    record {
+      few = omega arith;
+      long = l;
+      is = λ j h. List·getD-eq-default weights 0 (omega arith) ∙ sym (below-past table j h);
+    }
+
+module _ (table weights : List ℕ) (k : ℕ) (g : Weighing table weights k) where
+  pub weighing-small : (j : ℕ) → k ≤ j → getD weights j 0 ≤ mostSlots
+  weighing-small j h = omega (arith, g .is j h, below-small table j)
+
+  put : (v : ℕ) → 0 < k → v ≡ oneIf (ltb 0 (entryAt table ((k - 1) / mostLinks) ((k - 1) % mostLinks))) + getD weights (k - 1 + mostLinks) 0 → Weighing table (set weights (k - 1) v) (k - 1)
+  put v h e =
+      record {
+        few = omega (arith, g .few);
+        long = length-set weights (k - 1) v ∙ g .long;
+        is = λ j l. by j l (eqb j (k - 1)) refl;
+      }
+    where
+      here : v ≡ below table (k - 1)
+      here = e ∙ ap (λ (n : ℕ). oneIf (ltb 0 (entryAt table ((k - 1) / mostLinks) ((k - 1) % mostLinks))) + n) (g .is (k - 1 + mostLinks) (omega arith)) ∙ sym (below-more table (k - 1) (omega (arith, g .few)))
+
+      by : (j : ℕ) → k - 1 ≤ j → (b : Bool) → eqb j (k - 1) ≡ b → getD (set weights (k - 1) v) j 0 ≡ below table j
+      by j l true b =
+          let same : j ≡ k - 1 = eqb-true j (k - 1) b in
+          rw same (getD-set-same weights (k - 1) v 0 (omega (arith, g .few, g .long)) ∙ here)
+      by j l false b =
+          let other : j ≡ k - 1 → ⊥ = eqb-false j (k - 1) b in
+          getD-set-other weights (k - 1) j v 0 other ∙ g .is j (omega (arith, other))
+
+  pub weighing-zero : (v : ℕ) → 0 < k → entryAt table ((k - 1) / mostLinks) ((k - 1) % mostLinks) ≡ 0 → v ≡ getD weights (k - 1 + mostLinks) 0 → Weighing table (set weights (k - 1) v) (k - 1)
+  weighing-zero v h e f = put v h (rw e (omega arith))
+
+  pub weighing-one : (v : ℕ) → 0 < k → (entryAt table ((k - 1) / mostLinks) ((k - 1) % mostLinks) ≡ 0 → ⊥) → v ≡ getD weights (k - 1 + mostLinks) 0 → Weighing table (set weights (k - 1) (v + 1)) (k - 1)
+  weighing-one v h e f =
+      let some : 0 < entryAt table ((k - 1) / mostLinks) ((k - 1) % mostLinks) = omega (arith, e) in
+      put (v + 1) h (rw (lt-ltb 0 (entryAt table ((k - 1) / mostLinks) ((k - 1) % mostLinks)) some) (omega arith))
+
+  pub weighing-done : k ≤ 0 → Weighs table weights
+  weighing-done h = record { long = g .long; is = λ j l. g .is j (omega arith) }
+
+pub record Topping (weights most : List ℕ) (top k : ℕ) : Type 0 where
+  pub few : k ≤ tableSize
+  pub long : length most ≡ mostSlots
+  pub all : (j : ℕ) → k ≤ j → getD weights j 0 ≤ top
+  pub tops : (s j : ℕ) → k ≤ s * mostLinks → s * mostLinks ≤ j → getD weights j 0 ≤ getD most s 0
+
+pub topping-none : (weights most : List ℕ) → length weights ≡ tableSize → length most ≡ mostSlots → Topping weights most 0 tableSize
+topping-none weights most l m =
+    record {
+      few = omega arith;
+      long = m;
+      all = λ j h. omega (arith, none j h);
+      tops = λ s j h i. omega (arith, none j (omega arith));
+    }
+  where
+    none : (j : ℕ) → tableSize ≤ j → getD weights j 0 ≡ 0
+    none j h = List·getD-eq-default weights 0 (omega arith)
+
+module _ (weights most : List ℕ) (top k : ℕ) (g : Topping weights most top k) where
+  pub topping-more : (v : ℕ) → 0 < k → top ≤ v → getD weights (k - 1) 0 ≤ v → Topping weights (set most ((k - 1) / mostLinks) v) v (k - 1)
+  topping-more v h a b =
+      record {
+        few = omega (arith, g .few);
+        long = length-set most ((k - 1) / mostLinks) v ∙ g .long;
+        all = λ j l. all j l (eqb j (k - 1)) refl;
+        tops = λ s j l i. by s j l i (eqb s ((k - 1) / mostLinks)) refl;
+      }
+    where
+      all : (j : ℕ) → k - 1 ≤ j → (t : Bool) → eqb j (k - 1) ≡ t → getD weights j 0 ≤ v
+      all j l true e = rw (eqb-true j (k - 1) e) b
+      all j l false e = omega (arith, eqb-false j (k - 1) e, g .all j (omega (arith, eqb-false j (k - 1) e)))
+
+      by : (s j : ℕ) → k - 1 ≤ s * mostLinks → s * mostLinks ≤ j → (t : Bool) → eqb s ((k - 1) / mostLinks) ≡ t → getD weights j 0 ≤ getD (set most ((k - 1) / mostLinks) v) s 0
+      by s j l i true e =
+          let same : s ≡ (k - 1) / mostLinks = eqb-true s ((k - 1) / mostLinks) e in
+          rw (same, getD-set-same most ((k - 1) / mostLinks) v 0 (omega (arith, g .few, g .long))) (all j (omega arith) (eqb j (k - 1)) refl)
+      by s j l i false e =
+          let other : s ≡ (k - 1) / mostLinks → ⊥ = eqb-false s ((k - 1) / mostLinks) e in
+          rw (getD-set-other most ((k - 1) / mostLinks) s v 0 other) (g .tops s j (omega (arith, other)) i)
+
+  pub topping-done : k ≤ 0 → Tops weights most
+  topping-done h = record { long = g .long; later = λ s i e a b c. g .tops s (i * mostLinks + e) (omega arith) (omega arith) }

@@ -1,0 +1,59 @@
+-- `bound::mark` meets its contract: the slots before slot i are marked.
+use Prim.Native.Nat.{_-_}
+use native.Mathlib.Omega.{arith}
+use Rattle.scope.specs.Limits.{mostSlots}
+use Rattle.bound.proofs.Marking.{Marking, marking-none, marking-more, marking-done}
+use borrow.Author.Needs.{needs}
+use Rattle.bound.proofs.mark.Statement.{statement}
+use Rattle.bound.proofs.mark.Tie as tie
+
+abbrev Inv-loop : tie.InvT-loop
+Inv-loop table s e marks₀ i₀ marks i = Marking table s e marks₀ marks i
+
+abbrev μ-loop : tie.MeasureT-loop
+μ-loop table s e marks₀ i₀ marks i = mostSlots - i
+
+loop-holds : tie.Need-loop-holds Inv-loop μ-loop
+loop-holds c = marking-none _ _ _ _ (c .before .before .pre)
+
+entry-requires : tie.Need-entry-requires Inv-loop μ-loop
+entry-requires c κs = search needs
+
+cast-w : tie.Need-cast-w Inv-loop μ-loop
+cast-w c = omega (arith, c .entry .ok)
+
+slice-write-marks : tie.Need-slice-write-marks Inv-loop μ-loop
+slice-write-marks c = omega (arith, c .entry .ok, c .before .before .loop .inv .long)
+
+add-i : tie.Need-add-i Inv-loop μ-loop
+add-i c = search needs
+
+loop-less : tie.Need-loop-less Inv-loop μ-loop
+loop-less c = search needs
+
+loop-again : tie.Need-loop-again Inv-loop μ-loop
+loop-again c =
+    marking-more _ _ _ _ (c .before .before .before .before .before .pre) _ _ (c .before .before .loop .inv) _
+    (c .before .loop-test .taken) (omega (arith, c .entry .ok)) (c .entry .ensures)
+
+same-length : tie.Need-same-length Inv-loop μ-loop
+same-length c = search needs
+
+returns : tie.Need-returns Inv-loop μ-loop
+returns c = marking-done _ _ _ _ (c .before .before .before .before .pre) _ _ (c .before .loop .inv) (c .loop-test .left)
+
+pub mark-spec : {M : Type 1} → statement M
+mark-spec =
+    tie.close
+    (tie.spec
+    Inv-loop
+    μ-loop
+    loop-holds
+    entry-requires
+    cast-w
+    slice-write-marks
+    add-i
+    loop-less
+    loop-again
+    same-length
+    returns)

@@ -1,0 +1,47 @@
+-- "a list loses no more messages than it touches", counted as a set and from a time on: what a list can still lose at time s are the
+-- messages that its pairs touch and that are not at their targets, and those that later pairs touch.
+use Prim.Native.Nat.{ℕ, _+_, _-_, _*_, _≤_, _<_}
+use mathlib.Core.Path.{_≡_}
+use mathlib.Core.Bool.{Bool, not, _&&_}
+use mathlib.Core.List.{List, _++_}
+use lib.ListN.{length}
+use lib.Dec.{ltb, eqb}
+use Rattle.scope.specs.Outcome.{gives}
+use Rattle.scope.specs.Plan.{Plan}
+use Rattle.scope.specs.Good.{rules}
+use Rattle.scope.specs.Slot.{Position, atTarget}
+use Rattle.scope.specs.Cuts.{pairs, cutSlot, isCut}
+use Rattle.scope.specs.Cycle.{orderOf, tableOf, start, positions, arrivals}
+use Rattle.laws.specs.Message.{positionOf}
+use Rattle.bound.specs.Sums.{sumOf, oneIf}
+use Rattle.bound.specs.Touch.{harm, touches}
+
+-- in how many of n slots from slot s on the table gives link e to message m
+abbrev pub hersIn : (ℕ → ℕ → ℕ) → ℕ → ℕ → ℕ → ℕ → ℕ
+hersIn owner n m s e = sumOf (λ i. oneIf (eqb (owner (s + i) e) (m + 1))) n
+
+-- and in the plan's slots
+abbrev pub hers : Plan → ℕ → ℕ → ℕ → ℕ
+hers plan m s e = hersIn (tableOf plan) (plan .timeout - s) m s e
+
+-- a pair of the list touches message m
+abbrev pub isTouched : Plan → List ℕ → ℕ → Bool
+isTouched plan cuts m = ltb 0 (harm (hers plan m) cuts (pairs cuts))
+
+-- where message m stands at time s
+abbrev pub stands : Plan → List ℕ → ℕ → ℕ → Position
+stands plan cuts s m = positionOf m (positions (orderOf plan) (isCut plan cuts) (tableOf plan) 0 s (start plan))
+
+-- how many messages the list touches that are not at their targets at time s
+abbrev pub harmed : Plan → List ℕ → ℕ → ℕ
+harmed plan cuts s = sumOf (λ m. oneIf (isTouched plan cuts m && not (atTarget (stands plan cuts s m)))) (length (plan .messages))
+
+-- no pair is in a slot before s
+abbrev pub NotBefore : ℕ → List ℕ → ℕ → Type 0
+NotBefore s cuts n = (j : ℕ) → j < n → s ≤ cutSlot cuts j
+
+-- a list that goes on from slot s or later loses no more messages than its first part harms at time s and its later pairs touch
+abbrev pub LosesNoMoreFrom : Type 0
+LosesNoMoreFrom =
+    (plan : Plan) (pre x : List ℕ) (d n s : ℕ) → rules plan ≡ gives 0 → s ≤ plan .timeout → length pre ≡ 2 * d → length x ≡ 2 * n → NotBefore s x n →
+    length (plan .messages) ≤ arrivals plan (pre ++ x) + (harmed plan pre s + harm (touches plan) x n)

@@ -1,0 +1,30 @@
+-- "a list loses no more messages than it touches": a pair touches the messages that have its link before them in its slot or later.
+use Prim.Native.Nat.{ℕ, _+_, _-_, _*_, _≤_}
+use mathlib.Core.Path.{_≡_}
+use mathlib.Core.List.{List}
+use lib.ListN.{length}
+use lib.Dec.{ltb}
+use Rattle.scope.specs.Outcome.{gives}
+use Rattle.scope.specs.Plan.{Plan}
+use Rattle.scope.specs.Good.{rules}
+use Rattle.scope.specs.Cuts.{cutSlot, cutLink}
+use Rattle.scope.specs.Cycle.{tableOf, arrivals}
+use Rattle.bound.specs.Sums.{sumOf, oneIf}
+
+-- the weight of the first n pairs of a list
+abbrev pub harm : (ℕ → ℕ → ℕ) → List ℕ → ℕ → ℕ
+harm weight cuts n = sumOf (λ j. weight (cutSlot cuts j) (cutLink cuts j)) n
+
+-- how many messages the table gives link e in the n slots from slot s on: a good table gives each slot and link to one message at most
+abbrev pub touchedIn : (ℕ → ℕ → ℕ) → ℕ → ℕ → ℕ → ℕ
+touchedIn owner n s e = sumOf (λ i. oneIf (ltb 0 (owner (s + i) e))) n
+
+-- a pair touches those of its slot and every later one of the plan
+abbrev pub touches : Plan → ℕ → ℕ → ℕ
+touches plan s e = touchedIn (tableOf plan) (plan .timeout - s) s e
+
+-- a list loses no more messages than it touches
+abbrev pub LosesNoMore : Type 0
+LosesNoMore =
+    (plan : Plan) (cuts : List ℕ) (n : ℕ) → rules plan ≡ gives 0 → length cuts ≡ 2 * n →
+    length (plan .messages) ≤ arrivals plan cuts + harm (touches plan) cuts n

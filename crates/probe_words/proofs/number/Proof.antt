@@ -1,0 +1,42 @@
+-- `probe_words::number` meets its contract: one law for each way.
+use borrow.Author.Needs.{needs}
+use Rattle.probe_words.proofs.Found.{number-past, number-other, number-none, number-found}
+use Rattle.probe_words.proofs.number.Statement.{statement}
+use Rattle.probe_words.proofs.number.Tie as tie
+
+returns : tie.Need-returns
+returns c = number-past _ _ (c .if1 .taken)
+
+byte-requires : tie.Need-byte-requires
+byte-requires c κs = search needs
+
+returns-2 : tie.Need-returns-2
+returns-2 c = number-other _ _ _ (c .before .byte .ensures .is) (c .if2 .taken)
+
+add-number-at : tie.Need-add-number-at
+add-number-at c = search needs
+
+number-at-requires : tie.Need-number-at-requires
+number-at-requires c κs = search needs
+
+add-if3 : tie.Need-add-if3
+add-if3 c = search needs
+
+returns-3 : tie.Need-returns-3
+returns-3 c = number-none _ _ _ (c .before .before .before .before .byte .ensures .is) _ (c .before .before .number-at .ensures) (c .if3 .taken)
+
+returns-4 : tie.Need-returns-4
+returns-4 c = number-found _ _ _ (c .before .before .before .before .byte .ensures .is) _ (c .before .before .number-at .ensures) (c .before .before .before .before .before .if1 .left) (c .before .before .before .if2 .left) (c .if3 .left)
+
+pub number-spec : {M : Type 1} → statement M
+number-spec =
+    tie.close
+    (tie.spec
+    returns
+    byte-requires
+    returns-2
+    add-number-at
+    number-at-requires
+    add-if3
+    returns-3
+    returns-4)

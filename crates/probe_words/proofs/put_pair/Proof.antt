@@ -1,0 +1,33 @@
+-- `probe_words::put_pair` meets its contract.
+use borrow.Author.Needs.{needs}
+use Rattle.probe_words.proofs.put_pair.Statement.{statement}
+use Rattle.probe_words.proofs.put_pair.Tie as tie
+
+glyph-requires : tie.Need-glyph-requires
+glyph-requires c κs = search needs
+
+glyph-requires-2 : tie.Need-glyph-requires-2
+glyph-requires-2 c κs = search needs
+
+slice-aggregate-put-word : tie.Need-slice-aggregate-put-word
+slice-aggregate-put-word c = search needs
+
+put-word-requires : tie.Need-put-word-requires
+put-word-requires c κs = rw (c .before .before .glyph .ensures, c .before .glyph2 .ensures) (c .before .before .before .before .before .pre)
+
+same-length : tie.Need-same-length
+same-length c = search needs
+
+returns : tie.Need-returns
+returns c = rw (c .before .before .before .before .before .glyph .ensures, c .before .before .before .before .glyph2 .ensures) at (c .before .before .put-word .ensures)
+
+pub put-pair-spec : {M : Type 1} → statement M
+put-pair-spec =
+    tie.close
+    (tie.spec
+    glyph-requires
+    glyph-requires-2
+    slice-aggregate-put-word
+    put-word-requires
+    same-length
+    returns)

@@ -1,0 +1,54 @@
+-- `probe_words::put_pairs` meets its contract: what the loop has left of the bytes is still to be laid from `next` on.
+use Prim.Native.Nat.{_-_, _≤_}
+use borrow.Author.Needs.{needs}
+use lib.ListN.{length, drop}
+use Rattle.text.proofs.Laid.{Left, left-first, left-is, left-told, left-more, left-done, left-same}
+use Rattle.probe_words.specs.Words.{pairsOf}
+use Rattle.probe_words.proofs.Parts.{pairs-more, pairs-done}
+use Rattle.probe_words.proofs.put_pairs.Statement.{statement}
+use Rattle.probe_words.proofs.put_pairs.Tie as tie
+
+abbrev Inv-loop : tie.InvT-loop
+Inv-loop out₀ at bytes next₀ i₀ out next i = (i ≤ length bytes) × Left (pairsOf bytes) out₀ at (pairsOf (drop i bytes)) out next
+
+abbrev μ-loop : tie.MeasureT-loop
+μ-loop out₀ at bytes next₀ i₀ out next i = length bytes - i
+
+loop-holds : tie.Need-loop-holds Inv-loop μ-loop
+loop-holds c = (search needs, left-first _ _ _)
+
+shared-slice-read-put-pair : tie.Need-shared-slice-read-put-pair Inv-loop μ-loop
+shared-slice-read-put-pair c = search needs
+
+put-pair-requires : tie.Need-put-pair-requires Inv-loop μ-loop
+put-pair-requires c κs = left-told _ _ (c .before .before .before .before .before .before .pre) (left-is (pairs-more _ _ (c .before .before .loop-test .taken)) (c .before .before .before .loop .inv .1))
+
+add-i : tie.Need-add-i Inv-loop μ-loop
+add-i c = search needs
+
+loop-less : tie.Need-loop-less Inv-loop μ-loop
+loop-less c = search needs
+
+loop-again : tie.Need-loop-again Inv-loop μ-loop
+loop-again c = (search needs, left-more (left-is (pairs-more _ _ (c .before .before .before .before .before .loop-test .taken)) (c .before .before .before .before .before .before .loop .inv .1)) (c .before .before .put-pair .ensures))
+
+same-length : tie.Need-same-length Inv-loop μ-loop
+same-length c = left-same (c .before .loop .inv .1)
+
+returns : tie.Need-returns Inv-loop μ-loop
+returns c = left-done (left-is (pairs-done _ _ (c .loop-test .left)) (c .before .loop .inv .1))
+
+pub put-pairs-spec : {M : Type 1} → statement M
+put-pairs-spec =
+    tie.close
+    (tie.spec
+    Inv-loop
+    μ-loop
+    loop-holds
+    shared-slice-read-put-pair
+    put-pair-requires
+    add-i
+    loop-less
+    loop-again
+    same-length
+    returns)

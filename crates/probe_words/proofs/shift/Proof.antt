@@ -1,0 +1,73 @@
+-- `probe_words::shift` meets its contract: the loop reads in front of what it has written.
+use Prim.Native.Nat.{_-_, _+_, _≤_}
+use mathlib.Core.Path.{_≡_, refl}
+use native.Mathlib.Omega.{arith}
+use borrow.Author.Needs.{needs}
+use lib.ListN.{length}
+use Rattle.probe_words.proofs.Parts.{Moving, moving-first, moving-more, moved, puts-none, part-none, part-long}
+use Rattle.probe_words.proofs.shift.Statement.{statement}
+use Rattle.probe_words.proofs.shift.Tie as tie
+
+abbrev Inv-loop : tie.InvT-loop
+Inv-loop s₀ from to n i₀ s i = (n ≡ to - from) × (from + n ≤ length s₀) × (length s ≡ length s₀) × Moving n from s₀ s i
+
+abbrev μ-loop : tie.MeasureT-loop
+μ-loop s₀ from to n i₀ s i = n - i
+
+returns : tie.Need-returns Inv-loop μ-loop
+returns c = let a = c .before .args in puts-none _ _ (part-none (a .s .now) (a .from) (a .to) (c .if1 .taken))
+
+returns-2 : tie.Need-returns-2 Inv-loop μ-loop
+returns-2 c = let a = c .before .before .args in let h = c .before .if1 .left in puts-none _ _ (part-long (a .s .now) (a .from) (a .to) (omega arith) (c .if2 .taken))
+
+sub-n : tie.Need-sub-n Inv-loop μ-loop
+sub-n c = search needs
+
+loop-holds : tie.Need-loop-holds Inv-loop μ-loop
+loop-holds c = (search needs, search needs, refl, moving-first _ _ _ (omega arith))
+
+add-s : tie.Need-add-s Inv-loop μ-loop
+add-s c = search needs
+
+slice-read-s : tie.Need-slice-read-s Inv-loop μ-loop
+slice-read-s c = search needs
+
+slice-write-s : tie.Need-slice-write-s Inv-loop μ-loop
+slice-write-s c = search needs
+
+add-i : tie.Need-add-i Inv-loop μ-loop
+add-i c = search needs
+
+loop-less : tie.Need-loop-less Inv-loop μ-loop
+loop-less c = search needs
+
+loop-again : tie.Need-loop-again Inv-loop μ-loop
+loop-again c =
+    let l = c .before .before .loop in
+    let m = moving-more _ _ _ (l .inv .1) _ _ (c .before .loop-test .taken) (l .inv .3) in
+    (l .inv .0, l .inv .1, m .same, m)
+
+same-length : tie.Need-same-length Inv-loop μ-loop
+same-length c = c .before .loop .inv .2
+
+returns-3 : tie.Need-returns-3 Inv-loop μ-loop
+returns-3 c = let l = c .before .loop in moved _ _ _ _ _ _ (c .before .before .before .if1 .left) (c .before .before .if2 .left) (l .inv .0) (c .loop-test .left) (l .inv .3)
+
+pub shift-spec : {M : Type 1} → statement M
+shift-spec =
+    tie.close
+    (tie.spec
+    Inv-loop
+    μ-loop
+    returns
+    returns-2
+    sub-n
+    loop-holds
+    add-s
+    slice-read-s
+    slice-write-s
+    add-i
+    loop-less
+    loop-again
+    same-length
+    returns-3)

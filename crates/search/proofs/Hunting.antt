@@ -1,0 +1,118 @@
+-- The loop over the number of pairs.
+use Prim.Native.Nat.{ℕ, _+_, _*_, _≤_, _<_}
+use native.Mathlib.Omega.{arith}
+use mathlib.Core.Path.{_≡_, refl, sym, _∙_, ap, subst}
+use mathlib.Core.Bool.{Bool, true, false, true≢false}
+use mathlib.Core.List.{List, []}
+use lib.ListN.{length, take}
+use lib.Dec.{ltb}
+use borrow.Author.Tests.{ltb-true, ltb-false}
+use Rattle.scope.specs.Limits.{mostLinks, mostCuts}
+use Rattle.scope.specs.Plan.{planOf}
+use Rattle.scope.specs.Cuts.{pairs}
+use Rattle.scope.specs.Cycle.{arrivals}
+use Rattle.laws.proofs.Cuts.{no-cuts}
+use Rattle.step.specs.declared.Standing.{Standing}
+use Rattle.bound.specs.Marks.{Marks}
+use Rattle.search.specs.declared.Asked.{Asked}
+use Rattle.search.specs.declared.Picked.{Picked}
+use Rattle.search.specs.declared.Found.{Found}
+use Rattle.search.specs.declared.Hunted.{Hunted}
+use Rattle.order.specs.Search.{NoneOf}
+use Rattle.bound.specs.Bound.{Fails}
+use Rattle.search.specs.Hunt.{cutsOf, noPair, Seeks, noHunted, Holding, MaySeek, Sought, MayHunt, Hunts}
+use Rattle.search.specs.Risk.{MayMarkPicked}
+use Rattle.order.proofs.Pairs.{is-cut-list}
+use Rattle.search.proofs.Answer.{first-failing}
+use Rattle.search.proofs.Risk.{noughts, may-mark-picked}
+
+holding-none : (row : List ℕ) (a : Asked) → Holding row a noPair
+holding-none row a =
+    record {
+      long = refl;
+      slot = omega arith;
+      link = omega arith;
+      chosen =
+          record {
+            long = refl;
+            good = is-cut-list (planOf row) [] (λ i h. absurd (omega arith));
+            none = λ e. refl;
+            next = λ j e. absurd (omega arith);
+          };
+      size = refl;
+      down = λ i e h. ap (ltb 0) (noughts mostLinks e) ∙ sym (ap (λ (f : ℕ → ℕ → Bool). f i e) (no-cuts (planOf row)));
+      past = λ i h. noughts (2 * mostCuts) i;
+    }
+
+-- nothing is found
+pub hunts-none : (row : List ℕ) (l k : ℕ) (h : Hunted) → h ≡ noHunted → ((i : ℕ) → i < k + 1 → NoneOf (planOf row) (Fails (planOf row) l) [] i) →
+    Hunts row l k h
+hunts-none row l k h is all =
+    let t : h .found ≡ false = ap (λ (x : Hunted). x .found) is in
+    let none : h .pairs ≡ 0 = ap (λ (x : Hunted). x .pairs) is in
+    record {
+      long = ap (λ (x : Hunted). length (x .numbers)) is;
+      few = omega arith;
+      none = λ z. (is, all);
+      some = λ z. absurd (true≢false (sym z ∙ t));
+      left = λ z. absurd (true≢false (sym z ∙ t));
+      past = λ z. absurd (true≢false (sym z ∙ t));
+      fewer = λ z. absurd (true≢false (sym z ∙ t));
+    }
+
+-- no list of fewer than n pairs answers
+pub record Hunting (row : List ℕ) (a : Asked) (low k n : ℕ) : Type 0 where
+  pub within : n ≤ k + 1
+  pub leave : (i : ℕ) → i < n → NoneOf (planOf row) (Seeks row a) [] i
+
+module _ (row table weights most : List ℕ) (a : Asked) (ps : Standing) (low k : ℕ) (m : MayHunt row table weights most a ps low k) where
+  pub hunt-first : Hunting row a low k low
+  hunt-first = record { within = m .within; leave = m .before }
+
+  pub may-mark-none : (p : Picked) → p ≡ noPair → MayMarkPicked p
+  may-mark-none p is =
+      rw is (may-mark-picked row table a noPair (m .ready .play) (holding-none row a) (omega arith))
+
+  pub may-seek : (n : ℕ) (p : Picked) (marks : List ℕ) → n ≤ k → p ≡ noPair → Marks table (cutsOf p) marks → MaySeek row table weights most marks a ps p n
+  may-seek n p marks h is marked =
+      record {
+        ready = m .ready;
+        holding = rw is (holding-none row a);
+        marked = marked;
+        stand = rw is (m .stand);
+        few = rw is (omega (arith, m .few));
+      }
+
+  module _ (n : ℕ) (g : Hunting row a low k n) (p : Picked) (r : Found) (is : p ≡ noPair) (f : Sought row a p n r) where
+    found : Sought row a noPair n r
+    found = rw is at f
+
+    same : 2 * (0 + n) ≡ 2 * n
+    same = omega arith
+
+    pub hunt-some : (h : Hunted) → n ≤ k → r .found ≡ true → h .found ≡ true → h .pairs ≡ n → h .arrivals ≡ r .arrivals → h .numbers ≡ r .numbers →
+        Hunts row (a .least) k h
+    hunt-some h few t u q v w =
+        record {
+          long = ap length w ∙ found .long;
+          few = omega arith;
+          none = λ z. absurd (true≢false (sym u ∙ z));
+          some = λ z.
+              rw (q, w)
+              (first-failing (planOf row) k (a .least) n (take (2 * n) (r .numbers)) few (g .leave) (rw same at (found .some t)));
+          left = λ z. v ∙ rw (q, w) (rw same at (found .left t));
+          past = λ z i l. rw w (found .past t i (omega arith));
+          fewer = λ z i l. g .leave i (omega arith);
+        }
+
+    pub hunt-on : n ≤ k → r .found ≡ false → Hunting row a low k (n + 1)
+    hunt-on few t = record { within = omega arith; leave = λ i l. by i l (ltb i n) refl }
+      where
+        by : (i : ℕ) → i < n + 1 → (b : Bool) → ltb i n ≡ b → NoneOf (planOf row) (Seeks row a) [] i
+        by i l true e = g .leave i (ltb-true i n e)
+        by i l false e =
+            let at : n ≡ i = omega (arith, ltb-false i n e) in
+            subst (λ (j : ℕ). NoneOf (planOf row) (Seeks row a) [] j) at (found .none t .1)
+
+  pub hunt-over : (n : ℕ) (h : Hunted) → Hunting row a low k n → k < n → h ≡ noHunted → Hunts row (a .least) k h
+  hunt-over n h g over is = hunts-none row (a .least) k h is (λ i l. g .leave i (omega arith))

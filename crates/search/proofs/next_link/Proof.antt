@@ -1,0 +1,45 @@
+-- `search::next_link` meets its contract: no link before i may be tried.
+use Prim.Native.Nat.{_-_, _≤_}
+use mathlib.Core.Path.{_≡_, refl, sym, _∙_}
+use borrow.Author.Needs.{needs}
+use Rattle.scope.specs.Lowest.{seek}
+use Rattle.scope.proofs.Lowest.{seek-found, seek-next, seek-done}
+use Rattle.search.specs.Hunt.{passes}
+use Rattle.search.proofs.next_link.Statement.{statement}
+use Rattle.search.proofs.next_link.Tie as tie
+
+abbrev Inv-loop : tie.InvT-loop
+Inv-loop down weights base need rest e links i₀ i =
+    (i ≤ links) × (seek (passes down weights base need rest) (links - i) i ≡ seek (passes down weights base need rest) (links - e) e)
+
+abbrev μ-loop : tie.MeasureT-loop
+μ-loop down weights base need rest e links i₀ i = links - i
+
+loop-holds : tie.Need-loop-holds Inv-loop μ-loop
+loop-holds c = (c .before .before .pre .0, refl)
+
+may-requires : tie.Need-may-requires Inv-loop μ-loop
+may-requires c κs = search needs
+
+returns : tie.Need-returns Inv-loop μ-loop
+returns c =
+    sym (seek-found _ _ _ (c .before .before .loop-test .taken) (sym (c .before .may .ensures) ∙ c .if1 .taken)) ∙
+    c .before .before .before .loop .inv .1
+
+add-i : tie.Need-add-i Inv-loop μ-loop
+add-i c = search needs
+
+loop-less : tie.Need-loop-less Inv-loop μ-loop
+loop-less c = search needs
+
+loop-again : tie.Need-loop-again Inv-loop μ-loop
+loop-again c =
+    (search needs, sym (seek-next _ _ _ (c .before .before .loop-test .taken) (sym (c .before .may .ensures) ∙ c .if1 .left)) ∙ c .before .before .before .loop .inv .1)
+
+returns-2 : tie.Need-returns-2 Inv-loop μ-loop
+returns-2 c = sym (seek-done _ _ _ (c .loop-test .left)) ∙ c .before .loop .inv .1
+
+pub next-link-spec : {M : Type 1} → statement M
+next-link-spec =
+    tie.close
+    (tie.spec Inv-loop μ-loop loop-holds may-requires returns add-i loop-less loop-again returns-2)

@@ -1,0 +1,115 @@
+// The verdict: whether every cut list of at most k pairs leaves at least l arrivals, and if not, the first list that does not.
+// `verdict` takes anything and asks nothing; `verdict_good` takes a row that is known to be good. It leans on `plan` for refusals 1 to
+// 10, on `search` for the search, and on `table`, `bound` and `cycle` for what the search is lent.
+use scope::Answer;
+use scope::Refusal;
+use scope::limits::SLOTS;
+use scope::limits::TABLE;
+use scope::refusal_at;
+use search::Asked;
+use search::Hunted;
+use step::Standing;
+ghost use Rattle.search.specs.Hunt.{Hunts};
+ghost use Rattle.plan.specs.Answers.{GoodRow};
+ghost use Rattle.verdicts.specs.Lent.{MayLend, Lent, MayAskOn};
+ghost use Rattle.verdicts.specs.Verdict.{Answered, MayAsk};
+
+pub enum Ruling {
+    Resistant,
+    Failing(usize),
+    Refused(Refusal),
+}
+
+// What the search is lent of a good row, its table and the weights, and what is asked, but for l.
+pub fn lend(row: &[u16], table: &mut [u8], weights: &mut [u16], most: &mut [u16]) -> Asked
+    requires { ⌜ MayLend (now row) (now table) (now weights) (now most) ⌝ }
+    ensures { λ r. ⌜ Lent (now (row .entry)) (now (table .exit)) (now (weights .exit)) (now (most .exit)) r ⌝ }
+{
+    table::fill_table(row, table);
+    bound::weigh(table, weights);
+    bound::tops(weights, most);
+    Asked {
+        timeout: rows::timeout(row),
+        links: rows::links(row),
+        messages: rows::messages(row),
+        least: 0,
+        need: 0,
+    }
+}
+
+// The first failing list for l, where lists of fewer than `low` pairs are known to leave l arrivals.
+pub fn ask(
+    row: &[u16],
+    table: &[u8],
+    weights: &[u16],
+    most: &[u16],
+    ps: Standing,
+    a: Asked,
+    l: usize,
+    low: usize,
+    k: usize,
+) -> Hunted
+    requires { ⌜ MayAskOn (now row) (now table) (now weights) (now most) ps a l low k ⌝ }
+    ensures { λ r. ⌜ Hunts (now (row .entry)) l k r ⌝ }
+{
+    if l == 0 {
+        return search::no_list();
+    }
+    let b = Asked {
+        timeout: a.timeout,
+        links: a.links,
+        messages: a.messages,
+        least: l,
+        need: bound::need(a.messages, l),
+    };
+    search::first_list(row, table, weights, most, b, ps, low, k)
+}
+
+// The first failing list of a row that may be asked about.
+fn decide(row: &[u16], k: usize, l: usize) -> Hunted
+    requires { ⌜ MayAsk (now row) k l ⌝ }
+    ensures { λ r. ⌜ Hunts (now (row .entry)) l k r ⌝ }
+{
+    let mut table = [0u8; TABLE];
+    let mut weights = [0u16; TABLE];
+    let mut most = [0u16; SLOTS];
+    let a = lend(row, &mut table, &mut weights, &mut most);
+    let ps = cycle::start_all(row, a.messages);
+    ask(row, &table, &weights, &most, ps, a, l, 0, k)
+}
+
+// The verdict on a good row: refusals 11 and 13, or the answer.
+pub fn verdict_good(row: &[u16], k: usize, l: usize, list: &mut [u16]) -> Ruling
+    requires { ⌜ GoodRow (now row) ⌝ }
+    ensures { λ r. ⌜ Answered (now (row .entry)) k l (now (list .entry)) (now (list .exit)) r ⌝ }
+{
+    if 3 < k {
+        return Ruling::Refused(refusal_at(11, 0));
+    }
+    if rows::messages(row) < l {
+        return Ruling::Refused(refusal_at(11, 0));
+    }
+    if list.len() < 2 * k {
+        return Ruling::Refused(refusal_at(13, 2 * k));
+    }
+    let hunted = decide(row, k, l);
+    if hunted.found {
+        let pairs = hunted.pairs;
+        let numbers = hunted.numbers;
+        plan::copy(&numbers[..2 * pairs], list);
+        Ruling::Failing(pairs)
+    } else {
+        Ruling::Resistant
+    }
+}
+
+// The verdict on a row for k and l: resistant, or the number of pairs of the first failing list, which stands at the front of `list`.
+pub fn verdict(row: &[u16], k: usize, l: usize, list: &mut [u16]) -> Ruling
+    ensures { λ r. ⌜ Answered (now (row .entry)) k l (now (list .entry)) (now (list .exit)) r ⌝ }
+{
+    let judged = plan::judge(row);
+    match judged {
+        Answer::Refused(refusal) => Ruling::Refused(refusal),
+        Answer::Gives(_) => verdict_good(row, k, l, list),
+    }
+}
