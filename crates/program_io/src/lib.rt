@@ -109,8 +109,9 @@ pub fn seconds() -> i64 {
     libc::time(&mut now)
 }
 
-// A line on standard error, and nowhere else: words with a number between them.
-pub fn say(before: &[u8], n: u64, after: &[u8]) {
+// A line on standard error, and nowhere else: a program's name, and words with a number between them.
+pub fn say(name: &[u8], before: &[u8], n: u64, after: &[u8]) {
+    io::write_all(STDERR_FILENO, name);
     io::write_all(STDERR_FILENO, before);
     io::print_decimal(STDERR_FILENO, n);
     io::write_all(STDERR_FILENO, after);

@@ -10,9 +10,10 @@ use borrow.Author.Tests.{le-leb}
 use Rattle.scope.specs.declared.Answer.the-variants.{Gives}
 use Rattle.scope.specs.Plan.{Plan}
 use Rattle.scope.specs.Questions.{after}
-use Rattle.scope.specs.Lines.{UnderK, VerdictLines, slackLines, highestK}
+use Rattle.scope.specs.Lines.{UnderK, VerdictLines, slackLines}
 use Rattle.text.specs.Text.{Puts}
 use Rattle.text.proofs.Laid.{then, laid-nil, laid-front, length-laid}
+use Rattle.verdict_text.specs.Texts.{highestOr}
 use Rattle.verdict_text.specs.Layout.{verdictRoom, LinesUnder, Lays, LaidUntil, PrintsOne}
 
 -- what follows the lines under k
@@ -86,22 +87,22 @@ module _ (plan : Plan) (n : ℕ) where
         puts = then (a .puts) p;
       }
 
--- as the program does, from the highest k that it read
-pub highest-few : (plan : Plan) → highestK plan ≤ 3
-highest-few plan = by (leb (length (plan .links) * plan .timeout) 64)
+-- as a program does, from the highest k that it read
+pub highest-few : (large : ℕ) (plan : Plan) → large ≤ 3 → highestOr large plan ≤ 3
+highest-few large plan few = by (leb (length (plan .links) * plan .timeout) 64)
   where
-    by : (t : Bool) → cond t 3 1 ≤ 3
+    by : (t : Bool) → cond t 3 large ≤ 3
     by true = omega arith
-    by false = omega arith
+    by false = few
 
-module _ (plan : Plan) (h : ℕ) (is : h ≡ highestK plan) where
+module _ (plan : Plan) (large h : ℕ) (few : large ≤ 3) (is : h ≡ highestOr large plan) where
   pub few-high : h ≤ 3
-  few-high = omega (arith, highest-few plan)
+  few-high = omega (arith, highest-few large plan few)
 
   pub laid-whole : {i j : ℕ} {before now after : List ℕ} → length (slackLines plan 0 (plan .messages)) ≤ 17408 → LaidUntil plan (1 + h) (1 + h) before now i →
-      Puts (slackLines plan 0 (plan .messages)) now after i j → Lays (VerdictLines plan 0 (1 + highestK plan)) verdictRoom before after 0 j
+      Puts (slackLines plan 0 (plan .messages)) now after i j → Lays (VerdictLines plan 0 (1 + highestOr large plan)) verdictRoom before after 0 j
   laid-whole {i} {j} {before} {now} {after} size a p =
-      let few = few-high in
+      let high = few-high in
       subst (λ (x : ℕ). Lays (VerdictLines plan 0 (1 + x)) verdictRoom before after 0 j) is (laid-all plan (1 + h) (omega arith) size a p)
 
 pub lays-same : {Kind : List ℕ → Type 0} {most i j : ℕ} {before after : List ℕ} → Lays Kind most before after i j → length after ≡ length before

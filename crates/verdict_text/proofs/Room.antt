@@ -15,7 +15,7 @@ use Rattle.scope.specs.Plan.{Plan, Place, planOf, pathOf, placeCount, messageCo
 use Rattle.scope.specs.SecondPath.{messageIndex}
 use Rattle.scope.specs.Cycle.{orderOf}
 use Rattle.scope.specs.Spare.{slackOf}
-use Rattle.scope.specs.Lines.{resistantLine, failingLine, spaced, signed, slackLine, slackLineOf, messageSlacks, slackLines, highestK}
+use Rattle.scope.specs.Lines.{resistantLine, failingLine, spaced, signed, slackLine, slackLineOf, messageSlacks, slackLines}
 use Rattle.rows.specs.Lies.{PlanLies}
 use Rattle.rows.proofs.Walked.{walked}
 use Rattle.rows.proofs.Parts.{message-count, link-count, timeout-is, path-at, places-length}
@@ -23,6 +23,7 @@ use Rattle.plan.specs.Answers.{GoodRow}
 use Rattle.all_verdicts.specs.Answers.{Says, seven, AnswersAll}
 use Rattle.text.specs.Text.{Told, Puts}
 use Rattle.text.proofs.Decimal.{decimal-all, decimal-most}
+use Rattle.verdict_text.specs.Texts.{highestOr}
 use Rattle.verdict_text.specs.Layout.{listOf, lineOf, linesOf, Sevens, LinesUnder, Lays}
 use Rattle.verdict_text.proofs.Verdicts.{few-messages, all-said, sevens, lines-are}
 
@@ -161,12 +162,12 @@ module _ (row : List ℕ) (g : GoodRow row) where
   slacks-told at h = let r = slacks-size in record { fits = omega arith }
 
 -- how high k goes, from the links and the timeout that were read
-module _ (row : List ℕ) (e t : ℕ) (links : e ≡ linkCount row) (time : t ≡ timeoutOf row) where
+module _ (row : List ℕ) (e t large : ℕ) (links : e ≡ linkCount row) (time : t ≡ timeoutOf row) where
   product : e * t ≡ length (planOf row .links) * planOf row .timeout
   product = ap₂ _*_ (links ∙ sym (link-count row)) (time ∙ sym (timeout-is row))
 
-  pub goes-three : e * t ≤ 64 → 3 ≡ highestK (planOf row)
+  pub goes-three : e * t ≤ 64 → 3 ≡ highestOr large (planOf row)
   goes-three h = rw (le-leb (length (planOf row .links) * planOf row .timeout) 64 (rw product at h))
 
-  pub goes-one : 64 < e * t → 1 ≡ highestK (planOf row)
-  goes-one h = rw (lt-leb (length (planOf row .links) * planOf row .timeout) 64 (rw product at h))
+  pub goes-large : 64 < e * t → large ≡ highestOr large (planOf row)
+  goes-large h = rw (lt-leb (length (planOf row .links) * planOf row .timeout) 64 (rw product at h))

@@ -1,10 +1,12 @@
--- What holds of the text that the verdict program prints: a file has one text, every text has room in 34,700 bytes, the first 7,349 bytes of
--- a file decide it, and a call that prints it allows one outcome.
+-- What holds of the texts that the programs `verdict` and `deep` print: a file has one text, every text has room in 34,700 bytes, the first
+-- 7,349 bytes of a file decide it, and a call that prints it allows one outcome. It is said once, of how high k goes.
 use Prim.Native.Nat.{ℕ, zero, suc, _+_, _*_, _≤_, _<_}
 use mathlib.Core.Path.{_≡_, refl, sym, _∙_, ap, ap₂, subst}
+use mathlib.Core.Bool.{Bool, true, false, cond}
 use mathlib.Core.List.{List, [], _++_}
 use native.Mathlib.Omega.{arith}
 use lib.ListN.{length, take, length-append}
+use lib.Dec.{leb}
 use borrow.Author.Tests.{le-leb}
 use Rattle.scope.specs.declared.Answer.{Answer}
 use Rattle.scope.specs.declared.Answer.the-variants.{Gives}
@@ -13,7 +15,7 @@ use Rattle.scope.specs.Outcome.{Outcome, gives, refused, outcomeOf}
 use Rattle.scope.specs.File.{rowOf}
 use Rattle.scope.specs.Plan.{Plan, planOf}
 use Rattle.scope.specs.Questions.{readFile}
-use Rattle.scope.specs.Lines.{VerdictLine, resistant, failing, failingLine, UnderK, VerdictLines, VerdictText, slackLines, highestK, refusedLine}
+use Rattle.scope.specs.Lines.{VerdictLine, resistant, failing, failingLine, UnderK, VerdictLines, VerdictText, slackLines, refusedLine}
 use Rattle.scope.proofs.Order.{first-once, resistant-or-failing}
 use Rattle.scope.specs.Limits.{longestRow, planRoom}
 use Rattle.text.specs.Text.{laid}
@@ -24,6 +26,7 @@ use Rattle.listing.proofs.Fronts.{from-front}
 use Rattle.plan.specs.Answers.{GoodRow}
 use Rattle.plan.proofs.Ways.{good-row}
 use Rattle.plan.proofs.Reading.{read-judged}
+use Rattle.verdict_text.specs.Texts.{DeepText, highestOr, TextUpTo}
 use Rattle.verdict_text.specs.Layout.{verdictRoom, LinesUnder, Lays, PrintsOne, PrintedOne}
 use Rattle.verdict_text.proofs.Composing.{highest-few, lays-prints}
 use Rattle.verdict_text.proofs.Verdicts.{few-messages}
@@ -59,57 +62,98 @@ one-lines plan k most at next next′ entry exit exit′ p q =
       p .puts .buffer ∙ ap (laid entry at) same ∙ sym (q .puts .buffer),
     )
 
--- the text by what reading the file gives
-pub text-refused : (file text : List ℕ) (r : Refusal) → readFile file longestRow ≡ refused r → text ≡ refusedLine r → VerdictText file text
-unfolding VerdictText
-text-refused file text r e is = rw e is
-
-pub text-given : (file row text : List ℕ) (n : ℕ) → readFile file longestRow ≡ gives n → row ≡ rowOf file →
-    VerdictLines (planOf row) 0 (1 + highestK (planOf row)) text → VerdictText file text
-unfolding VerdictText
-text-given file row text n e is lines =
-    rw e (subst (λ (r : List ℕ). VerdictLines (planOf r) 0 (1 + highestK (planOf r)) text) is lines)
-
-back-refused : (file text : List ℕ) (r : Refusal) → readFile file longestRow ≡ refused r → VerdictText file text → text ≡ refusedLine r
-unfolding VerdictText
-back-refused file text r e v = rw e at v
-
-back-given : (file text : List ℕ) (n : ℕ) → readFile file longestRow ≡ gives n → VerdictText file text →
-    VerdictLines (planOf (rowOf file)) 0 (1 + highestK (planOf (rowOf file))) text
-unfolding VerdictText
-back-given file text n e v = rw e at v
-
--- what is printed for a file
-pub prints-refused : (file entry exit : List ℕ) (a : Answer) (r : Refusal) → readFile file longestRow ≡ refused r → Prints (refusedLine r) entry exit a →
-    PrintsOne (VerdictText file) entry exit a
-prints-refused file entry exit a r e prints = record { text = refusedLine r; kind = text-refused file (refusedLine r) r e refl; prints = prints }
-
-pub prints-given : (file row entry exit : List ℕ) (n count : ℕ) → readFile file longestRow ≡ gives n → row ≡ rowOf file → verdictRoom ≤ length entry →
-    Lays (VerdictLines (planOf row) 0 (1 + highestK (planOf row))) verdictRoom entry exit 0 count → PrintsOne (VerdictText file) entry exit (Gives count)
-prints-given file row entry exit n count e is room lays =
-    let p = lays-prints room lays in
-    record { text = p .text; kind = text-given file row (p .text) n e is (p .kind); prints = p .prints }
-
 -- a row that was read is good
 pub read-good : (file row : List ℕ) (n : ℕ) → readFile file longestRow ≡ gives n → row ≡ rowOf file → GoodRow row
 read-good file row n e is = subst GoodRow (sym is) (good-row (rowOf file) (length (rowOf file)) (read-judged file longestRow n e))
 
--- a file has one text
-pub text-once : (file a b : List ℕ) → VerdictText file a → VerdictText file b → a ≡ b
-text-once file a b u v = by (readFile file longestRow) refl
-  where
-    by : (o : Outcome) → readFile file longestRow ≡ o → a ≡ b
-    by (refused r) e = back-refused file a r e u ∙ sym (back-refused file b r e v)
-    by (gives n) e =
-        lines-once (planOf (rowOf file)) 0 (1 + highestK (planOf (rowOf file))) a b (back-given file a n e u) (back-given file b n e v)
+-- the text by what reading the file gives
+module _ (large : ℕ) where
+  pub text-refused : (file text : List ℕ) (r : Refusal) → readFile file longestRow ≡ refused r → text ≡ refusedLine r → TextUpTo large file text
+  unfolding TextUpTo
+  text-refused file text r e is = rw e is
 
--- two outcomes that the promise of printing it allows are equal
-pub one-text : (file entry exit exit′ : List ℕ) (r r′ : Answer) →
-    PrintsOne (VerdictText file) entry exit r → PrintsOne (VerdictText file) entry exit′ r′ → (r ≡ r′) × (exit ≡ exit′)
-one-text file entry exit exit′ r r′ p q =
-    says-only (prints-as (text-once file (p .text) (q .text) (p .kind) (q .kind)) (p .prints)) (q .prints)
+  pub text-given : (file row text : List ℕ) (n : ℕ) → readFile file longestRow ≡ gives n → row ≡ rowOf file →
+      VerdictLines (planOf row) 0 (1 + highestOr large (planOf row)) text → TextUpTo large file text
+  unfolding TextUpTo
+  text-given file row text n e is lines =
+      rw e (subst (λ (r : List ℕ). VerdictLines (planOf r) 0 (1 + highestOr large (planOf r)) text) is lines)
 
--- every text has room in `ROOM` bytes
+  back-refused : (file text : List ℕ) (r : Refusal) → readFile file longestRow ≡ refused r → TextUpTo large file text → text ≡ refusedLine r
+  unfolding TextUpTo
+  back-refused file text r e v = rw e at v
+
+  back-given : (file text : List ℕ) (n : ℕ) → readFile file longestRow ≡ gives n → TextUpTo large file text →
+      VerdictLines (planOf (rowOf file)) 0 (1 + highestOr large (planOf (rowOf file))) text
+  unfolding TextUpTo
+  back-given file text n e v = rw e at v
+
+  -- what is printed for a file
+  pub prints-refused : (file entry exit : List ℕ) (a : Answer) (r : Refusal) → readFile file longestRow ≡ refused r → Prints (refusedLine r) entry exit a →
+      PrintsOne (TextUpTo large file) entry exit a
+  prints-refused file entry exit a r e prints = record { text = refusedLine r; kind = text-refused file (refusedLine r) r e refl; prints = prints }
+
+  pub prints-given : (file row entry exit : List ℕ) (n count : ℕ) → readFile file longestRow ≡ gives n → row ≡ rowOf file → verdictRoom ≤ length entry →
+      Lays (VerdictLines (planOf row) 0 (1 + highestOr large (planOf row))) verdictRoom entry exit 0 count →
+      PrintsOne (TextUpTo large file) entry exit (Gives count)
+  prints-given file row entry exit n count e is room lays =
+      let p = lays-prints room lays in
+      record { text = p .text; kind = text-given file row (p .text) n e is (p .kind); prints = p .prints }
+
+-- a program's texts are those that go so high
+pub record GoesTo (large : ℕ) (Kind : List ℕ → List ℕ → Type 0) : Type 0 where
+  pub few : large ≤ 3
+  pub to : (file text : List ℕ) → TextUpTo large file text → Kind file text
+  pub back : (file text : List ℕ) → Kind file text → TextUpTo large file text
+
+pub any-text : (large : ℕ) → large ≤ 3 → GoesTo large (TextUpTo large)
+any-text large few = record { few = few; to = λ file text t. t; back = λ file text t. t }
+
+verdict-to : (file text : List ℕ) (o : Outcome) → readFile file longestRow ≡ o → TextUpTo 1 file text → VerdictText file text
+unfolding TextUpTo VerdictText
+verdict-to file text (refused r) e v = rw e (rw e at v)
+verdict-to file text (gives n) e v = rw e (rw e at v)
+
+verdict-back : (file text : List ℕ) (o : Outcome) → readFile file longestRow ≡ o → VerdictText file text → TextUpTo 1 file text
+unfolding TextUpTo VerdictText
+verdict-back file text (refused r) e v = rw e (rw e at v)
+verdict-back file text (gives n) e v = rw e (rw e at v)
+
+pub verdict-text : GoesTo 1 VerdictText
+verdict-text =
+    record {
+      few = omega arith;
+      to = λ file text. verdict-to file text (readFile file longestRow) refl;
+      back = λ file text. verdict-back file text (readFile file longestRow) refl;
+    }
+
+same-either : (t : Bool) (n : ℕ) → cond t n n ≡ n
+same-either true n = refl
+same-either false n = refl
+
+always-three : (plan : Plan) → highestOr 3 plan ≡ 3
+always-three plan = same-either (leb (length (plan .links) * plan .timeout) 64) 3
+
+deep-to : (file text : List ℕ) (o : Outcome) → readFile file longestRow ≡ o → TextUpTo 3 file text → DeepText file text
+unfolding TextUpTo DeepText
+deep-to file text (refused r) e v = rw e (rw e at v)
+deep-to file text (gives n) e v =
+    rw e (subst (λ (x : ℕ). VerdictLines (planOf (rowOf file)) 0 (1 + x) text) (always-three (planOf (rowOf file))) (rw e at v))
+
+deep-back : (file text : List ℕ) (o : Outcome) → readFile file longestRow ≡ o → DeepText file text → TextUpTo 3 file text
+unfolding TextUpTo DeepText
+deep-back file text (refused r) e v = rw e (rw e at v)
+deep-back file text (gives n) e v =
+    rw e (subst (λ (x : ℕ). VerdictLines (planOf (rowOf file)) 0 (1 + x) text) (sym (always-three (planOf (rowOf file)))) (rw e at v))
+
+pub deep-text : GoesTo 3 DeepText
+deep-text =
+    record {
+      few = omega arith;
+      to = λ file text. deep-to file text (readFile file longestRow) refl;
+      back = λ file text. deep-back file text (readFile file longestRow) refl;
+    }
+
+-- how many bytes the lines have
 verdict-size : (plan : Plan) (k l : ℕ) (line : List ℕ) → k ≤ 3 → l < 100 → VerdictLine plan k l line → length line ≤ 131
 verdict-size plan k l _ h g (resistant x) = resistant-size k l (omega arith) g
 verdict-size plan k l _ h g (failing {cuts} x) = failing-size k l cuts (omega arith) g (omega (arith, x .few))
@@ -134,35 +178,64 @@ lines-room plan k (suc n) text h few slacks u =
     0 (length (plan .messages) + 1) text (omega arith) u in
     omega arith
 
-pub text-room : (file text : List ℕ) → VerdictText file text → length text ≤ verdictRoom
-text-room file text v = by (readFile file longestRow) refl
-  where
-    by : (o : Outcome) → readFile file longestRow ≡ o → length text ≤ verdictRoom
-    by (refused r) e = omega (arith, refused-size r, ap length (back-refused file text r e v))
-    by (gives n) e =
-        let g = read-good file (rowOf file) n e refl in
-        let plan = planOf (rowOf file) in
-        let high = highest-few plan in
-        let r = lines-room plan 0 (1 + highestK plan) text (omega arith) (few-messages (rowOf file) g) (slacks-size (rowOf file) g) (back-given file text n e v) in
-        omega arith
+module _ (large : ℕ) (Kind : List ℕ → List ℕ → Type 0) (goes : GoesTo large Kind) where
+  -- a file has one text
+  pub text-once : (file a b : List ℕ) → Kind file a → Kind file b → a ≡ b
+  text-once file a b u v = by (readFile file longestRow) refl
+    where
+      by : (o : Outcome) → readFile file longestRow ≡ o → a ≡ b
+      by (refused r) e = back-refused large file a r e (goes .back file a u) ∙ sym (back-refused large file b r e (goes .back file b v))
+      by (gives n) e =
+          lines-once (planOf (rowOf file)) 0 (1 + highestOr large (planOf (rowOf file))) a b
+          (back-given large file a n e (goes .back file a u))
+          (back-given large file b n e (goes .back file b v))
 
--- so a call with so much room is never refused for room
-pub never-short : (file entry exit : List ℕ) (r : Answer) → verdictRoom ≤ length entry → (p : PrintsOne (VerdictText file) entry exit r) →
-    outcomeOf r ≡ gives (length (p .text))
-never-short file entry exit r room p =
-    let fits : length (p .text) ≤ length entry = omega (arith, text-room file (p .text) (p .kind)) in
-    p .prints .answer ∙ rw (le-leb (length (p .text)) (length entry) fits)
+  -- two outcomes that the promise of printing it allows are equal
+  pub one-text : (file entry exit exit′ : List ℕ) (r r′ : Answer) →
+      PrintsOne (Kind file) entry exit r → PrintsOne (Kind file) entry exit′ r′ → (r ≡ r′) × (exit ≡ exit′)
+  one-text file entry exit exit′ r r′ p q =
+      says-only (prints-as (text-once file (p .text) (q .text) (p .kind) (q .kind)) (p .prints)) (q .prints)
 
--- the front of a file has the file's text, and so has what the program has read of it
-pub front-prints : (file text : List ℕ) → VerdictText (take planRoom file) text → VerdictText file text
-front-prints file text v =
-    from-front (λ (f : List ℕ). VerdictText f text) file
-    (λ r front whole u. text-refused file text r whole (back-refused (take planRoom file) text r front u)) v
+  -- every text has room in `ROOM` bytes
+  pub text-room : (file text : List ℕ) → Kind file text → length text ≤ verdictRoom
+  text-room file text u = by (readFile file longestRow) refl
+    where
+      by : (o : Outcome) → readFile file longestRow ≡ o → length text ≤ verdictRoom
+      by (refused r) e = omega (arith, refused-size r, ap length (back-refused large file text r e (goes .back file text u)))
+      by (gives n) e =
+          let g = read-good file (rowOf file) n e refl in
+          let plan = planOf (rowOf file) in
+          let high = highest-few large plan (goes .few) in
+          let r =
+          lines-room plan 0 (1 + highestOr large plan) text (omega arith) (few-messages (rowOf file) g) (slacks-size (rowOf file) g)
+          (back-given large file text n e (goes .back file text u)) in
+          omega arith
 
-pub program-prints : (plan file entry exit : List ℕ) (p : ℕ) (r : Answer) → length plan ≡ planRoom → length entry ≡ verdictRoom →
-    PrintsOne (VerdictText (take p plan)) entry exit r → Front plan p file → PrintedOne (VerdictText file) entry exit r
-program-prints plan file entry exit p r l room one f =
-    let is : take p plan ≡ take planRoom file = f ∙ ap (λ (n : ℕ). take n file) l in
-    let kind : VerdictText file (one .text) = front-prints file (one .text) (subst (λ (t : List ℕ). VerdictText t (one .text)) is (one .kind)) in
-    let fits : length (one .text) ≤ length entry = omega (arith, text-room file (one .text) kind) in
-    record { text = one .text; kind = kind; printed = printed (one .text) entry fits (one .prints) }
+  -- so a call with so much room is never refused for room
+  pub never-short : (file entry exit : List ℕ) (r : Answer) → verdictRoom ≤ length entry → (p : PrintsOne (Kind file) entry exit r) →
+      outcomeOf r ≡ gives (length (p .text))
+  never-short file entry exit r room p =
+      let fits : length (p .text) ≤ length entry = omega (arith, text-room file (p .text) (p .kind)) in
+      p .prints .answer ∙ rw (le-leb (length (p .text)) (length entry) fits)
+
+  -- the front of a file has the file's text, and so has what a program has read of it
+  pub front-prints : (file text : List ℕ) → Kind (take planRoom file) text → Kind file text
+  front-prints file text v =
+      from-front (λ (f : List ℕ). Kind f text) file
+      (λ r front whole u. goes .to file text
+      (text-refused large file text r whole (back-refused large (take planRoom file) text r front (goes .back (take planRoom file) text u)))) v
+
+  pub program-prints : (plan file entry exit : List ℕ) (p : ℕ) (r : Answer) → length plan ≡ planRoom → length entry ≡ verdictRoom →
+      PrintsOne (TextUpTo large (take p plan)) entry exit r → Front plan p file → PrintedOne (Kind file) entry exit r
+  program-prints plan file entry exit p r l room one f =
+      let is : take p plan ≡ take planRoom file = f ∙ ap (λ (n : ℕ). take n file) l in
+      let front : Kind (take p plan) (one .text) = goes .to (take p plan) (one .text) (one .kind) in
+      let kind : Kind file (one .text) = front-prints file (one .text) (subst (λ (t : List ℕ). Kind t (one .text)) is front) in
+      let fits : length (one .text) ≤ length entry = omega (arith, text-room file (one .text) kind) in
+      record { text = one .text; kind = kind; printed = printed (one .text) entry fits (one .prints) }
+
+-- a program's text is printed by what goes so high
+pub printed-as : (large : ℕ) (Kind : List ℕ → List ℕ → Type 0) → GoesTo large Kind → (file entry exit : List ℕ) (r : Answer) →
+    PrintedOne (TextUpTo large file) entry exit r → PrintedOne (Kind file) entry exit r
+printed-as large Kind goes file entry exit r one =
+    record { text = one .text; kind = goes .to file (one .text) (one .kind); printed = one .printed }

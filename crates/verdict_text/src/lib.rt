@@ -1,15 +1,16 @@
-// The lines of the verdict program, laid into lent bytes from an index on: document 01, "Programs". `lines_under` lays the lines under one
-// k and `slack_lines` those of the spare slots; each gives the index after them. They lean on `all_verdicts` and `spare` for what the lines say,
-// and on `verdict_lines` for one line. That the lines under every k and then the slack lines are the whole text, that every text has room in
-// `ROOM` bytes, and that a file has one text, is in proofs/. The program composes them, since it tells between two k how far it is.
+// The lines of the programs `verdict` and `deep`, laid into lent bytes from an index on: document 01, "Programs". `lines_under` lays the lines
+// under one k and `slack_lines` those of the spare slots; each gives the index after them. They lean on `all_verdicts` and `spare` for what the
+// lines say, and on `verdict_lines` for one line. That the lines under every k and then the slack lines are the whole text, that every text has
+// room in `ROOM` bytes, and that a file has one text, is in proofs/. `whole_verdict` composes them, and tells between two k how far it is.
 ghost use Prim.Native.Nat.{_+_, _*_, _≤_, _<_, _^_};
 ghost use mathlib.Core.Path.{_≡_};
 ghost use lib.ListN.{length, getD};
 ghost use Rattle.scope.specs.Plan.{planOf, pathOf, messageCount};
-ghost use Rattle.scope.specs.Lines.{messageSlacks, slackLines, highestK};
+ghost use Rattle.scope.specs.Lines.{messageSlacks, slackLines};
 ghost use Rattle.plan.specs.Answers.{GoodRow};
 ghost use Rattle.text.specs.Text.{Puts, Told};
 ghost use Rattle.verdict_text.specs.Layout.{lineOf, linesOf, slackAt, Sevens, Lays, LinesUnder};
+ghost use Rattle.verdict_text.specs.Texts.{highestOr};
 use spare::Spare;
 use verdict_lines::failing_line;
 use verdict_lines::resistant_line;
@@ -102,13 +103,13 @@ pub fn slack_lines(row: &[u16], out: &mut [u8], at: usize) -> usize
     next
 }
 
-// "it goes up to k 3 if E × t is at most 64, else to k 1"
-pub fn highest(row: &[u16]) -> usize
-    ensures { λ r. ⌜ r ≡ highestK (planOf (now (row .entry))) ⌝ }
+// "it goes up to k 3 if E × t is at most 64", else to `large`, which is 1 for the verdict program
+pub fn highest(row: &[u16], large: usize) -> usize
+    ensures { λ r. ⌜ r ≡ highestOr large (planOf (now (row .entry))) ⌝ }
 {
     if rows::links(row) * rows::timeout(row) <= 64 {
         3
     } else {
-        1
+        large
     }
 }

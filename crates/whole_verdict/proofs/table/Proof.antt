@@ -1,18 +1,18 @@
--- `verdict::table` meets its contract: the loop has laid the lines under each number below k.
+-- `whole_verdict::table` meets its contract: the loop has laid the lines under each number below k.
 use Prim.Native.Nat.{_≤_, _-_}
 use borrow.Author.Needs.{needs}
 use native.Mathlib.Omega.{arith}
 use Rattle.scope.specs.Plan.{planOf}
 use Rattle.verdict_text.specs.Layout.{LaidUntil}
 use Rattle.verdict_text.proofs.Composing.{laid-first, laid-more, laid-done, laid-small, lays-same}
-use Rattle.verdict.proofs.table.Statement.{statement}
-use Rattle.verdict.proofs.table.Tie as tie
+use Rattle.whole_verdict.proofs.table.Statement.{statement}
+use Rattle.whole_verdict.proofs.table.Tie as tie
 
 abbrev Inv-loop : tie.InvT-loop
-Inv-loop row n start out₀ next₀ k₀ out next k = (k ≤ n) × LaidUntil (planOf row) n k out₀ out next
+Inv-loop name row n start out₀ next₀ k₀ out next k = (k ≤ n) × LaidUntil (planOf row) n k out₀ out next
 
 abbrev μ-loop : tie.MeasureT-loop
-μ-loop row n start out₀ next₀ k₀ out next k = n - k
+μ-loop name row n start out₀ next₀ k₀ out next k = n - k
 
 loop-holds : tie.Need-loop-holds Inv-loop μ-loop
 loop-holds c = (search needs, laid-first _ _ _)
@@ -21,7 +21,7 @@ progress-requires : tie.Need-progress-requires Inv-loop μ-loop
 progress-requires c κs = search needs
 
 lines-under-requires : tie.Need-lines-under-requires Inv-loop μ-loop
-lines-under-requires c κs = (c .before .before .before .before .before .before .pre .0, omega (arith, c .before .before .before .before .before .before .pre .1, c .before .before .loop-test .taken), laid-small _ _ (omega (arith, c .before .before .before .before .before .before .pre .1, c .before .before .loop-test .taken)) (c .before .before .before .loop .inv .1))
+lines-under-requires c κs = (c .before .before .before .before .before .before .before .pre .0, omega (arith, c .before .before .before .before .before .before .before .pre .1, c .before .before .loop-test .taken), laid-small _ _ (omega (arith, c .before .before .before .before .before .before .before .pre .1, c .before .before .loop-test .taken)) (c .before .before .before .loop .inv .1))
 
 add-k : tie.Need-add-k Inv-loop μ-loop
 add-k c = search needs
