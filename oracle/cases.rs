@@ -278,6 +278,28 @@ pub fn verdict_case(seed: u64, case: u64) -> ProgramCase {
     ProgramCase { file: Some(file), input }
 }
 
+/// A case for the program `deep`: plans whose table up to k 3 is quick to find, half of them with E x t above 64.
+pub fn deep_case(seed: u64, case: u64) -> ProgramCase {
+    let mut random = Random::of_case(seed ^ 0x64656570, case);
+    let r = &mut random;
+    if r.percent(2) {
+        return ProgramCase { file: None, input: Vec::new() };
+    }
+    let file = if r.percent(10) {
+        any_file(r, Size::Tiny, 0)
+    } else if r.percent(45) {
+        file_of(&plan_for_verdict(r, 36))
+    } else {
+        loop {
+            let plan = plan_for_verdict(r, 96);
+            if highest_k(&plan) == 1 {
+                break file_of(&plan);
+            }
+        }
+    };
+    ProgramCase { file: Some(file), input: Vec::new() }
+}
+
 /// Cut lines, good and bad in every way.
 fn cut_lines(r: &mut Random, plan: &Plan) -> Vec<u8> {
     let numbers = any_cuts(r, plan, 88);

@@ -3,7 +3,7 @@
 
 use crate::lines;
 use crate::probe;
-use crate::cases::{question, replay_case, verdict_case, ProgramCase, QUESTIONS};
+use crate::cases::{deep_case, question, replay_case, verdict_case, ProgramCase, QUESTIONS};
 use std::io::{BufRead, BufReader, BufWriter, Read, Write};
 use std::path::{Path, PathBuf};
 use std::process::{Child, Command, Stdio};
@@ -146,10 +146,10 @@ pub fn compare(seed: u64, number: u64, without: &[String], words: &[String]) -> 
 
 /// The cases of a program, by its name.
 fn program_case(name: &str, seed: u64, case: u64) -> ProgramCase {
-    if name == "verdict" {
-        verdict_case(seed, case)
-    } else {
-        replay_case(seed, case)
+    match name {
+        "verdict" => verdict_case(seed, case),
+        "deep" => deep_case(seed, case),
+        _ => replay_case(seed, case),
     }
 }
 
@@ -157,10 +157,10 @@ fn program_case(name: &str, seed: u64, case: u64) -> ProgramCase {
 fn program_text(name: &str, case: &ProgramCase) -> String {
     let empty = Vec::new();
     let file = case.file.as_ref().unwrap_or(&empty); // "a missing file counts as empty"
-    if name == "verdict" {
-        lines::verdict_program(file)
-    } else {
-        lines::replay_program(file, &case.input)
+    match name {
+        "verdict" => lines::verdict_program(file),
+        "deep" => lines::deep_program(file),
+        _ => lines::replay_program(file, &case.input),
     }
 }
 

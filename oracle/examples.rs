@@ -5,7 +5,7 @@ use crate::bad;
 use crate::cases;
 use crate::cuts::{cut_list_of_numbers, Pair};
 use crate::cycle::cycle;
-use crate::lines::{replay_program, verdict_program};
+use crate::lines::{deep_program, replay_program, verdict_program};
 use crate::plan::{file_of, row_of, Link, Message, Place, Plan};
 use crate::probe::{answer, hex_of_bytes, spaced};
 use crate::questions::{self, good_plan_of_row, numbers_of};
@@ -790,6 +790,12 @@ fn programs(tests: &mut Tests) {
     longer.timeout = 17;
     let text = verdict_program(&file_of(&longer));
     tests.holds("E x t = 68", text.contains("\n1 2 ") && !text.contains("\n2 "));
+    // The program deep goes on where the verdict program stops, and has its lines elsewhere.
+    let deep = deep_program(&file_of(&longer));
+    let stop = text.find("slack ").unwrap();
+    tests.holds("deep, E x t = 68", deep.starts_with(&text[..stop]) && deep.ends_with(&text[stop..]) && deep.contains("\n3 2 "));
+    tests.equal("deep, A", &deep_program(&file_of(&a())), &verdict_program(&file_of(&a())));
+    tests.equal("deep, no file", &deep_program(&[]), "refused 2 place 0\n");
     // Refusals stand alone.
     tests.equal("no file", &replay_program(&[], b""), "refused 2 place 0\n");
     tests.equal("no file", &verdict_program(&[]), "refused 2 place 0\n");

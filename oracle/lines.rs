@@ -67,7 +67,12 @@ fn replay_listing(file: &[u8], input: &[u8]) -> Result<String, Refusal> {
 
 /// What the verdict program prints for a plan file.
 pub fn verdict_program(file: &[u8]) -> String {
-    verdict_listing(file).unwrap_or_else(refusal_line)
+    verdict_listing(file, highest_k).unwrap_or_else(refusal_line)
+}
+
+/// What the program `deep` prints for a plan file: the same up to k 3 whatever the size.
+pub fn deep_program(file: &[u8]) -> String {
+    verdict_listing(file, |_| 3).unwrap_or_else(refusal_line)
 }
 
 /// "it goes up to k 3 if E x t is at most 64, else to k 1".
@@ -83,11 +88,12 @@ pub fn highest_k(plan: &Plan) -> usize {
 /// line `k l resistant`, or `k l` and the pairs' numbers [...]. Then it prints for
 /// each message and place with a second path, in order, `slack`, message, place and
 /// slack."
-fn verdict_listing(file: &[u8]) -> Result<String, Refusal> {
+fn verdict_listing(file: &[u8], highest: fn(&Plan) -> usize) -> Result<String, Refusal> {
     let plan = good_plan_of_file(file)?;
-    let lists = arrivals_of_every_list(&plan, highest_k(&plan));
+    let highest = highest(&plan);
+    let lists = arrivals_of_every_list(&plan, highest);
     let mut text = String::new();
-    for k in 0..=highest_k(&plan) {
+    for k in 0..=highest {
         for l in 0..=plan.messages.len() {
             text += &format!("{} {}", k, l);
             match lists.iter().find(|(list, arrivals)| list.len() <= k && *arrivals < l) {

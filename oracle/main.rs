@@ -26,16 +26,17 @@ oracle: document 01 once more, independent, simple and slow
   oracle probe                      answers the questions of PROBE.md on standard input
   oracle replay                     the replay program (plan.bin, cut lines on standard input)
   oracle verdict                    the verdict program (plan.bin)
+  oracle deep                       the same up to k 3 whatever the size: minutes for large plans
   oracle test                       runs the examples of document 01 and more
   oracle generate SEED N            writes N random probe questions
   oracle kinds SEED N               counts event kinds and refusals in these N questions
   oracle compare SEED N -- COMMAND...
                                     asks COMMAND these N questions and compares the answers
   oracle files SEED N DIR [NAME]    makes folders DIR/000001... with plan.bin, stdin and what
-                                    the program NAME (replay or verdict; replay) should print
+                                    the program NAME (replay, verdict or deep; replay) should print
   oracle compare-program NAME SEED N [--cwd-root DIR] -- COMMAND...
                                     runs COMMAND in a folder for each of N cases and compares
-                                    what it prints with the program NAME (replay or verdict)
+                                    what it prints with the program NAME (replay, verdict or deep)
   oracle bench-plan KIND SEED       writes a plan file for benchmarks; KIND is network or chain (64 links,
                                     64 slots, 32 messages), small or wide (as document 000 evaluates)
   oracle theorem SEED N             tries the promises about every replay on N random cases
@@ -107,8 +108,8 @@ fn number_at(words: &Words, at: usize) -> Result<u64, String> {
 
 fn name_at(words: &Words, at: usize) -> Result<String, String> {
     match words.plain.get(at) {
-        Some(name) if name == "replay" || name == "verdict" => Ok(name.clone()),
-        _ => Err(String::from("replay or verdict?")),
+        Some(name) if ["replay", "verdict", "deep"].contains(&name.as_str()) => Ok(name.clone()),
+        _ => Err(String::from("replay, verdict or deep?")),
     }
 }
 
@@ -121,6 +122,7 @@ fn run(arguments: &[String]) -> Result<bool, String> {
             print_all(&text)
         }
         Some("verdict") => print_all(&lines::verdict_program(&plan_file())),
+        Some("deep") => print_all(&lines::deep_program(&plan_file())),
         Some("test") => {
             let (passed, failed) = examples::run();
             println!("{} passed, {} failed", passed, failed);
