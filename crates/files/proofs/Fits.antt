@@ -5,7 +5,7 @@ use mathlib.Core.List.{List}
 use lib.ListN.{length, take}
 use lib.Seq.{length-take-le}
 use Rattle.files.specs.declared.Read.{Read}
-use Rattle.files.specs.declared.Read.the-variants.{Bytes, Failed}
+use Rattle.files.specs.declared.Read.the-variants.{Bytes}
 use Rattle.files.specs.Came.{Source, standardInput, Came, Reads}
 
 module _ (source : Source) (n : ℕ) (buffer : List ℕ) (c : Came source n buffer) where

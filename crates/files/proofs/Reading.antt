@@ -7,7 +7,7 @@ use lib.ListN.{length}
 use lib.Seq.{length-take-le}
 use Rattle.io.specs.Counts.{Counts}
 use Rattle.files.specs.declared.Read.{Read}
-use Rattle.files.specs.declared.Read.the-variants.{Bytes, Failed}
+use Rattle.files.specs.declared.Read.the-variants.{Bytes}
 use Rattle.files.specs.Came.{Source, Came}
 use Rattle.files.specs.More.{More}
 

@@ -7,8 +7,8 @@ use native.Mathlib.Nat.{mul-le-mul}
 use lib.ListN.{length, getD, length-append}
 use Rattle.scope.specs.Lines.{decimal, header, eventLine, eventLines, arrivedLine, refusedLine, listing}
 use Rattle.scope.specs.declared.Refusal.{Refusal}
-use Rattle.scope.specs.Outcome.{gives, refused}
-use Rattle.scope.specs.Plan.{Plan, planOf, messageCount, timeoutOf, firstMessage, messagesAt, afterMessage}
+use Rattle.scope.specs.Outcome.{gives}
+use Rattle.scope.specs.Plan.{planOf, messageCount, timeoutOf, firstMessage, messagesAt, afterMessage}
 use Rattle.text.specs.Text.{Told}
 use Rattle.text.proofs.Decimal.{decimal-all}
 

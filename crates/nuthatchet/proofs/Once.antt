@@ -11,7 +11,6 @@ use Rattle.scope.specs.declared.Answer.the-variants.{Gives, Refused}
 use Rattle.scope.specs.Outcome.{Outcome, outcomeOf, gives, refused}
 use Rattle.scope.specs.Plan.{secondStart}
 use Rattle.scope.specs.SecondPath.{placeIndex}
-use Rattle.resist.specs.declared.Ruling.{Ruling}
 use Rattle.resist.proofs.Ways as verdict
 use Rattle.answers.specs.Answers.{AnswersAll, mayAnswer}
 use Rattle.answers.proofs.Ways as all

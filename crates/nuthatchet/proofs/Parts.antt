@@ -1,21 +1,19 @@
 -- Where the second path of a message from a place stands in its row, if it has links.
-use Prim.Native.Nat.{ℕ, zero, suc, _+_, _≤_, _<_}
+use Prim.Native.Nat.{ℕ, _+_, _≤_, _<_}
 use native.Mathlib.Omega.{arith}
 use mathlib.Core.Path.{_≡_, refl, sym, _∙_, ap}
 use mathlib.Core.Bool.{Bool, true, false, cond, _&&_}
 use mathlib.Core.List.{List, [], _∷_}
 use lib.ListN.{length, take, drop, length-drop}
 use lib.Seq.{length-take-le}
-use lib.Dec.{ltb, eqb}
-use borrow.Author.Tests.{ltb-true, eq-eqb, ne-eqb}
+use lib.Dec.{ltb}
+use borrow.Author.Tests.{ltb-true, ne-eqb}
 use Rattle.scope.specs.Outcome.{Outcome, gives, refused}
-use Rattle.scope.specs.Row.{walkRow}
 use Rattle.scope.specs.Plan.{messageCount, placeCount, flagged, secondStart, secondCount}
 use Rattle.scope.specs.SecondPath.{messageIndex, placeIndex, hasSecond}
 use Rattle.scope.specs.Questions.{judge, secondPath}
 use Rattle.scope.proofs.Bools.{and-left, and-right}
-use Rattle.view.specs.View.{secondPart}
-use Rattle.view.specs.Lies.{SecondLies, PlanLies}
+use Rattle.view.specs.Lies.{PlanLies}
 use Rattle.view.proofs.Walked.{walked}
 use Rattle.plan.proofs.Ways.{good-row, shown-part, shown-none}
 use Rattle.nuthatchet.specs.Part.{TellsPart}

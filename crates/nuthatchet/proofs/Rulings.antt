@@ -1,14 +1,14 @@
 -- A failing list has a pair: without cuts every message of a good plan arrives, and l is at most the number of messages.
 use Prim.Native.Nat.{ℕ, zero, suc, _*_, _≤_, _<_}
 use native.Mathlib.Omega.{arith}
-use mathlib.Core.Path.{_≡_, refl, sym, _∙_, ap}
+use mathlib.Core.Path.{_≡_, refl}
 use mathlib.Core.Bool.{Bool, true, false, cond, _||_}
 use mathlib.Core.List.{List, []}
-use lib.ListN.{length, take}
+use lib.ListN.{length}
 use lib.Dec.{ltb}
 use borrow.Author.Tests.{ltb-false}
 use Rattle.scope.proofs.Outcomes.{not-both}
-use Rattle.scope.specs.Outcome.{Outcome, gives, refuse, andThen, room}
+use Rattle.scope.specs.Outcome.{gives, refuse, room}
 use Rattle.scope.specs.Plan.{planOf}
 use Rattle.scope.specs.Cycle.{arrivals}
 use Rattle.scope.specs.Verdict.{FirstFailing}

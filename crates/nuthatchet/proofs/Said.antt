@@ -1,7 +1,7 @@
 -- What the numbers of a verdict say.
 use Prim.Native.Nat.{ℕ, suc, _<_}
 use native.Mathlib.Omega.{arith}
-use mathlib.Core.Path.{_≡_, refl, sym, _∙_, ap}
+use mathlib.Core.Path.{_≡_, refl, sym}
 use mathlib.Core.List.{List}
 use lib.ListN.{length}
 use Rattle.scope.specs.declared.Refusal.{Refusal}
@@ -11,7 +11,7 @@ use Rattle.resist.specs.declared.Ruling.{Ruling}
 use Rattle.resist.specs.declared.Ruling.the-variants.{Resistant, Failing, Refused}
 use Rattle.resist.specs.Verdict.{Answered, IsResistant, IsFailing}
 use Rattle.nuthatchet.specs.Told.{Told}
-use Rattle.nuthatchet.specs.Ruled.{ruled, TellsRuling, PairsSay}
+use Rattle.nuthatchet.specs.Ruled.{ruled, PairsSay}
 use Rattle.nuthatchet.proofs.Numbered.{zero-says-none}
 
 module _ (row : List ℕ) (k l : ℕ) (entry exit : List ℕ) (p : ℕ) where

@@ -10,8 +10,6 @@ ghost use Rattle.scope.specs.Limits.{longestRow};
 ghost use Rattle.scope.specs.Lines.{replayText, refusedLine};
 ghost use Rattle.scope.specs.Outcome.{outcomeOf, gives, refused, refusalAt};
 ghost use Rattle.scope.specs.Questions.{judge, readFile};
-ghost use Rattle.resist.specs.Verdict.{Answered};
-ghost use Rattle.spare.specs.Slack.{Slacks};
 ghost use Rattle.replay_text.specs.Text.{mayList};
 ghost use Rattle.row_text.specs.Rows.{rowText, numbersOf};
 ghost use Rattle.nuthatchet.specs.Told.{Told, TellsRead, TellsWritten, TellsReplay, TellsText, TellsAll, TellsSlack};

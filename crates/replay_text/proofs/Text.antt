@@ -1,8 +1,8 @@
 -- Laws of the text: a listing looks only at the events of its plan, 65 lines of an input are as many as can matter, and the plan's refusal
 -- comes first.
-use Prim.Native.Nat.{ℕ, zero, suc, _+_, _*_, _/_, _%_, _≤_, _<_}
+use Prim.Native.Nat.{ℕ, zero, suc, _+_, _*_, _/_, _≤_}
 use mathlib.Core.Path.{_≡_, refl, sym, _∙_, ap}
-use mathlib.Core.List.{List, [], _∷_, _++_}
+use mathlib.Core.List.{List, [], _++_}
 use native.Mathlib.Omega.{arith}
 use native.Mathlib.Nat.{mul-assoc}
 use lib.ListN.{length, getD, take, drop, length-append, List·getD-append}
@@ -17,7 +17,7 @@ use Rattle.scope.specs.Cycle.{eventRow}
 use Rattle.scope.specs.Questions.{after, judge, readFile, replay}
 use Rattle.scope.specs.Cuts.{checkCuts}
 use Rattle.scope.specs.Limits.{longestRow, longestEvents}
-use Rattle.scope.specs.Lines.{cutsFrom, cutsOf, header, eventLine, eventLines, arrivedLine, refusedLine, listing, replayText}
+use Rattle.scope.specs.Lines.{cutsFrom, cutsOf, eventLines, refusedLine, listing, replayText}
 use Rattle.cut_lines.specs.Reads.{Cuts}
 use Rattle.cut_lines.proofs.Enough.{enough, enough-cuts}
 use Rattle.cut_lines.proofs.Replay.{few-links, replay-enough}

@@ -2,21 +2,18 @@
 -- room in 36,942 bytes, and a call of `replay_text` allows one outcome.
 use Prim.Native.Nat.{ℕ, _≤_, _<_}
 use mathlib.Core.Path.{_≡_, refl, sym, _∙_, ap}
-use mathlib.Core.Bool.{Bool, true, false}
 use mathlib.Core.List.{List}
 use native.Mathlib.Omega.{arith}
 use lib.ListN.{length, getD, take}
-use lib.Seq.{take-all, take-take}
-use lib.Dec.{ltb}
-use borrow.Author.Tests.{ltb-true, ltb-false, le-leb}
+use lib.Seq.{take-take}
+use borrow.Author.Tests.{le-leb}
 use Rattle.scope.specs.declared.Answer.{Answer}
-use Rattle.scope.specs.declared.Refusal.{Refusal}
 use Rattle.scope.specs.Outcome.{Outcome, gives, refused, outcomeOf, andThen}
-use Rattle.scope.specs.File.{walkFile, rowOf}
+use Rattle.scope.specs.File.{rowOf}
 use Rattle.scope.specs.Plan.{planOf}
 use Rattle.scope.specs.Cycle.{eventRow}
 use Rattle.scope.specs.Questions.{readFile, replay}
-use Rattle.scope.specs.Lines.{cutsFrom, cutsOf, refusedLine, replayText}
+use Rattle.scope.specs.Lines.{cutsFrom, cutsOf, replayText}
 use Rattle.scope.specs.Limits.{longestRow, longestEvents, planRoom, cutsRoom}
 use Rattle.view.proofs.Walked.{walked}
 use Rattle.view.proofs.Parts.{message-count, timeout-is}

@@ -10,7 +10,7 @@ use borrow.Author.Tests.{ltb-true, eqb-false}
 use Rattle.scope.specs.declared.Answer.{Answer}
 use Rattle.scope.specs.declared.Fields.{Fields}
 use Rattle.scope.specs.declared.Refusal.{Refusal}
-use Rattle.scope.specs.Outcome.{Outcome, gives, refused, refuse, outcomeOf}
+use Rattle.scope.specs.Outcome.{Outcome, gives, refused, refuse}
 use Rattle.scope.specs.Fields.{width, step, opening, edition}
 use Rattle.scope.specs.Row.{walkFrom, walkRow}
 use Rattle.scope.specs.Questions.{after, judge, writeFile}

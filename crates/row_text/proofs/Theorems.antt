@@ -13,7 +13,7 @@ use Rattle.scope.specs.Outcome.{Outcome, gives, refused}
 use Rattle.scope.specs.File.{rowOf}
 use Rattle.scope.specs.Questions.{readFile}
 use Rattle.scope.specs.Limits.{longestRow, planRoom}
-use Rattle.scope.specs.Lines.{decimal, refusedLine}
+use Rattle.scope.specs.Lines.{decimal}
 use Rattle.text.proofs.Decimal.{decimal-small, decimal-large, decimal-most}
 use Rattle.listing.proofs.Lines.{refused-size}
 use Rattle.listing.specs.Prints.{Says, Front}

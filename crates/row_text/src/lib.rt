@@ -4,7 +4,7 @@ ghost use mathlib.Core.Path.{_≡_};
 ghost use Prim.Native.Nat.{_+_, _≤_, _<_, _^_};
 ghost use lib.ListN.{length, drop};
 ghost use mathlib.Core.List.{[], _∷_};
-ghost use Rattle.text.specs.Text.{Puts, Told};
+ghost use Rattle.text.specs.Text.{Puts};
 ghost use Rattle.scope.specs.Limits.{longestRow};
 ghost use Rattle.scope.specs.Questions.{readFile};
 ghost use Rattle.listing.specs.Prints.{Says, Prints};

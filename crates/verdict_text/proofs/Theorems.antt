@@ -2,18 +2,15 @@
 -- a file decide it, and a call that prints it allows one outcome.
 use Prim.Native.Nat.{ℕ, zero, suc, _+_, _*_, _≤_, _<_}
 use mathlib.Core.Path.{_≡_, refl, sym, _∙_, ap, ap₂, subst}
-use mathlib.Core.Bool.{Bool, true, false}
 use mathlib.Core.List.{List, [], _++_}
 use native.Mathlib.Omega.{arith}
 use lib.ListN.{length, take, length-append}
-use lib.Seq.{take-all}
-use lib.Dec.{ltb}
-use borrow.Author.Tests.{ltb-true, ltb-false, le-leb}
+use borrow.Author.Tests.{le-leb}
 use Rattle.scope.specs.declared.Answer.{Answer}
 use Rattle.scope.specs.declared.Answer.the-variants.{Gives}
 use Rattle.scope.specs.declared.Refusal.{Refusal}
 use Rattle.scope.specs.Outcome.{Outcome, gives, refused, outcomeOf}
-use Rattle.scope.specs.File.{walkFile, rowOf}
+use Rattle.scope.specs.File.{rowOf}
 use Rattle.scope.specs.Plan.{Plan, planOf}
 use Rattle.scope.specs.Questions.{readFile}
 use Rattle.scope.specs.Lines.{VerdictLine, resistant, failing, failingLine, UnderK, VerdictLines, VerdictText, slackLines, highestK, refusedLine}

@@ -3,7 +3,6 @@ use Prim.Native.Nat.{_≤_, _-_}
 use mathlib.Core.Path.{_≡_}
 use borrow.Author.Needs.{needs}
 use Rattle.files.proofs.Reading.{more-fits}
-use native.Mathlib.Omega.{arith}
 use lib.ListN.{length}
 use Rattle.files.proofs.read_all.Statement.{statement}
 use Rattle.files.proofs.read_all.Tie as tie

@@ -1,5 +1,5 @@
 -- `replay_text::replay_text` meets its contract: by what reading the file gives.
-use mathlib.Core.Path.{sym, _∙_}
+use mathlib.Core.Path.{sym}
 use borrow.Author.Needs.{needs}
 use lib.Seq.{length-take-le}
 use Rattle.plan.proofs.Reading.{read-given, read-refused, read-row, read-fit}
