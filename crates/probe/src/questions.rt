@@ -191,7 +191,7 @@ fn told_slack(spare: Spare, out: &mut [u8], at: usize) -> usize
 {
     match spare {
         Spare::Slots(slots) => probe_lines::told_slack(slots, out, at),
-        Spare::Refused(r) => probe_lines::told_refusal(r.no, r.place, out, at),
+        Spare::Refused(r) => probe_lines::told_refusal(r, out, at),
     }
 }
 

@@ -6,6 +6,7 @@ use native.Mathlib.Omega.{arith}
 use lib.ListN.{length, take, drop, length-append, length-take}
 use lib.IntN.{ℤ, pos, negsuc}
 use Rattle.scope.specs.Lines.{decimal, signed, space, lineFeed, spaced}
+use Rattle.scope.specs.declared.Refusal.{Refusal}
 use Rattle.scope.specs.Outcome.{Outcome, gives, refused}
 use Rattle.text.specs.Text.{Told}
 use Rattle.text.proofs.Decimal.{decimal-all}
@@ -41,11 +42,11 @@ signed-short : (z : ℤ) → length (signed z) ≤ 21
 signed-short (pos n) = let d = decimal-all n in omega arith
 signed-short (negsuc n) = let d = decimal-all (suc n) in omega arith
 
-refused-short : (k p : ℕ) → length (refusedText k p) ≤ 55
-refused-short k p =
-    let a = length-append (decimal k) ((32 ∷ 112 ∷ 108 ∷ 97 ∷ 99 ∷ 101 ∷ 32 ∷ []) ++ decimal p) in
-    let d = decimal-all k in
-    let e = decimal-all p in
+refused-short : (r : Refusal) → length (refusedText r) ≤ 55
+refused-short r =
+    let a = length-append (decimal (r .no)) ((32 ∷ 112 ∷ 108 ∷ 97 ∷ 99 ∷ 101 ∷ 32 ∷ []) ++ decimal (r .place)) in
+    let d = decimal-all (r .no) in
+    let e = decimal-all (r .place) in
     omega arith
 
 numbers-short : (n : ℕ) (s : List ℕ) → length (numbersEnd n s) ≤ 21 * length s + 8
@@ -67,11 +68,11 @@ module _ (at : ℕ) where
       let d = decimal-all m in
       let e = numbers-short n s in
       short-told (told (gives m) n s) (near .from) (omega arith)
-  told-told (refused k p) n s near =
-      let a = length-append (refusedText k p) (ending (allAre filler16 s)) in
-      let d = refused-short k p in
+  told-told (refused r) n s near =
+      let a = length-append (refusedText r) (ending (allAre filler16 s)) in
+      let d = refused-short r in
       let e = ending-short (allAre filler16 s) in
-      short-told (told (refused k p) n s) (near .from) (omega arith)
+      short-told (told (refused r) n s) (near .from) (omega arith)
 
   pub bytes-told : (o : Outcome) (s : List ℕ) → Near at s → Told at (toldBytes o s)
   bytes-told (gives m) s near =
@@ -83,11 +84,11 @@ module _ (at : ℕ) where
       let f = take-short m s in
       let e = ending-short (allAre filler (drop m s)) in
       short-told (toldBytes (gives m) s) (near .from) (omega arith)
-  bytes-told (refused k p) s near =
-      let a = length-append (refusedText k p) (ending (allAre filler s)) in
-      let d = refused-short k p in
+  bytes-told (refused r) s near =
+      let a = length-append (refusedText r) (ending (allAre filler s)) in
+      let d = refused-short r in
       let e = ending-short (allAre filler s) in
-      short-told (toldBytes (refused k p) s) (near .from) (omega arith)
+      short-told (toldBytes (refused r) s) (near .from) (omega arith)
 
   pub slack-told : (z : ℤ) → at ≤ 2 ^ 63 → Told at (slackLine z)
   slack-told z h =
@@ -95,11 +96,11 @@ module _ (at : ℕ) where
       let d = signed-short z in
       short-told (slackLine z) h (omega arith)
 
-  pub refusal-told : (k p : ℕ) → at ≤ 2 ^ 63 → Told at (refusedLine k p)
-  refusal-told k p h =
-      let a = length-append (refusedText k p) lineFeed in
-      let d = refused-short k p in
-      short-told (refusedLine k p) h (omega arith)
+  pub refusal-told : (r : Refusal) → at ≤ 2 ^ 63 → Told at (refusedLine r)
+  refusal-told r h =
+      let a = length-append (refusedText r) lineFeed in
+      let d = refused-short r in
+      short-told (refusedLine r) h (omega arith)
 
   pub resistant-told : (s : List ℕ) → at ≤ 2 ^ 63 → Told at (resistantLine s)
   resistant-told s h = let e = ending-short (allAre filler16 s) in short-told (resistantLine s) h (omega arith)

@@ -5,6 +5,7 @@ use mathlib.Core.List.{List, [], _∷_, _++_}
 use lib.ListN.{length, take, drop}
 use lib.IntN.{ℤ}
 use lib.Dec.{ltb}
+use Rattle.scope.specs.declared.Refusal.{Refusal}
 use Rattle.scope.specs.Outcome.{Outcome, gives, refused}
 use Rattle.scope.specs.Lines.{decimal, signed, space, lineFeed, spaced}
 use Rattle.probe_words.specs.Words.{hexWord, filler, filler16, allAre}
@@ -22,8 +23,10 @@ ending false = 32 ∷ 115 ∷ 112 ∷ 111 ∷ 105 ∷ 108 ∷ 116 ∷ 10 ∷ []
 abbrev pub okText : ℕ → List ℕ
 okText n = (111 ∷ 107 ∷ 32 ∷ []) ++ decimal n
 
-abbrev pub refusedText : ℕ → ℕ → List ℕ
-refusedText k p = (114 ∷ 101 ∷ 102 ∷ 117 ∷ 115 ∷ 101 ∷ 100 ∷ 32 ∷ []) ++ (decimal k ++ ((32 ∷ 112 ∷ 108 ∷ 97 ∷ 99 ∷ 101 ∷ 32 ∷ []) ++ decimal p))
+abbrev pub refusedText : Refusal → List ℕ
+refusedText r =
+    (114 ∷ 101 ∷ 102 ∷ 117 ∷ 115 ∷ 101 ∷ 100 ∷ 32 ∷ []) ++
+    (decimal (r .no) ++ ((32 ∷ 112 ∷ 108 ∷ 97 ∷ 99 ∷ 101 ∷ 32 ∷ []) ++ decimal (r .place)))
 
 -- so many numbers, or bytes, that were written to the front of a lent buffer, and the end of the line
 abbrev pub numbersEnd : ℕ → List ℕ → List ℕ
@@ -35,19 +38,19 @@ bytesEnd written lent = space ++ (hexWord (take written lent) ++ ending (allAre 
 -- an outcome with so many numbers that it wrote
 abbrev pub told : Outcome → ℕ → List ℕ → List ℕ
 told (gives n) written lent = okText n ++ numbersEnd written lent
-told (refused k p) written lent = refusedText k p ++ ending (allAre filler16 lent)
+told (refused r) written lent = refusedText r ++ ending (allAre filler16 lent)
 
 -- an outcome with the bytes that it wrote
 abbrev pub toldBytes : Outcome → List ℕ → List ℕ
 toldBytes (gives n) lent = okText n ++ bytesEnd n lent
-toldBytes (refused k p) lent = refusedText k p ++ ending (allAre filler lent)
+toldBytes (refused r) lent = refusedText r ++ ending (allAre filler lent)
 
 -- a slack, and a refusal that lent nothing
 abbrev pub slackLine : ℤ → List ℕ
 slackLine z = (111 ∷ 107 ∷ 32 ∷ []) ++ (signed z ++ lineFeed)
 
-abbrev pub refusedLine : ℕ → ℕ → List ℕ
-refusedLine k p = refusedText k p ++ lineFeed
+abbrev pub refusedLine : Refusal → List ℕ
+refusedLine r = refusedText r ++ lineFeed
 
 -- how many numbers so many pairs are; no list has more than three
 abbrev pub numbersOf : ℕ → ℕ

@@ -12,6 +12,7 @@ use probe_words::kept_16;
 use probe_words::put_bytes;
 use probe_words::put_numbers;
 use scope::Answer;
+use scope::Refusal;
 use text::put_byte;
 use text::put_decimal;
 use text::put_number;
@@ -46,14 +47,14 @@ fn ok(out: &mut [u8], at: usize, n: usize) -> usize
 }
 
 // A refusal, without the end of its line.
-fn refused(out: &mut [u8], at: usize, no: usize, place: usize) -> usize
-    requires { ⌜ Told at (refusedText no place) ⌝ }
-    ensures { λ r. ⌜ Puts (refusedText no place) (now (out .entry)) (now (out .exit)) at r ⌝ }
+fn refused(out: &mut [u8], at: usize, refusal: Refusal) -> usize
+    requires { ⌜ Told at (refusedText refusal) ⌝ }
+    ensures { λ r. ⌜ Puts (refusedText refusal) (now (out .entry)) (now (out .exit)) at r ⌝ }
 {
     let first = put_word(out, at, b"refused ");
-    let word = put_decimal(out, first, no);
+    let word = put_decimal(out, first, refusal.no);
     let last = put_word(out, word, b" place ");
-    put_decimal(out, last, place)
+    put_decimal(out, last, refusal.place)
 }
 
 // Numbers that were written to the front of a lent row, and its end.
@@ -86,7 +87,7 @@ pub fn told(answer: Answer, written: usize, lent: &[u16], out: &mut [u8], at: us
             numbers_end(out, next, lent, written)
         }
         Answer::Refused(r) => {
-            let last = refused(out, at, r.no, r.place);
+            let last = refused(out, at, r);
             end(out, last, kept_16(lent, 0))
         }
     }
@@ -103,7 +104,7 @@ pub fn told_bytes(answer: Answer, lent: &[u8], out: &mut [u8], at: usize) -> usi
             bytes_end(out, next, lent, n)
         }
         Answer::Refused(r) => {
-            let last = refused(out, at, r.no, r.place);
+            let last = refused(out, at, r);
             end(out, last, kept(lent, 0))
         }
     }
@@ -120,11 +121,11 @@ pub fn told_slack(slots: i32, out: &mut [u8], at: usize) -> usize
 }
 
 // A refusal of a question that lends nothing.
-pub fn told_refusal(no: usize, place: usize, out: &mut [u8], at: usize) -> usize
+pub fn told_refusal(refusal: Refusal, out: &mut [u8], at: usize) -> usize
     requires { ⌜ at ≤ 2 ^ 63 ⌝ }
-    ensures { λ r. ⌜ Puts (refusedLine no place) (now (out .entry)) (now (out .exit)) at r ⌝ }
+    ensures { λ r. ⌜ Puts (refusedLine refusal) (now (out .entry)) (now (out .exit)) at r ⌝ }
 {
-    let last = refused(out, at, no, place);
+    let last = refused(out, at, refusal);
     put_byte(out, last, b'\n')
 }
 

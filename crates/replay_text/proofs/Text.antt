@@ -1,7 +1,7 @@
 -- Laws of the text: a listing looks only at the events of its plan, 65 lines of an input are as many as can matter, and the plan's refusal
 -- comes first.
 use Prim.Native.Nat.{ℕ, zero, suc, _+_, _*_, _/_, _≤_}
-use mathlib.Core.Path.{_≡_, refl, sym, _∙_, ap}
+use mathlib.Core.Path.{_≡_, refl, sym, _∙_, ap, subst}
 use mathlib.Core.List.{List, [], _++_}
 use native.Mathlib.Omega.{arith}
 use native.Mathlib.Nat.{mul-assoc}
@@ -25,6 +25,9 @@ use Rattle.listing.specs.Prints.{Says, Prints}
 use Rattle.listing.proofs.Printing.{prints-as, says-as, says-given, says-refused}
 use Rattle.cut_replay.specs.Replay.{Replays}
 use Rattle.cut_replay.proofs.Ways.{numbers-needed}
+use Rattle.plan.specs.Answers.{GoodRow}
+use Rattle.plan.proofs.Ways.{good-row}
+use Rattle.plan.proofs.Reading.{read-judged}
 use Rattle.replay_text.specs.Text.{textOf, mayList}
 
 -- what stands behind the events is not looked at
@@ -148,3 +151,7 @@ text-line file input r may = by (readFile file longestRow) refl
     by (gives n) e =
         text-given file input n e
         ∙ ap (λ (o : Outcome). listing o (planOf (rowOf file)) (eventRow (planOf (rowOf file)) (cutsOf input))) (may-given file input (rowOf file) n e refl ∙ may)
+
+-- a row that was read is good
+pub good-read : (file row : List ℕ) (n : ℕ) → readFile file longestRow ≡ gives n → row ≡ rowOf file → GoodRow row
+good-read file row n e is = subst GoodRow (sym is) (good-row (rowOf file) (length (rowOf file)) (read-judged file longestRow n e))

@@ -6,6 +6,7 @@ ghost use Rattle.listing.specs.Prints.{Says};
 ghost use Rattle.scope.specs.Questions.{replay};
 ghost use Rattle.scope.specs.Limits.{longestEvents};
 ghost use Rattle.scope.specs.Lines.{cutsOf, replayText};
+ghost use Rattle.plan.specs.Answers.{GoodRow};
 ghost use Rattle.replay_text.specs.Text.{textOf, mayList};
 use scope::Answer;
 use scope::limits;
@@ -13,12 +14,13 @@ use scope::limits;
 // The numbers of 65 cuts, which are as many as can matter.
 const MOST_CUTS: usize = 130;
 
-// The listing of the replay of a row under a cut list: how many bytes, or refusal 1 to 10, 12, 13.
+// The listing of the replay of a good row under a cut list: how many bytes, or refusal 12, 13.
 fn played(row: &[u16], cuts: &[u16], out: &mut [u8]) -> Answer
+    requires { ⌜ GoodRow (now row) ⌝ }
     ensures { λ r. ⌜ Says (replay (now (row .entry)) (now (cuts .entry)) longestEvents) (textOf (now (row .entry)) (now (cuts .entry))) (now (out .entry)) (now (out .exit)) r ⌝ }
 {
     let mut events = [0u16; limits::EVENTS];
-    let answer = cut_replay::replay(row, cuts, &mut events);
+    let answer = cut_replay::replay_good(row, cuts, &mut events);
     match answer {
         Answer::Gives(n) => listing::listing(n, row, &events, out),
         Answer::Refused(refusal) => Answer::Refused(refusal),
@@ -27,6 +29,7 @@ fn played(row: &[u16], cuts: &[u16], out: &mut [u8]) -> Answer
 
 // The same for the cuts that an input says.
 fn played_input(row: &[u16], input: &[u8], out: &mut [u8]) -> Answer
+    requires { ⌜ GoodRow (now row) ⌝ }
     ensures { λ r. ⌜ Says (replay (now (row .entry)) (cutsOf (now (input .entry))) longestEvents) (textOf (now (row .entry)) (cutsOf (now (input .entry)))) (now (out .entry)) (now (out .exit)) r ⌝ }
 {
     let mut pairs = [0u16; MOST_CUTS];

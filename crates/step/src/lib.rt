@@ -296,7 +296,8 @@ fn act_one(
     let free = p.acts(row, down, slot, 0, m as u16, m as u16);
     let event = free.event;
     if event.kind() != 3 {
-        return free;
+        let next = free.next;
+        return Moved { next, event };
     }
     let link = event.number();
     let entry = table::entry(table, slot.0, link as usize);

@@ -6,10 +6,10 @@ use Rattle.probe_lines.proofs.told_refusal.Statement.{statement}
 use Rattle.probe_lines.proofs.told_refusal.Tie as tie
 
 refused-requires : tie.Need-refused-requires
-refused-requires c κs = told-first _ _ (refusal-told _ (c .before .before .args .no) (c .before .before .args .place) (c .before .before .pre))
+refused-requires c κs = told-first _ _ (refusal-told _ (c .before .before .args .refusal) (c .before .before .pre))
 
 put-byte-requires : tie.Need-put-byte-requires
-put-byte-requires c κs = told-rest (c .before .before .before .refused .ensures) _ (refusal-told _ (c .before .before .before .before .before .before .args .no) (c .before .before .before .before .before .before .args .place) (c .before .before .before .before .before .before .pre))
+put-byte-requires c κs = told-rest (c .before .before .before .refused .ensures) _ (refusal-told _ (c .before .before .before .before .before .before .args .refusal) (c .before .before .before .before .before .before .pre))
 
 same-length : tie.Need-same-length
 same-length c = search needs

@@ -4,11 +4,11 @@ use Rattle.replay_text.proofs.Text.{played-given, played-refused}
 use Rattle.replay_text.proofs.played.Statement.{statement}
 use Rattle.replay_text.proofs.played.Tie as tie
 
-slice-aggregate-replay : tie.Need-slice-aggregate-replay
-slice-aggregate-replay c = search needs
+slice-aggregate-replay-good : tie.Need-slice-aggregate-replay-good
+slice-aggregate-replay-good c = search needs
 
-replay-requires : tie.Need-replay-requires
-replay-requires c κs = search needs
+replay-good-requires : tie.Need-replay-good-requires
+replay-good-requires c κs = search needs
 
 enum-known-answer : tie.Need-enum-known-answer
 enum-known-answer c = search needs
@@ -26,17 +26,17 @@ same-length : tie.Need-same-length
 same-length c = search needs
 
 returns : tie.Need-returns
-returns c = played-given _ _ _ _ _ (search needs) (c .before .before .before .before .before .before .before .before .before .replay .ensures) _ (c .before .before .before .before .before .before .answer .given .1) (c .before .before .listing .ensures)
+returns c = played-given _ _ _ _ _ (search needs) (c .before .before .before .before .before .before .before .before .before .replay-good .ensures) _ (c .before .before .before .before .before .before .answer .given .1) (c .before .before .listing .ensures)
 
 returns-2 : tie.Need-returns-2
-returns-2 c = played-refused _ _ _ _ _ (search needs) (c .before .before .before .before .replay .ensures) _ (c .before .answer2 .given .1) _
+returns-2 c = played-refused _ _ _ _ _ (search needs) (c .before .before .before .before .replay-good .ensures) _ (c .before .answer2 .given .1) _
 
 pub played-spec : {M : Type 1} → statement M
 played-spec =
     tie.close
     (tie.spec
-    slice-aggregate-replay
-    replay-requires
+    slice-aggregate-replay-good
+    replay-good-requires
     enum-known-answer
     slice-aggregate-listing
     listing-requires

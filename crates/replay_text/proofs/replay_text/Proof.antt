@@ -4,7 +4,7 @@ use borrow.Author.Needs.{needs}
 use lib.Seq.{length-take-le}
 use Rattle.plan.proofs.Reading.{read-given, read-refused, read-row, read-fit}
 use Rattle.listing.proofs.Printing.{says-as, says-refused}
-use Rattle.replay_text.proofs.Text.{text-row, may-refused, may-given}
+use Rattle.replay_text.proofs.Text.{good-read, text-row, may-refused, may-given}
 use Rattle.replay_text.proofs.replay_text.Statement.{statement}
 use Rattle.replay_text.proofs.replay_text.Tie as tie
 
@@ -24,7 +24,11 @@ slice-aggregate-played-input : tie.Need-slice-aggregate-played-input
 slice-aggregate-played-input c = sym (length-take-le _ _ (read-fit _ _ _ _ (c .before .before .before .before .before .read-file .ensures) _ (c .before .before .read .given .1)))
 
 played-input-requires : tie.Need-played-input-requires
-played-input-requires c κs = search needs
+played-input-requires c κs =
+    let known = c .before .before in
+    let read = known .before .before .before .before .read-file .ensures in
+    let gave = known .before .read .given .1 in
+    good-read _ _ _ (read-given _ _ _ _ read _ _ (search needs) gave) (read-row _ _ _ _ read _ gave)
 
 enum-known-read-2 : tie.Need-enum-known-read-2
 enum-known-read-2 c = search needs

@@ -21,8 +21,8 @@ kind-requires c κs = search needs
 
 returns : tie.Need-returns
 returns c =
-    let a = c .before .before .before .before .before .before .before .args in
-    acts-idle (isDown (a .down .now)) (entryAt (a .table .now) (a .slot .0)) (a .slot .0) (a .tried .now) (a .m) (a .row .now) (a .p) _ (c .before .before .acts .ensures) _ (c .before .kind .ensures) (c .if1 .taken)
+    let a = c .before .before .before .before .before .before .before .before .args in
+    acts-idle (isDown (a .down .now)) (entryAt (a .table .now) (a .slot .0)) (a .slot .0) (a .tried .now) (a .m) (a .row .now) (a .p) _ (c .before .before .before .acts .ensures) _ (c .before .before .kind .ensures) (c .before .if1 .taken)
 
 number-requires : tie.Need-number-requires
 number-requires c κs = search needs
