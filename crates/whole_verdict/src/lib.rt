@@ -16,9 +16,11 @@ ghost use Rattle.program_io.specs.Came.{Came, planFile};
 use scope::Answer;
 use scope::limits;
 
-// On standard error, how far it is, once the clock shows another second than at the start.
-fn progress(name: &[u8], k: usize, start: i64) {
-    if program_io::seconds() != start {
+// On standard error, how far it is, once the clock shows another second than at the start; and always before what may take minutes, which is
+// k 3 where E × t is above 64.
+fn progress(name: &[u8], row: &[u16], k: usize, start: i64) {
+    let large = k == 3 && verdict_text::highest(row, 1) == 1;
+    if large || program_io::seconds() != start {
         program_io::say(name, b": trying lists of up to ", k as u64, b" cuts\n");
     }
 }
@@ -31,7 +33,7 @@ fn table(name: &[u8], row: &[u16], n: usize, start: i64, out: &mut [u8]) -> usiz
     let mut next = 0;
     let mut k = 0;
     while k < n {
-        progress(name, k, start);
+        progress(name, row, k, start);
         next = verdict_text::lines_under(row, k, out, next);
         k += 1;
     }
