@@ -17,6 +17,7 @@ static void is(const char *what, size_t number, size_t wanted, size_t wanted_pla
 
 int main(void) {
     const uint16_t b[] = {1, 2, 2, 1, 3, 0, 1, 0, 2, 2, 1, 0, 0, 0, 1, 1, 1, 2, 0, 0, 1, 1, 1, 1, 2};
+    const uint8_t file[] = {0x10, 0x82, 0x08, 0x60, 0x02, 0x00, 0x41, 0x02, 0x00, 0x01, 0x10, 0x42, 0x00, 0x01, 0x88, 0x21, 0x00};
     uint16_t events[16];
     uint8_t text[18];
     int32_t slots = 99;
@@ -38,10 +39,12 @@ int main(void) {
     number = nuthatchet_slack(NULL, 0, 0, 0, &place, &slots);
     result = (size_t)slots;
     is("slack", number, 2, 0, 0);
-    is("replay_text", nuthatchet_replay_text(NULL, 0, NULL, 0, text, 18, &place, &result), 0, 0, 18);
-    is("replay_text without room", nuthatchet_replay_text(NULL, 0, NULL, 0, NULL, 0, &place, &result), 13, 18, 0);
-    is("row_text", nuthatchet_row_text(NULL, 0, text, 18, &place, &result), 0, 0, 18);
-    is("row_text without room", nuthatchet_row_text(NULL, 0, NULL, 0, &place, &result), 13, 18, 0);
+    is("replay_text", nuthatchet_replay_text(NULL, 0, NULL, 0, NULL, 0, &place, &result), 2, 0, 0);
+    is("replay_text of B without room", nuthatchet_replay_text(file, 17, NULL, 0, NULL, 0, &place, &result), 13, 104, 0);
+    is("row_text", nuthatchet_row_text(NULL, 0, NULL, 0, &place, &result), 2, 0, 0);
+    is("row_text of B without room", nuthatchet_row_text(file, 17, NULL, 0, &place, &result), 13, 50, 0);
+    is("refusal_text", nuthatchet_refusal_text(2, 0, text, 18, &place, &result), 0, 0, 18);
+    is("refusal_text without room", nuthatchet_refusal_text(2, 0, NULL, 0, &place, &result), 13, 18, 0);
     is("pack_text", nuthatchet_pack_text(NULL, 0, NULL, 0, &place, &result), 2, 0, 0);
     printf("%d passed, %d failed\n", passed, failed);
     return failed != 0;
