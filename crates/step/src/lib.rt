@@ -231,23 +231,15 @@ impl Position {
             Moved { next, event }
         }
     }
+}
 
-    // What message m does in a slot: it turns if it must, and acts. `entry` is what the table has for the link that it meets, and `first`
-    // who goes first of those that try that link, m itself where nobody is before it.
-    pub fn acts(self, row: &[u16], down: &[u8], slot: Slot, entry: u8, first: u16, m: u16) -> Moved
-        requires { ⌜ endOf (now row) self < 65536 ⌝ }
-        ensures { λ r. ⌜ Acts (now (row .entry)) self (act (isDown (now (down .entry))) (slot .0) entry (not (eqb first m)) first (turn (isDown (now (down .entry))) (positionOf (now (row .entry)) self))) r ⌝ }
-    {
-        if self.is_home() {
-            let event = Event::Arrived;
-            return Moved { next: self, event };
-        }
-        let met = self.meets(row, down);
-        let p = met.position;
+impl Met {
+    pub fn acts(self, row: &[u16], slot: Slot, entry: u8, first: u16, m: u16) -> Moved {
+        let p = self.position;
         if p.turned {
-            p.act_second(row, met.link, met.down, entry, first, m)
+            p.act_second(row, self.link, self.down, entry, first, m)
         } else {
-            p.act_first(row, slot, met.link, met.down)
+            p.act_first(row, slot, self.link, self.down)
         }
     }
 }
@@ -293,17 +285,22 @@ fn act_one(
     requires { ⌜ MayAct (now row) p m (slot .0) (now tried) ⌝ }
     ensures { λ r. ⌜ ActsIn (now (row .entry)) (isDown (now (down .entry))) (entryAt (now (table .entry)) (slot .0)) (slot .0) p m (now (tried .entry)) (now (tried .exit)) r ⌝ }
 {
-    let free = p.acts(row, down, slot, 0, m as u16, m as u16);
-    let event = free.event;
-    if event.kind() != 3 {
-        let next = free.next;
-        return Moved { next, event };
+    if p.is_home() {
+        let event = Event::Arrived;
+        return Moved { next: p, event };
     }
-    let link = event.number();
-    let entry = table::entry(table, slot.0, link as usize);
-    let first = first_trier(tried, link, m);
-    note(tried, link, m);
-    p.acts(row, down, slot, entry, first as u16, m as u16)
+    let met = p.meets(row, down);
+    let q = met.position;
+    let mut entry = 0u8;
+    let mut first = m;
+    if q.turned {
+        if !met.down {
+            entry = table::entry(table, slot.0, met.link as usize);
+            first = first_trier(tried, met.link, m);
+            note(tried, met.link, m);
+        }
+    }
+    met.acts(row, slot, entry, first as u16, m as u16)
 }
 
 // The next position of message m.
