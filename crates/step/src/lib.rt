@@ -7,14 +7,14 @@
 use cuts::is_down;
 use rows::number;
 use scope::limits::MESSAGES;
-ghost use Prim.Native.Nat.{_+_, _-_, _*_, _<_, _≤_};
+ghost use Prim.Native.Nat.{ℕ, _+_, _-_, _*_, _<_, _≤_};
 ghost use mathlib.Core.Path.{_≡_};
-ghost use mathlib.Core.Bool.{true, false, not};
+ghost use mathlib.Core.Bool.{Bool, true, false, not};
 ghost use mathlib.Core.List.{_++_};
 ghost use lib.ListN.{length, drop, set};
 ghost use lib.Dec.{eqb};
 ghost use Rattle.scope.specs.Plan.{at, numbersAt, placeAt, placeSize, placesAt};
-ghost use Rattle.scope.specs.Slot.{onFirst, onFirstPath, onSecondPath, turn, act};
+ghost use Rattle.scope.specs.Slot.{onFirst, onFirstPath, onSecondPath, act};
 ghost use Rattle.scope.specs.Cycle.{numbers};
 ghost use Rattle.cuts.specs.Down.{isDown};
 ghost use Rattle.table.specs.Table.{entryAt};
@@ -234,7 +234,12 @@ impl Position {
 }
 
 impl Met {
-    pub fn acts(self, row: &[u16], slot: Slot, entry: u8, first: u16, m: u16) -> Moved {
+    // What message m does in a slot once it has turned, if it must: self is what it meets. `entry` is what the table has for the link before
+    // it, and `first` who goes first of those that try that link, m itself where nobody is before it.
+    pub fn acts(self, row: &[u16], slot: Slot, entry: u8, first: u16, m: u16) -> Moved
+        requires { ⌜ (0 < self .position .left) × (endOf (now row) (self .position) < 65536) × (self .link ≡ at (now row) (self .position .at)) ⌝ }
+        ensures { λ r. ⌜ ((down : ℕ → Bool) → self .down ≡ down (self .link) → Acts (now (row .entry)) (self .position) (act down (slot .0) entry (not (eqb first m)) first (positionOf (now (row .entry)) (self .position))) r) ⌝ }
+    {
         let p = self.position;
         if p.turned {
             p.act_second(row, self.link, self.down, entry, first, m)
@@ -271,8 +276,8 @@ fn note(tried: &mut [u16], link: u16, m: usize)
     tried[0] = (n + 1) as u16;
 }
 
-// What message m does in a slot, in a pass over the messages: `tried` has what those before it try. If it crosses a link of its second
-// path where nothing holds it, that link is what it tries.
+// What message m does in a slot, in a pass over the messages: `tried` has what those before it try. It tries the link before it if it has
+// turned and that link is whole; only then does it matter who holds the link, and who tries it first.
 fn act_one(
     p: Position,
     m: usize,
@@ -291,16 +296,13 @@ fn act_one(
     }
     let met = p.meets(row, down);
     let q = met.position;
-    let mut entry = 0u8;
-    let mut first = m;
-    if q.turned {
-        if !met.down {
-            entry = table::entry(table, slot.0, met.link as usize);
-            first = first_trier(tried, met.link, m);
-            note(tried, met.link, m);
-        }
+    if q.turned && !met.down {
+        let entry = table::entry(table, slot.0, met.link as usize);
+        let first = first_trier(tried, met.link, m);
+        note(tried, met.link, m);
+        return met.acts(row, slot, entry, first as u16, m as u16);
     }
-    met.acts(row, slot, entry, first as u16, m as u16)
+    met.acts(row, slot, 0, m as u16, m as u16)
 }
 
 // The next position of message m.
