@@ -10,7 +10,7 @@ use Rattle.scope.specs.Slot.{onSecond, turn, onFirstPath, onSecondPath, act}
 use Rattle.step.specs.declared.Position.{Position}
 use Rattle.step.specs.declared.Met.{Met}
 use Rattle.step.specs.declared.Moved.{Moved}
-use Rattle.step.specs.Where.{leftAt, positionOf, endAt, endOf, Leads, Acts, Faces, Meets}
+use Rattle.step.specs.Where.{leftAt, positionOf, endAt, Leads, Acts, Faces, Meets}
 use Rattle.step.proofs.Left.{numbers-next, places-next, after-size, size-second}
 use Rattle.step.proofs.Steps.{act-first, act-second}
 
