@@ -1,17 +1,19 @@
 -- What one message does in a pass over the messages, and what has been tried after it.
-use Prim.Native.Nat.{ℕ, _+_}
+use Prim.Native.Nat.{ℕ, _+_, _<_}
 use mathlib.Core.Path.{_≡_, refl, sym, _∙_, ap}
 use mathlib.Core.Bool.{Bool, true, false, not, cond}
 use mathlib.Core.List.{List, [], _∷_}
 use native.Mathlib.Omega.{arith}
 use lib.Dec.{eqb}
-use borrow.Author.Tests.{eq-eqb, ne-eqb}
+use borrow.Author.Tests.{ne-eqb}
+use Rattle.scope.specs.Plan.{at}
 use Rattle.scope.specs.Slot as S
 use Rattle.step.specs.declared.Position.{Position}
+use Rattle.step.specs.declared.Met.{Met}
 use Rattle.step.specs.declared.Moved.{Moved}
-use Rattle.step.specs.Events.{eventOf}
-use Rattle.step.specs.Where.{leftAt, positionOf, movedOf, Acts}
+use Rattle.step.specs.Where.{leftAt, positionOf, Acts, Meets}
 use Rattle.step.specs.Pass.{firstTrier, noted, triedAfter, does, ActsIn, MovesIn}
+use Rattle.step.proofs.Left.{numbers-next}
 use Rattle.step.proofs.Steps.{home-tries, home-acts}
 use Rattle.step.proofs.Pass.{tries-next}
 
@@ -27,61 +29,60 @@ act-idle down i entry entry′ held held′ first first′ (S.onSecond (e ∷ es
     by true z = refl
     by false z = absurd (omega arith)
 
--- where nothing holds it, it crosses a link of its second path exactly if it tries that link
-module _ (down : ℕ → Bool) (i m : ℕ) where
-  free-idle : (q : S.Position) → (S.act down i 0 false m q .event .kind ≡ 3 → ⊥) → 0 ≡ S.tries down q
-  free-idle (S.onFirst ps) h = refl
-  free-idle (S.onSecond []) h = refl
-  free-idle (S.onSecond (e ∷ es)) h = by (down e) h
-    where
-      by : (b : Bool) → (S.onSecondPath b 0 false m e es .event .kind ≡ 3 → ⊥) → 0 ≡ cond b 0 (e + 1)
-      by true h = refl
-      by false h = absurd (h refl)
+-- with a link before it, it tries that link exactly if it has turned and the link is whole
+module _ (row : List ℕ) (i n : ℕ) (l : 0 < n) (down : ℕ → Bool) (e : ℕ) (p : e ≡ at row i) (d : Bool) (q : d ≡ down e) where
+  first-tries : (b : Bool) → b ≡ false → 0 ≡ S.tries down (leftAt row b i n)
+  first-tries b f = rw f
 
-  free-tries : (q : S.Position) → S.act down i 0 false m q .event .kind ≡ 3 → S.act down i 0 false m q .event .number + 1 ≡ S.tries down q
-  free-tries (S.onFirst []) h = absurd (omega arith)
-  free-tries (S.onFirst (p ∷ ps)) h = by (down (p .link)) (eqb (p .slot) i) h
-    where
-      by : (b t : Bool) →
-          cond b (S.moved (S.onFirst (p ∷ ps)) 6 (p .link)) (cond t (S.moved (S.onFirst ps) 2 (p .link)) (S.moved (S.onFirst (p ∷ ps)) 1 (p .link))) .event .kind ≡ 3 →
-          cond b (S.moved (S.onFirst (p ∷ ps)) 6 (p .link)) (cond t (S.moved (S.onFirst ps) 2 (p .link)) (S.moved (S.onFirst (p ∷ ps)) 1 (p .link))) .event .number + 1 ≡ 0
-      by true t h = absurd (omega arith)
-      by false true h = absurd (omega arith)
-      by false false h = absurd (omega arith)
-  free-tries (S.onSecond []) h = absurd (omega arith)
-  free-tries (S.onSecond (e ∷ es)) h = by (down e) h
-    where
-      by : (b : Bool) → S.onSecondPath b 0 false m e es .event .kind ≡ 3 → S.onSecondPath b 0 false m e es .event .number + 1 ≡ cond b 0 (e + 1)
-      by true h = absurd (omega arith)
-      by false h = refl
+  cut-tries : (b : Bool) → d ≡ true → 0 ≡ S.tries down (leftAt row b i n)
+  cut-tries true h = rw (numbers-next row i n l, ← p, ← q, h)
+  cut-tries false h = refl
+
+  whole-tries : (b : Bool) → b ≡ true → d ≡ false → e + 1 ≡ S.tries down (leftAt row b i n)
+  whole-tries b f h = rw (f, numbers-next row i n l, ← p, ← q, h)
 
 module _ (down : ℕ → Bool) (owner : ℕ → ℕ) (i : ℕ) (tried : List ℕ) (m : ℕ) where
-  module _ (row : List ℕ) (p : Position) (r₀ : Moved) (a₀ : Acts row p (S.act down i 0 (not (eqb m m)) m (S.turn down (positionOf row p))) r₀) where
-    -- what it does where nothing holds it
-    is-free : movedOf row r₀ ≡ S.act down i 0 false m (S.turn down (positionOf row p))
-    is-free = a₀ .is ∙ ap (λ b. S.act down i 0 (not b) m (S.turn down (positionOf row p))) (eq-eqb m m refl)
+  module _ (row : List ℕ) (p : Position) (t : Met) (h : Meets row down p t) where
+    -- what it does after its turn
+    turned-acts : (entry : ℕ) (held : Bool) (first : ℕ) (r : Moved) → Acts row (t .position) (S.act down i entry held first (positionOf row (t .position))) r →
+        Acts row p (S.act down i entry held first (S.turn down (positionOf row p))) r
+    turned-acts entry held first r a =
+        record { is = a .is ∙ ap (S.act down i entry held first) (h .turned .is); within = omega (arith, a .within, h .turned .within) }
 
     -- it tries nothing
-    pub acts-idle : (k : ℕ) → k ≡ eventOf (r₀ .event) .kind → (k ≡ 3 → ⊥) → ActsIn row down owner i p m tried tried r₀
+    idle : (entry : ℕ) (held : Bool) (first : ℕ) (r : Moved) → 0 ≡ S.tries down (positionOf row (t .position)) →
+        Acts row (t .position) (S.act down i entry held first (positionOf row (t .position))) r → ActsIn row down owner i p m tried tried r
     unfolding does triedAfter
-    acts-idle k e n =
-        let q = S.turn down (positionOf row p) in
-        let idle : 0 ≡ S.tries down (S.turn down (positionOf row p)) = free-idle down i m q (λ z. n (e ∙ ap (λ x. x .event .kind) is-free ∙ z)) in
+    idle entry held first r z a₀ =
+        let a : Acts row p (S.act down i entry held first (S.turn down (positionOf row p))) r = turned-acts entry held first r a₀ in
+        let idle : 0 ≡ S.tries down (S.turn down (positionOf row p)) = z ∙ ap (S.tries down) (h .turned .is) in
         record {
-          acts = record { is = a₀ .is ∙ act-idle down i _ _ _ _ _ _ (S.turn down (positionOf row p)) idle; within = a₀ .within };
+          acts = record { is = a .is ∙ act-idle down i _ _ _ _ _ _ (S.turn down (positionOf row p)) idle; within = a .within };
           noted = ap (λ x. cond (eqb x 0) tried (noted tried (S.nextSecond (S.turn down (positionOf row p))) m)) idle;
         }
 
-    -- it tries a link
-    pub acts-tries : (k e entry first : ℕ) (tried′ : List ℕ) (r : Moved) → k ≡ eventOf (r₀ .event) .kind → k ≡ 3 → e ≡ eventOf (r₀ .event) .number →
-        entry ≡ owner e → first ≡ firstTrier tried e m → tried′ ≡ noted tried e m →
-        Acts row p (S.act down i entry (not (eqb first m)) first (S.turn down (positionOf row p))) r → ActsIn row down owner i p m tried tried′ r
+    -- it is on its first path, or its link is cut
+    pub acts-first : (entry : ℕ) (held : Bool) (first : ℕ) (r : Moved) → t .position .turned ≡ false →
+        Acts row (t .position) (S.act down i entry held first (positionOf row (t .position))) r → ActsIn row down owner i p m tried tried r
+    acts-first entry held first r f =
+        idle entry held first r (first-tries row (t .position .at) (t .position .left) (h .left) down (t .link) (h .link) (t .down) (h .cut) (t .position .turned) f)
+
+    pub acts-cut : (entry : ℕ) (held : Bool) (first : ℕ) (r : Moved) → t .down ≡ true →
+        Acts row (t .position) (S.act down i entry held first (positionOf row (t .position))) r → ActsIn row down owner i p m tried tried r
+    acts-cut entry held first r d =
+        idle entry held first r (cut-tries row (t .position .at) (t .position .left) (h .left) down (t .link) (h .link) (t .down) (h .cut) (t .position .turned) d)
+
+    -- it tries the link before it
+    pub acts-tries : (entry first : ℕ) (tried′ : List ℕ) (r : Moved) → t .position .turned ≡ true → t .down ≡ false →
+        entry ≡ owner (t .link) → first ≡ firstTrier tried (t .link) m → tried′ ≡ noted tried (t .link) m →
+        Acts row (t .position) (S.act down i entry (not (eqb first m)) first (positionOf row (t .position))) r → ActsIn row down owner i p m tried tried′ r
     unfolding does triedAfter
-    acts-tries k e entry first tried′ r g z y o f w a =
-        let t : eventOf (r₀ .event) .number + 1 ≡ S.tries down (S.turn down (positionOf row p)) =
-        ap (λ x. x .event .number + 1) is-free ∙ free-tries down i m (S.turn down (positionOf row p)) (sym (ap (λ x. x .event .kind) is-free) ∙ sym g ∙ z) in
-        let some : S.tries down (S.turn down (positionOf row p)) ≡ 0 → ⊥ = λ x. omega (arith, t, x) in
-        let next : e ≡ S.nextSecond (S.turn down (positionOf row p)) = omega (arith, t, y, tries-next down (S.turn down (positionOf row p)) some) in
+    acts-tries entry first tried′ r g d o f w a₀ =
+        let a : Acts row p (S.act down i entry (not (eqb first m)) first (S.turn down (positionOf row p))) r = turned-acts entry _ first r a₀ in
+        let y : t .link + 1 ≡ S.tries down (S.turn down (positionOf row p)) =
+        whole-tries row (t .position .at) (t .position .left) (h .left) down (t .link) (h .link) (t .down) (h .cut) (t .position .turned) g d ∙ ap (S.tries down) (h .turned .is) in
+        let some : S.tries down (S.turn down (positionOf row p)) ≡ 0 → ⊥ = λ x. omega (arith, y, x) in
+        let next : t .link ≡ S.nextSecond (S.turn down (positionOf row p)) = omega (arith, y, tries-next down (S.turn down (positionOf row p)) some) in
         let busy : eqb (S.tries down (S.turn down (positionOf row p))) 0 ≡ false = ne-eqb _ 0 some in
         record {
           acts =
@@ -89,7 +90,7 @@ module _ (down : ℕ → Bool) (owner : ℕ → ℕ) (i : ℕ) (tried : List ℕ
                 is =
                     a .is
                     ∙ ap (λ x. S.act down i x (not (eqb first m)) first (S.turn down (positionOf row p))) o
-                    ∙ ap (λ x. S.act down i (owner e) (not (eqb x m)) x (S.turn down (positionOf row p))) f
+                    ∙ ap (λ x. S.act down i (owner (t .link)) (not (eqb x m)) x (S.turn down (positionOf row p))) f
                     ∙ ap (λ x. S.act down i (owner x) (not (eqb (firstTrier tried x m) m)) (firstTrier tried x m) (S.turn down (positionOf row p))) next;
                 within = a .within;
               };

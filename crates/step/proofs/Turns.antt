@@ -10,7 +10,7 @@ use Rattle.scope.specs.Slot.{onSecond, turn, onFirstPath, onSecondPath, act}
 use Rattle.step.specs.declared.Position.{Position}
 use Rattle.step.specs.declared.Met.{Met}
 use Rattle.step.specs.declared.Moved.{Moved}
-use Rattle.step.specs.Where.{leftAt, positionOf, endAt, endOf, Leads, Acts, Faces, Meets}
+use Rattle.step.specs.Where.{leftAt, positionOf, endAt, Leads, Acts, Faces, Meets}
 use Rattle.step.proofs.Left.{numbers-next, places-next, after-size, size-second}
 use Rattle.step.proofs.Steps.{act-first, act-second}
 
@@ -53,35 +53,28 @@ meets-by row down p q r t l f =
     }
 
 -- what it does after its turn, by where it stands then
-module _ (row : List ℕ) (down : ℕ → Bool) (p : Position) (t : Met) (h : Meets row down p t) where
+module _ (row : List ℕ) (t : Met) (l : 0 < t .position .left) (e : t .link ≡ at row (t .position .at)) where
   abbrev q : Position
   q = t .position
 
   far : q .left ≡ 0 → ⊥
-  far z = omega (arith, h .left)
+  far z = omega (arith, l)
 
   module _ (slot entry : ℕ) (held : Bool) (first : ℕ) (r : Moved) where
-    within : endOf row (r .next) ≤ endOf row q → endOf row (r .next) ≤ endOf row p
-    within l = omega (arith, l, h .turned .within)
-
     pub met-first : q .turned ≡ false →
         Acts row q (onFirstPath (t .down) slot (placeAt row (q .at)) (placesAt row (q .at + placeSize row (q .at)) (q .left - 1))) r →
-        Acts row p (act down slot entry held first (turn down (positionOf row p))) r
-    met-first f a =
+        (down : ℕ → Bool) → t .down ≡ down (t .link) → Acts row q (act down slot entry held first (positionOf row q)) r
+    met-first f a down c =
         record {
-          is =
-              a .is ∙ act-first row (q .at) (q .left) down slot entry held first (q .turned) far (t .link) (h .link) (t .down) (h .cut) f
-              ∙ ap (act down slot entry held first) (h .turned .is);
-          within = within (a .within);
+          is = a .is ∙ act-first row (q .at) (q .left) down slot entry held first (q .turned) far (t .link) e (t .down) c f;
+          within = a .within;
         }
 
     pub met-second : q .turned ≡ true →
         Acts row q (onSecondPath (t .down) entry held first (at row (q .at)) (numbersAt row (q .at + 1) (q .left - 1))) r →
-        Acts row p (act down slot entry held first (turn down (positionOf row p))) r
-    met-second f a =
+        (down : ℕ → Bool) → t .down ≡ down (t .link) → Acts row q (act down slot entry held first (positionOf row q)) r
+    met-second f a down c =
         record {
-          is =
-              a .is ∙ act-second row (q .at) (q .left) down slot entry held first (q .turned) far (t .link) (h .link) (t .down) (h .cut) f
-              ∙ ap (act down slot entry held first) (h .turned .is);
-          within = within (a .within);
+          is = a .is ∙ act-second row (q .at) (q .left) down slot entry held first (q .turned) far (t .link) e (t .down) c f;
+          within = a .within;
         }

@@ -7,14 +7,14 @@
 use cuts::is_down;
 use rows::number;
 use scope::limits::MESSAGES;
-ghost use Prim.Native.Nat.{_+_, _-_, _*_, _<_, _≤_};
+ghost use Prim.Native.Nat.{ℕ, _+_, _-_, _*_, _<_, _≤_};
 ghost use mathlib.Core.Path.{_≡_};
-ghost use mathlib.Core.Bool.{true, false, not};
+ghost use mathlib.Core.Bool.{Bool, true, false, not};
 ghost use mathlib.Core.List.{_++_};
 ghost use lib.ListN.{length, drop, set};
 ghost use lib.Dec.{eqb};
 ghost use Rattle.scope.specs.Plan.{at, numbersAt, placeAt, placeSize, placesAt};
-ghost use Rattle.scope.specs.Slot.{onFirst, onFirstPath, onSecondPath, turn, act};
+ghost use Rattle.scope.specs.Slot.{onFirst, onFirstPath, onSecondPath, act};
 ghost use Rattle.scope.specs.Cycle.{numbers};
 ghost use Rattle.cuts.specs.Down.{isDown};
 ghost use Rattle.table.specs.Table.{entryAt};
@@ -231,23 +231,20 @@ impl Position {
             Moved { next, event }
         }
     }
+}
 
-    // What message m does in a slot: it turns if it must, and acts. `entry` is what the table has for the link that it meets, and `first`
-    // who goes first of those that try that link, m itself where nobody is before it.
-    pub fn acts(self, row: &[u16], down: &[u8], slot: Slot, entry: u8, first: u16, m: u16) -> Moved
-        requires { ⌜ endOf (now row) self < 65536 ⌝ }
-        ensures { λ r. ⌜ Acts (now (row .entry)) self (act (isDown (now (down .entry))) (slot .0) entry (not (eqb first m)) first (turn (isDown (now (down .entry))) (positionOf (now (row .entry)) self))) r ⌝ }
+impl Met {
+    // What message m does in a slot once it has turned, if it must: self is what it meets. `entry` is what the table has for the link before
+    // it, and `first` who goes first of those that try that link, m itself where nobody is before it.
+    pub fn acts(self, row: &[u16], slot: Slot, entry: u8, first: u16, m: u16) -> Moved
+        requires { ⌜ (0 < self .position .left) × (endOf (now row) (self .position) < 65536) × (self .link ≡ at (now row) (self .position .at)) ⌝ }
+        ensures { λ r. ⌜ ((down : ℕ → Bool) → self .down ≡ down (self .link) → Acts (now (row .entry)) (self .position) (act down (slot .0) entry (not (eqb first m)) first (positionOf (now (row .entry)) (self .position))) r) ⌝ }
     {
-        if self.is_home() {
-            let event = Event::Arrived;
-            return Moved { next: self, event };
-        }
-        let met = self.meets(row, down);
-        let p = met.position;
+        let p = self.position;
         if p.turned {
-            p.act_second(row, met.link, met.down, entry, first, m)
+            p.act_second(row, self.link, self.down, entry, first, m)
         } else {
-            p.act_first(row, slot, met.link, met.down)
+            p.act_first(row, slot, self.link, self.down)
         }
     }
 }
@@ -279,8 +276,8 @@ fn note(tried: &mut [u16], link: u16, m: usize)
     tried[0] = (n + 1) as u16;
 }
 
-// What message m does in a slot, in a pass over the messages: `tried` has what those before it try. If it crosses a link of its second
-// path where nothing holds it, that link is what it tries.
+// What message m does in a slot, in a pass over the messages: `tried` has what those before it try. It tries the link before it if it has
+// turned and that link is whole; only then does it matter who holds the link, and who tries it first.
 fn act_one(
     p: Position,
     m: usize,
@@ -293,17 +290,19 @@ fn act_one(
     requires { ⌜ MayAct (now row) p m (slot .0) (now tried) ⌝ }
     ensures { λ r. ⌜ ActsIn (now (row .entry)) (isDown (now (down .entry))) (entryAt (now (table .entry)) (slot .0)) (slot .0) p m (now (tried .entry)) (now (tried .exit)) r ⌝ }
 {
-    let free = p.acts(row, down, slot, 0, m as u16, m as u16);
-    let event = free.event;
-    if event.kind() != 3 {
-        let next = free.next;
-        return Moved { next, event };
+    if p.is_home() {
+        let event = Event::Arrived;
+        return Moved { next: p, event };
     }
-    let link = event.number();
-    let entry = table::entry(table, slot.0, link as usize);
-    let first = first_trier(tried, link, m);
-    note(tried, link, m);
-    p.acts(row, down, slot, entry, first as u16, m as u16)
+    let met = p.meets(row, down);
+    let q = met.position;
+    if q.turned && !met.down {
+        let entry = table::entry(table, slot.0, met.link as usize);
+        let first = first_trier(tried, met.link, m);
+        note(tried, met.link, m);
+        return met.acts(row, slot, entry, first as u16, m as u16);
+    }
+    met.acts(row, slot, 0, m as u16, m as u16)
 }
 
 // The next position of message m.

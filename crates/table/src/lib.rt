@@ -30,6 +30,9 @@ pub fn entry(table: &[u8], slot: usize, link: usize) -> u8
         return 0;
     }
     let k = index(slot, link);
+    if TABLE <= table.len() {
+        return table[k];
+    }
     if k < table.len() { table[k] } else { 0 }
 }
 

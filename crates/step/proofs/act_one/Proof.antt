@@ -1,31 +1,31 @@
--- `step::act_one` meets its contract: it tries nothing, or it tries the link that it crosses where nothing holds it. Assumes nothing.
+-- `step::act_one` meets its contract: it is at its target, it tries the link before it, or it tries nothing. Assumes nothing.
+use mathlib.Core.Path.{_≡_, sym, _∙_}
+use mathlib.Core.Logic.{⊎-elim}
 use native.Mathlib.Omega.{arith}
+use borrow.Author.Tests.{eqb-true, eqb-false, not-true, not-false}
 use borrow.Author.Needs.{needs}
 use Rattle.cuts.specs.Down.{isDown}
 use Rattle.table.specs.Table.{entryAt}
-use Rattle.step.proofs.Acting.{acts-idle, acts-tries}
+use Rattle.step.proofs.Acting.{home-does, home-tried, acts-first, acts-cut, acts-tries}
 use Rattle.step.proofs.act_one.Statement.{statement}
 use Rattle.step.proofs.act_one.Tie as tie
 
-cast-acts : tie.Need-cast-acts
-cast-acts c = omega (arith, c .before .before .before .before .pre .noting .low)
-
-cast-acts-2 : tie.Need-cast-acts-2
-cast-acts-2 c = omega (arith, c .before .before .before .before .pre .noting .low)
-
-acts-requires : tie.Need-acts-requires
-acts-requires c κs = search needs
-
-kind-requires : tie.Need-kind-requires
-kind-requires c κs = search needs
+is-home-requires : tie.Need-is-home-requires
+is-home-requires c κs = search needs
 
 returns : tie.Need-returns
 returns c =
-    let a = c .before .before .before .before .before .before .before .before .args in
-    acts-idle (isDown (a .down .now)) (entryAt (a .table .now) (a .slot .0)) (a .slot .0) (a .tried .now) (a .m) (a .row .now) (a .p) _ (c .before .before .before .acts .ensures) _ (c .before .before .kind .ensures) (c .before .if1 .taken)
+    let a = c .before .before .before .before .before .before .args in
+    let h : a .p .left ≡ 0 = eqb-true _ _ (sym (c .before .is-home .ensures) ∙ c .if1 .taken) in
+    record {
+      acts = record { is = home-does (isDown (a .down .now)) (entryAt (a .table .now) (a .slot .0)) (a .slot .0) (a .tried .now) (a .m) (a .row .now) (a .p .turned) (a .p .at) (a .p .left) h; within = omega arith };
+      noted = home-tried (isDown (a .down .now)) (entryAt (a .table .now) (a .slot .0)) (a .slot .0) (a .tried .now) (a .m) (a .row .now) (a .p .turned) (a .p .at) (a .p .left) h;
+    }
 
-number-requires : tie.Need-number-requires
-number-requires c κs = search needs
+meets-requires : tie.Need-meets-requires
+meets-requires c κs =
+    let h : c .before .before .before .before .before .before .args .p .left ≡ 0 → ⊥ = eqb-false _ _ (sym (c .before .is-home .ensures) ∙ c .if1 .left) in
+    (omega (arith, h), c .before .before .before .before .before .before .pre .fit)
 
 cast-entry : tie.Need-cast-entry
 cast-entry c = search needs
@@ -39,40 +39,60 @@ first-trier-requires c κs = search needs
 note-requires : tie.Need-note-requires
 note-requires c κs = search needs
 
-cast-acts-3 : tie.Need-cast-acts-3
-cast-acts-3 c = omega (arith, c .before .before .before .before .before .before .before .before .before .before .before .before .before .before .before .pre .noting .low, c .before .before .before .before .first-trier .ensures .1)
+cast-acts : tie.Need-cast-acts
+cast-acts c = search needs
 
-cast-acts-4 : tie.Need-cast-acts-4
-cast-acts-4 c = omega (arith, c .before .before .before .before .before .before .before .before .before .before .before .before .before .before .before .pre .noting .low)
+cast-acts-2 : tie.Need-cast-acts-2
+cast-acts-2 c = search needs
 
-acts-requires-2 : tie.Need-acts-requires-2
-acts-requires-2 c κs = search needs
+acts-requires : tie.Need-acts-requires
+acts-requires c κs = search needs
 
 same-length : tie.Need-same-length
 same-length c = search needs
 
 returns-2 : tie.Need-returns-2
 returns-2 c =
-    let a = c .before .before .before .before .before .before .before .before .before .before .before .before .before .before .before .before .args in
-    acts-tries (isDown (a .down .now)) (entryAt (a .table .now) (a .slot .0)) (a .slot .0) (a .tried .now) (a .m) (a .row .now) (a .p) _ (c .before .before .before .before .before .before .before .before .before .before .before .acts .ensures) _ _ _ _ _ _
-    (c .before .before .before .before .before .before .before .before .before .before .kind .ensures) (c .before .before .before .before .before .before .before .before .before .if1 .left) (c .before .before .before .before .before .before .before .before .number .ensures) (c .before .before .before .before .before .before .before .entry .ensures) (c .before .before .before .before .before .first-trier .ensures .0) (c .before .before .before .note .ensures) (c .acts2 .ensures)
+    let a = c .before .before .before .before .before .before .before .before .before .before .before .before .before .before .before .before .before .before .before .before .args in
+    let g = c .before .before .before .before .before .before .before .before .before .before .before .before .before .meets .ensures in
+    acts-tries (isDown (a .down .now)) (entryAt (a .table .now) (a .slot .0)) (a .slot .0) (a .tried .now) (a .m) (a .row .now) (a .p) _ g _ _ _ _
+    (c .before .before .before .before .before .before .before .before .before .before .before .if2 .taken) (not-true _ (c .before .before .before .before .before .before .before .before .before .if3 .taken)) (c .before .before .before .before .before .before .before .entry .ensures) (c .before .before .before .before .before .first-trier .ensures .0) (c .before .before .before .note .ensures) (c .acts .ensures _ (g .cut))
+
+cast-acts-3 : tie.Need-cast-acts-3
+cast-acts-3 c = search needs
+
+cast-acts-4 : tie.Need-cast-acts-4
+cast-acts-4 c = search needs
+
+acts-requires-2 : tie.Need-acts-requires-2
+acts-requires-2 c κs = search needs
+
+returns-3 : tie.Need-returns-3
+returns-3 c =
+    let a = c .before .before .before .before .before .before .before .before .before .before .args in
+    let g = c .before .before .before .meets .ensures in
+    ⊎-elim
+    (λ w. acts-cut (isDown (a .down .now)) (entryAt (a .table .now) (a .slot .0)) (a .slot .0) (a .tried .now) (a .m) (a .row .now) (a .p) _ g _ _ _ _ (not-false _ (w .2 .left)) (c .acts2 .ensures _ (g .cut)))
+    (λ w. acts-first (isDown (a .down .now)) (entryAt (a .table .now) (a .slot .0)) (a .slot .0) (a .tried .now) (a .m) (a .row .now) (a .p) _ g _ _ _ _ (w .left) (c .acts2 .ensures _ (g .cut)))
+    (c .before .if2 .came)
 
 pub act-one-spec : {M : Type 1} → statement M
 act-one-spec =
     tie.close
     (tie.spec
-    cast-acts
-    cast-acts-2
-    acts-requires
-    kind-requires
+    is-home-requires
     returns
-    number-requires
+    meets-requires
     cast-entry
     entry-requires
     first-trier-requires
     note-requires
+    cast-acts
+    cast-acts-2
+    acts-requires
+    same-length
+    returns-2
     cast-acts-3
     cast-acts-4
     acts-requires-2
-    same-length
-    returns-2)
+    returns-3)
