@@ -1,4 +1,5 @@
-/* Every function of the header with NULL and length 0 where a slice may be empty; each number is document 01's for the empty row or for plan B. */
+/* Every function of the header with NULL and length 0 where a slice may be empty, and a cut list whose length is (size_t)-1; each number is document
+   01's for the empty row or for plan B. */
 #include "../include/nuthatchet.h"
 
 #include <stdio.h>
@@ -18,6 +19,7 @@ static void is(const char *what, size_t number, size_t wanted, size_t wanted_pla
 int main(void) {
     const uint16_t b[] = {1, 2, 2, 1, 3, 0, 1, 0, 2, 2, 1, 0, 0, 0, 1, 1, 1, 2, 0, 0, 1, 1, 1, 1, 2};
     const uint8_t file[] = {0x10, 0x82, 0x08, 0x60, 0x02, 0x00, 0x41, 0x02, 0x00, 0x01, 0x10, 0x42, 0x00, 0x01, 0x88, 0x21, 0x00};
+    const uint16_t zeros[4] = {0};
     uint16_t events[16];
     uint8_t text[18];
     int32_t slots = 99;
@@ -32,6 +34,7 @@ int main(void) {
     is("second_path", number, 0, 0, 0);
     is("replay", nuthatchet_replay(NULL, 0, NULL, 0, NULL, 0, &place, &result), 2, 0, 0);
     is("replay of B without cuts", nuthatchet_replay(b, 25, NULL, 0, events, 16, &place, &result), 0, 0, 2);
+    is("replay of B with a length that a failed read gives", nuthatchet_replay(b, 25, zeros, (size_t)-1, events, 16, &place, &result), 12, 1, 0);
     is("replay of B without room", nuthatchet_replay(b, 25, NULL, 0, NULL, 0, &place, &result), 13, 16, 0);
     is("verdict for k 0", nuthatchet_verdict(b, 25, 0, 2, NULL, 0, &place, &result), 0, 0, 0);
     is("verdict for k 1", nuthatchet_verdict(b, 25, 1, 2, NULL, 0, &place, &result), 13, 2, 0);
