@@ -219,6 +219,8 @@ fn junk(r: &mut Random) -> String {
         "replay 5 65535 1", "verdict", "verdict 1", "verdict 1 1", "verdict 1 x 2 1",
         "slack", "slack 0", "slack 0 x 1", "slack 65536 0 1", "second", "second 0",
         "second x 0 1", "second 0 65536 1", "second 0 0 1 -", "cut 0 0", "write,5,1",
+        "where", "where 0", "where 0 x 1", "where 65536 0 1", "where 00 0 1", "write 017 1",
+        "write 00", "write 10 01", "read 025 10", "replay 16 00 1", "verdict 01 0 2 1", "slack 00 0 1",
     ];
     String::from(*r.pick(&lines))
 }

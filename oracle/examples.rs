@@ -755,6 +755,15 @@ fn slacks_and_second_paths(tests: &mut Tests) {
     tests.asked("second path", &format!("second 1 0 {}", a_row), "part 2 0 1");
     tests.asked("no second path", &format!("second 0 1 {}", a_row), "part 0");
     tests.asked("no second path", &format!("second 1 1 {}", a_row), "part 0");
+    for (place, stands) in [("0 0", "at 16 2"), ("1 0", "at 23 2"), ("0 1", "at 0 0"), ("5 0", "at 0 0")] {
+        tests.asked("where", &format!("where {} {}", place, B), stands);
+    }
+    for (place, stands) in [("0 0", "at 18 2"), ("1 0", "at 28 2"), ("0 1", "at 0 0")] {
+        tests.asked("where", &format!("where {} {}", place, a_row), stands);
+    }
+    tests.asked("where there is no row", "where 0 0", "at 0 0");
+    tests.asked("where a row is bad", &format!("where 0 0 {} 0", B), "at 0 0");
+    tests.asked("a needless zero", &format!("where 00 0 {}", B), "?");
     // It is a part of the row itself.
     let b_row = numbers(B);
     let part = questions::second(&b_row, 1, 0);

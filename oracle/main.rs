@@ -26,7 +26,7 @@ oracle: document 01 once more, independent, simple and slow
   oracle probe                      answers the questions of PROBE.md on standard input
   oracle replay                     the replay program (plan.bin, cut lines on standard input)
   oracle verdict                    the verdict program (plan.bin)
-  oracle deep                       the same up to k 3 whatever the size: minutes for large plans
+  oracle deep                       the same up to k 3 whatever the size; for small plans alone
   oracle test                       runs the examples of document 01 and more
   oracle generate SEED N            writes N random probe questions
   oracle kinds SEED N               counts event kinds and refusals in these N questions
@@ -43,7 +43,7 @@ oracle: document 01 once more, independent, simple and slow
   oracle help                       this
 
 generate, kinds and compare take --without NAME (again and again), where NAME is read,
-write, replay, verdict, slack, second or junk: such questions do not come up.
+write, replay, verdict, slack, second, where or junk: such questions do not come up.
 SEED and N are decimals. A case follows from SEED, its index (from 0) and the --without
 names. The exit status is 0 if all is well, 1 for a difference or a failure, 2 for a wrong
 command line.

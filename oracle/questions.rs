@@ -1,4 +1,4 @@
-//! The six questions, each with its refusals in the order of their numbers and
+//! The questions, each with its refusals in the order of their numbers and
 //! with the lent buffer that its answer goes to. "A refusal gives its number and
 //! place, [...] and no change in any buffer. A success changes only the part it
 //! writes; a resistant verdict writes nothing."

@@ -57,7 +57,7 @@ pub fn lines_under(row: &[u16], k: usize, out: &mut [u8], at: usize) -> usize
     ensures { λ r. ⌜ Lays (LinesUnder (planOf (now (row .entry))) k) 4323 (now (out .entry)) (now (out .exit)) at r ⌝ }
 {
     let mut all = [0u16; ANSWERS];
-    all_verdicts::all_answers(row, k, &mut all);
+    all_verdicts::answers_good(row, k, &mut all);
     lines(out, at, k, &all, rows::messages(row) + 1)
 }
 
