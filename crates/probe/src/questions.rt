@@ -4,7 +4,9 @@
 ghost use Prim.Native.Nat.{_≤_, _<_, _^_};
 ghost use mathlib.Core.Path.{_≡_};
 ghost use Rattle.scope.specs.Outcome.{outcomeOf, result};
+ghost use Rattle.text.specs.Text.{Puts};
 ghost use Rattle.probe_lines.specs.Answers.{Near};
+ghost use Rattle.probe.specs.Asked.{secondLine, whereLine, slackAnswer};
 use probe_lines::told;
 use probe_lines::told_bytes;
 use probe_lines::unknown;
@@ -80,6 +82,7 @@ fn write(line: &[u8], given: &mut [u16], lent: &mut [u8], out: &mut [u8], at: us
 // A second path, which has at most 16 links.
 fn second_row(row: &[u16], m: usize, p: usize, out: &mut [u8], at: usize) -> usize
     requires { ⌜ at ≤ 2 ^ 63 ⌝ }
+    ensures { λ r. ⌜ Puts (secondLine (now (row .entry)) m p) (now (out .entry)) (now (out .exit)) at r ⌝ }
 {
     let links = plan::second_path(row, m, p);
     if 65536 < links.len() {
@@ -103,13 +106,12 @@ fn second(line: &[u8], given: &mut [u16], out: &mut [u8], at: usize) -> usize
 
 // Where in the row the second path's links begin, 0 where there is none, and how many there are.
 fn where_row(row: &[u16], m: usize, p: usize, out: &mut [u8], at: usize) -> usize
-    requires { ⌜ (m < 65536) × (p < 65536) × (at ≤ 2 ^ 63) ⌝ }
+    requires { ⌜ at ≤ 2 ^ 63 ⌝ }
+    ensures { λ r. ⌜ Puts (whereLine (now (row .entry)) m p) (now (out .entry)) (now (out .exit)) at r ⌝ }
 {
-    let n = plan::second_path(row, m, p).len();
-    if n == 0 {
-        return probe_lines::told_place(0, 0, out, at);
-    }
-    probe_lines::told_place(rows::place_index(row, m, p) + 4, n, out, at)
+    let links = plan::second_path(row, m, p);
+    let index = plan::second_index(row, m, p);
+    probe_lines::told_place(index, links.len(), out, at)
 }
 
 // `where MESSAGE PLACE ROW...`
@@ -173,6 +175,18 @@ fn replay(line: &[u8], given: &mut [u16], lent: &mut [u16], out: &mut [u8], at: 
     replay_given(&given[0..n], lent, out, at)
 }
 
+// The slack, or the refusal.
+fn slack_row(row: &[u16], m: usize, p: usize, out: &mut [u8], at: usize) -> usize
+    requires { ⌜ at ≤ 2 ^ 63 ⌝ }
+    ensures { λ r. ⌜ Puts (slackAnswer (now (row .entry)) m p) (now (out .entry)) (now (out .exit)) at r ⌝ }
+{
+    let spare = spare::slack(row, m, p);
+    match spare {
+        Spare::Slots(slots) => probe_lines::told_slack(slots, out, at),
+        Spare::Refused(r) => probe_lines::told_refusal(r, out, at),
+    }
+}
+
 // `slack MESSAGE PLACE ROW...`
 fn slack(line: &[u8], given: &mut [u16], out: &mut [u8], at: usize) -> usize
     requires { ⌜ at ≤ 2 ^ 63 ⌝ }
@@ -183,16 +197,7 @@ fn slack(line: &[u8], given: &mut [u16], out: &mut [u8], at: usize) -> usize
     }
     let m = rows::number(given, 0);
     let p = rows::number(given, 1);
-    told_slack(spare::slack(&given[2..n], m, p), out, at)
-}
-
-fn told_slack(spare: Spare, out: &mut [u8], at: usize) -> usize
-    requires { ⌜ at ≤ 2 ^ 63 ⌝ }
-{
-    match spare {
-        Spare::Slots(slots) => probe_lines::told_slack(slots, out, at),
-        Spare::Refused(r) => probe_lines::told_refusal(r, out, at),
-    }
+    slack_row(&given[2..n], m, p, out, at)
 }
 
 // A verdict: resistant, or how many pairs with their numbers.
