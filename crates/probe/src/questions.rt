@@ -1,12 +1,14 @@
 // One function for each question. A line that is no question, or one without a function yet, is answered `?`. Every buffer that is
 // lent for an answer is filled before the call, and what is lent has exactly the room that the question names; behind it lies a
 // margin, filled too, that no call may reach. The text of each answer is `probe_lines`'.
-ghost use Prim.Native.Nat.{_≤_, _<_, _^_};
+ghost use Prim.Native.Nat.{_+_, _≤_, _<_, _*_, _^_};
 ghost use mathlib.Core.Path.{_≡_};
+ghost use lib.ListN.{length};
 ghost use Rattle.scope.specs.Outcome.{outcomeOf, result};
+ghost use Rattle.scope.specs.Plan.{timeoutOf, messageCount};
 ghost use Rattle.text.specs.Text.{Puts};
 ghost use Rattle.probe_lines.specs.Answers.{Near};
-ghost use Rattle.probe.specs.Asked.{secondLine, whereLine, slackAnswer};
+ghost use Rattle.probe.specs.Asked.{secondLine, whereLine, slackAnswer, ifRoom, writeLine};
 use probe_lines::told;
 use probe_lines::told_bytes;
 use probe_lines::unknown;
@@ -55,16 +57,25 @@ fn read(line: &[u8], lent: &mut [u16], file: &mut [u8], out: &mut [u8], at: usiz
     read_file(&file[0..n], room.value, lent, out, at)
 }
 
+// Into a lent buffer that has exactly the room and the margin; then into the front of a longer one.
+fn write_lent(row: &[u16], room: usize, lent: &mut [u8], out: &mut [u8], at: usize) -> usize
+    requires { ⌜ (length (now lent) ≡ room + 16) × (room < 65536) × (at ≤ 2 ^ 63) ⌝ }
+    ensures { λ r. ⌜ Puts (writeLine (now (row .entry)) room) (now (out .entry)) (now (out .exit)) at r ⌝ }
+{
+    probe_words::fill(lent);
+    let answer = plan::write_file(row, &mut lent[..room]);
+    told_bytes(answer, lent, out, at)
+}
+
 fn write_file(row: &[u16], room: usize, lent: &mut [u8], out: &mut [u8], at: usize) -> usize
     requires { ⌜ (room < 65536) × (at ≤ 2 ^ 63) ⌝ }
+    ensures { λ r. ⌜ Puts (ifRoom (length (now (lent .entry))) room (writeLine (now (row .entry)) room)) (now (out .entry)) (now (out .exit)) at r ⌝ }
 {
     let all = room + MARGIN;
     if lent.len() < all {
         return unknown(out, at);
     }
-    probe_words::fill(&mut lent[0..all]);
-    let answer = plan::write_file(row, &mut lent[0..room]);
-    told_bytes(answer, &lent[0..all], out, at)
+    write_lent(row, room, &mut lent[..all], out, at)
 }
 
 // `write ROOM ROW...`
@@ -128,7 +139,9 @@ fn where_second(line: &[u8], given: &mut [u16], out: &mut [u8], at: usize) -> us
 }
 
 // How many numbers the events of a row's cycle are.
-fn events(row: &[u16]) -> usize {
+fn events(row: &[u16]) -> usize
+    ensures { λ r. ⌜ r ≡ timeoutOf (now (row .entry)) * (2 * messageCount (now (row .entry))) ⌝ }
+{
     rows::timeout(row) * (2 * rows::messages(row))
 }
 
