@@ -6,13 +6,13 @@ use lib.ListN.{length, take, drop, replicate, length-replicate, replicate-append
 use lib.Seq.{take-at, drop-at}
 use borrow.Author.Tests.{lt-ltb, le-ltb}
 use Rattle.scope.specs.declared.Answer.{Answer}
-use Rattle.scope.specs.Outcome.{Outcome, outcomeOf}
-use Rattle.scope.specs.File.{fileOf}
-use Rattle.scope.specs.Questions.{after, writeFile}
-use Rattle.plan.specs.Answers.{Answers, Writes}
-use Rattle.probe_words.specs.Words.{filler}
-use Rattle.probe_lines.specs.Answers.{unknownLine, toldBytes}
-use Rattle.probe.specs.Asked.{lentAfter, ifRoom, writeLine}
+use Rattle.scope.specs.Outcome.{Outcome, outcomeOf, result}
+use Rattle.scope.specs.File.{fileOf, rowOf}
+use Rattle.scope.specs.Questions.{after, writeFile, readFile}
+use Rattle.plan.specs.Answers.{Answers, Writes, Reads}
+use Rattle.probe_words.specs.Words.{filler, filler16}
+use Rattle.probe_lines.specs.Answers.{unknownLine, told, toldBytes}
+use Rattle.probe.specs.Asked.{lentAfter, ifRoom, writeLine, readLine}
 
 pub no-room : (size room : ℕ) (line : List ℕ) → size < room + 16 → unknownLine ≡ ifRoom size room line
 no-room size room line h = sym (rw (lt-ltb size (room + 16) h))
@@ -44,3 +44,12 @@ write-told row room n lent exit a filled size given =
     let w : Answers (writeFile row room) (fileOf row) (take room lent) exit a =
     subst (λ (k : ℕ). Answers (writeFile row k) (fileOf row) (take room lent) exit a) (front-size filler room n lent filled size) given in
     ap₂ toldBytes (w .answer) (lent-after filler room n lent filled size (writeFile row room) (fileOf row) exit (w .buffer))
+
+pub read-told : (file : List ℕ) (room n k : ℕ) (lent exit : List ℕ) (a : Answer) → lent ≡ replicate n filler16 → n ≡ room + 16 →
+    Reads file (take room lent) exit a → k ≡ result (outcomeOf a) → told (outcomeOf a) k (exit ++ drop room lent) ≡ readLine file room
+read-told file room n k lent exit a filled size given count =
+    let w : Answers (readFile file room) (rowOf file) (take room lent) exit a =
+    subst (λ (j : ℕ). Answers (readFile file j) (rowOf file) (take room lent) exit a) (front-size filler16 room n lent filled size) given in
+    ap (λ (j : ℕ). told (outcomeOf a) j (exit ++ drop room lent)) count
+    ∙ ap₂ (λ (o : Outcome) (s : List ℕ). told o (result o) s) (w .answer)
+    (lent-after filler16 room n lent filled size (readFile file room) (rowOf file) exit (w .buffer))

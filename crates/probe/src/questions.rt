@@ -8,7 +8,7 @@ ghost use Rattle.scope.specs.Outcome.{outcomeOf, result};
 ghost use Rattle.scope.specs.Plan.{timeoutOf, messageCount};
 ghost use Rattle.text.specs.Text.{Puts};
 ghost use Rattle.probe_lines.specs.Answers.{Near};
-ghost use Rattle.probe.specs.Asked.{secondLine, whereLine, slackAnswer, ifRoom, writeLine};
+ghost use Rattle.probe.specs.Asked.{secondLine, whereLine, slackAnswer, ifRoom, writeLine, readLine};
 use probe_lines::told;
 use probe_lines::told_bytes;
 use probe_lines::unknown;
@@ -28,16 +28,26 @@ fn count(answer: Answer) -> usize
     }
 }
 
+// Into a lent row that has exactly the room and the margin; then into the front of a longer one.
+fn read_lent(file: &[u8], room: usize, lent: &mut [u16], out: &mut [u8], at: usize) -> usize
+    requires { ⌜ (length (now lent) ≡ room + 16) × (room < 65536) × (at ≤ 2 ^ 63) ⌝ }
+    ensures { λ r. ⌜ Puts (readLine (now (file .entry)) room) (now (out .entry)) (now (out .exit)) at r ⌝ }
+{
+    probe_words::fill_16(lent);
+    let answer = plan::read_file(file, &mut lent[..room]);
+    let written = count(answer);
+    told(answer, written, lent, out, at)
+}
+
 fn read_file(file: &[u8], room: usize, lent: &mut [u16], out: &mut [u8], at: usize) -> usize
     requires { ⌜ (room < 65536) × (at ≤ 2 ^ 63) ⌝ }
+    ensures { λ r. ⌜ Puts (ifRoom (length (now (lent .entry))) room (readLine (now (file .entry)) room)) (now (out .entry)) (now (out .exit)) at r ⌝ }
 {
     let all = room + MARGIN;
     if lent.len() < all {
         return unknown(out, at);
     }
-    probe_words::fill_16(&mut lent[0..all]);
-    let answer = plan::read_file(file, &mut lent[0..room]);
-    told(answer, count(answer), &lent[0..all], out, at)
+    read_lent(file, room, &mut lent[..all], out, at)
 }
 
 // `read ROOM HEX`
