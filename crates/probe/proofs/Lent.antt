@@ -1,5 +1,5 @@
 -- A buffer that is lent filled, with a margin behind the room: what it holds after a call, and the line that is told of it.
-use Prim.Native.Nat.{ℕ, _+_, _<_, _≤_}
+use Prim.Native.Nat.{ℕ, _+_, _*_, _<_, _≤_}
 use mathlib.Core.Path.{_≡_, sym, _∙_, ap, ap₂, subst}
 use mathlib.Core.List.{List, _++_}
 use lib.ListN.{length, take, drop, replicate, length-replicate, replicate-append-replicate}
@@ -8,11 +8,14 @@ use borrow.Author.Tests.{lt-ltb, le-ltb}
 use Rattle.scope.specs.declared.Answer.{Answer}
 use Rattle.scope.specs.Outcome.{Outcome, outcomeOf, result}
 use Rattle.scope.specs.File.{fileOf, rowOf}
-use Rattle.scope.specs.Questions.{after, writeFile, readFile}
+use Rattle.scope.specs.Questions.{after, writeFile, readFile, replay}
+use Rattle.scope.specs.Plan.{planOf, timeoutOf, messageCount}
+use Rattle.scope.specs.Cycle.{eventRow}
+use Rattle.cut_replay.specs.Replay.{Replays}
 use Rattle.plan.specs.Answers.{Answers, Writes, Reads}
 use Rattle.probe_words.specs.Words.{filler, filler16}
 use Rattle.probe_lines.specs.Answers.{unknownLine, told, toldBytes}
-use Rattle.probe.specs.Asked.{lentAfter, ifRoom, writeLine, readLine}
+use Rattle.probe.specs.Asked.{lentAfter, ifRoom, writeLine, readLine, replayLine}
 
 pub no-room : (size room : ℕ) (line : List ℕ) → size < room + 16 → unknownLine ≡ ifRoom size room line
 no-room size room line h = sym (rw (lt-ltb size (room + 16) h))
@@ -53,3 +56,14 @@ read-told file room n k lent exit a filled size given count =
     ap (λ (j : ℕ). told (outcomeOf a) j (exit ++ drop room lent)) count
     ∙ ap₂ (λ (o : Outcome) (s : List ℕ). told o (result o) s) (w .answer)
     (lent-after filler16 room n lent filled size (readFile file room) (rowOf file) exit (w .buffer))
+
+pub replay-told : (row cuts : List ℕ) (room n k : ℕ) (lent exit : List ℕ) (a : Answer) → lent ≡ replicate n filler16 → n ≡ room + 16 →
+    Replays row cuts (take room lent) exit a → k ≡ timeoutOf row * (2 * messageCount row) →
+    told (outcomeOf a) k (exit ++ drop room lent) ≡ replayLine row cuts room
+replay-told row cuts room n k lent exit a filled size given count =
+    let list = eventRow (planOf row) cuts in
+    let w : Answers (replay row cuts room) list (take room lent) exit a =
+    subst (λ (j : ℕ). Answers (replay row cuts j) list (take room lent) exit a) (front-size filler16 room n lent filled size) given in
+    ap (λ (j : ℕ). told (outcomeOf a) j (exit ++ drop room lent)) count
+    ∙ ap₂ (λ (o : Outcome) (s : List ℕ). told o (timeoutOf row * (2 * messageCount row)) s) (w .answer)
+    (lent-after filler16 room n lent filled size (replay row cuts room) list exit (w .buffer))

@@ -8,7 +8,7 @@ ghost use Rattle.scope.specs.Outcome.{outcomeOf, result};
 ghost use Rattle.scope.specs.Plan.{timeoutOf, messageCount};
 ghost use Rattle.text.specs.Text.{Puts};
 ghost use Rattle.probe_lines.specs.Answers.{Near};
-ghost use Rattle.probe.specs.Asked.{secondLine, whereLine, slackAnswer, ifRoom, writeLine, readLine};
+ghost use Rattle.probe.specs.Asked.{secondLine, whereLine, slackAnswer, ifRoom, writeLine, readLine, replayLine};
 use probe_lines::told;
 use probe_lines::told_bytes;
 use probe_lines::unknown;
@@ -155,6 +155,24 @@ fn events(row: &[u16]) -> usize
     rows::timeout(row) * (2 * rows::messages(row))
 }
 
+// The same for the events.
+fn replay_lent(
+    row: &[u16],
+    cuts: &[u16],
+    room: usize,
+    lent: &mut [u16],
+    out: &mut [u8],
+    at: usize,
+) -> usize
+    requires { ⌜ (length (now lent) ≡ room + 16) × (room < 65536) × (at ≤ 2 ^ 63) ⌝ }
+    ensures { λ r. ⌜ Puts (replayLine (now (row .entry)) (now (cuts .entry)) room) (now (out .entry)) (now (out .exit)) at r ⌝ }
+{
+    probe_words::fill_16(lent);
+    let answer = cut_replay::replay(row, cuts, &mut lent[..room]);
+    let written = events(row);
+    told(answer, written, lent, out, at)
+}
+
 fn replay_row(
     row: &[u16],
     cuts: &[u16],
@@ -164,14 +182,13 @@ fn replay_row(
     at: usize,
 ) -> usize
     requires { ⌜ (room < 65536) × (at ≤ 2 ^ 63) ⌝ }
+    ensures { λ r. ⌜ Puts (ifRoom (length (now (lent .entry))) room (replayLine (now (row .entry)) (now (cuts .entry)) room)) (now (out .entry)) (now (out .exit)) at r ⌝ }
 {
     let all = room + MARGIN;
     if lent.len() < all {
         return unknown(out, at);
     }
-    probe_words::fill_16(&mut lent[0..all]);
-    let answer = cut_replay::replay(row, cuts, &mut lent[0..room]);
-    told(answer, events(row), &lent[0..all], out, at)
+    replay_lent(row, cuts, room, &mut lent[..all], out, at)
 }
 
 // The numbers of a replay: ROOM C c... ROW...
