@@ -1,10 +1,14 @@
 // One function for each question. A line that is no question, or one without a function yet, is answered `?`. Every buffer that is
 // lent for an answer is filled before the call, and what is lent has exactly the room that the question names; behind it lies a
 // margin, filled too, that no call may reach. The text of each answer is `probe_lines`'.
-ghost use Prim.Native.Nat.{_≤_, _<_, _^_};
+ghost use Prim.Native.Nat.{_+_, _≤_, _<_, _*_, _^_};
 ghost use mathlib.Core.Path.{_≡_};
+ghost use lib.ListN.{length};
 ghost use Rattle.scope.specs.Outcome.{outcomeOf, result};
+ghost use Rattle.scope.specs.Plan.{timeoutOf, messageCount};
+ghost use Rattle.text.specs.Text.{Puts};
 ghost use Rattle.probe_lines.specs.Answers.{Near};
+ghost use Rattle.probe.specs.Asked.{secondLine, whereLine, slackAnswer, ifRoom, writeLine, readLine, replayLine};
 use probe_lines::told;
 use probe_lines::told_bytes;
 use probe_lines::unknown;
@@ -24,16 +28,26 @@ fn count(answer: Answer) -> usize
     }
 }
 
+// Into a lent row that has exactly the room and the margin; then into the front of a longer one.
+fn read_lent(file: &[u8], room: usize, lent: &mut [u16], out: &mut [u8], at: usize) -> usize
+    requires { ⌜ (length (now lent) ≡ room + 16) × (room < 65536) × (at ≤ 2 ^ 63) ⌝ }
+    ensures { λ r. ⌜ Puts (readLine (now (file .entry)) room) (now (out .entry)) (now (out .exit)) at r ⌝ }
+{
+    probe_words::fill_16(lent);
+    let answer = plan::read_file(file, &mut lent[..room]);
+    let written = count(answer);
+    told(answer, written, lent, out, at)
+}
+
 fn read_file(file: &[u8], room: usize, lent: &mut [u16], out: &mut [u8], at: usize) -> usize
     requires { ⌜ (room < 65536) × (at ≤ 2 ^ 63) ⌝ }
+    ensures { λ r. ⌜ Puts (ifRoom (length (now (lent .entry))) room (readLine (now (file .entry)) room)) (now (out .entry)) (now (out .exit)) at r ⌝ }
 {
     let all = room + MARGIN;
     if lent.len() < all {
         return unknown(out, at);
     }
-    probe_words::fill_16(&mut lent[0..all]);
-    let answer = plan::read_file(file, &mut lent[0..room]);
-    told(answer, count(answer), &lent[0..all], out, at)
+    read_lent(file, room, &mut lent[..all], out, at)
 }
 
 // `read ROOM HEX`
@@ -53,16 +67,25 @@ fn read(line: &[u8], lent: &mut [u16], file: &mut [u8], out: &mut [u8], at: usiz
     read_file(&file[0..n], room.value, lent, out, at)
 }
 
+// Into a lent buffer that has exactly the room and the margin; then into the front of a longer one.
+fn write_lent(row: &[u16], room: usize, lent: &mut [u8], out: &mut [u8], at: usize) -> usize
+    requires { ⌜ (length (now lent) ≡ room + 16) × (room < 65536) × (at ≤ 2 ^ 63) ⌝ }
+    ensures { λ r. ⌜ Puts (writeLine (now (row .entry)) room) (now (out .entry)) (now (out .exit)) at r ⌝ }
+{
+    probe_words::fill(lent);
+    let answer = plan::write_file(row, &mut lent[..room]);
+    told_bytes(answer, lent, out, at)
+}
+
 fn write_file(row: &[u16], room: usize, lent: &mut [u8], out: &mut [u8], at: usize) -> usize
     requires { ⌜ (room < 65536) × (at ≤ 2 ^ 63) ⌝ }
+    ensures { λ r. ⌜ Puts (ifRoom (length (now (lent .entry))) room (writeLine (now (row .entry)) room)) (now (out .entry)) (now (out .exit)) at r ⌝ }
 {
     let all = room + MARGIN;
     if lent.len() < all {
         return unknown(out, at);
     }
-    probe_words::fill(&mut lent[0..all]);
-    let answer = plan::write_file(row, &mut lent[0..room]);
-    told_bytes(answer, &lent[0..all], out, at)
+    write_lent(row, room, &mut lent[..all], out, at)
 }
 
 // `write ROOM ROW...`
@@ -80,6 +103,7 @@ fn write(line: &[u8], given: &mut [u16], lent: &mut [u8], out: &mut [u8], at: us
 // A second path, which has at most 16 links.
 fn second_row(row: &[u16], m: usize, p: usize, out: &mut [u8], at: usize) -> usize
     requires { ⌜ at ≤ 2 ^ 63 ⌝ }
+    ensures { λ r. ⌜ Puts (secondLine (now (row .entry)) m p) (now (out .entry)) (now (out .exit)) at r ⌝ }
 {
     let links = plan::second_path(row, m, p);
     if 65536 < links.len() {
@@ -103,13 +127,12 @@ fn second(line: &[u8], given: &mut [u16], out: &mut [u8], at: usize) -> usize
 
 // Where in the row the second path's links begin, 0 where there is none, and how many there are.
 fn where_row(row: &[u16], m: usize, p: usize, out: &mut [u8], at: usize) -> usize
-    requires { ⌜ (m < 65536) × (p < 65536) × (at ≤ 2 ^ 63) ⌝ }
+    requires { ⌜ at ≤ 2 ^ 63 ⌝ }
+    ensures { λ r. ⌜ Puts (whereLine (now (row .entry)) m p) (now (out .entry)) (now (out .exit)) at r ⌝ }
 {
-    let n = plan::second_path(row, m, p).len();
-    if n == 0 {
-        return probe_lines::told_place(0, 0, out, at);
-    }
-    probe_lines::told_place(rows::place_index(row, m, p) + 4, n, out, at)
+    let links = plan::second_path(row, m, p);
+    let index = plan::second_index(row, m, p);
+    probe_lines::told_place(index, links.len(), out, at)
 }
 
 // `where MESSAGE PLACE ROW...`
@@ -126,8 +149,28 @@ fn where_second(line: &[u8], given: &mut [u16], out: &mut [u8], at: usize) -> us
 }
 
 // How many numbers the events of a row's cycle are.
-fn events(row: &[u16]) -> usize {
+fn events(row: &[u16]) -> usize
+    ensures { λ r. ⌜ r ≡ timeoutOf (now (row .entry)) * (2 * messageCount (now (row .entry))) ⌝ }
+{
     rows::timeout(row) * (2 * rows::messages(row))
+}
+
+// The same for the events.
+fn replay_lent(
+    row: &[u16],
+    cuts: &[u16],
+    room: usize,
+    lent: &mut [u16],
+    out: &mut [u8],
+    at: usize,
+) -> usize
+    requires { ⌜ (length (now lent) ≡ room + 16) × (room < 65536) × (at ≤ 2 ^ 63) ⌝ }
+    ensures { λ r. ⌜ Puts (replayLine (now (row .entry)) (now (cuts .entry)) room) (now (out .entry)) (now (out .exit)) at r ⌝ }
+{
+    probe_words::fill_16(lent);
+    let answer = cut_replay::replay(row, cuts, &mut lent[..room]);
+    let written = events(row);
+    told(answer, written, lent, out, at)
 }
 
 fn replay_row(
@@ -139,14 +182,13 @@ fn replay_row(
     at: usize,
 ) -> usize
     requires { ⌜ (room < 65536) × (at ≤ 2 ^ 63) ⌝ }
+    ensures { λ r. ⌜ Puts (ifRoom (length (now (lent .entry))) room (replayLine (now (row .entry)) (now (cuts .entry)) room)) (now (out .entry)) (now (out .exit)) at r ⌝ }
 {
     let all = room + MARGIN;
     if lent.len() < all {
         return unknown(out, at);
     }
-    probe_words::fill_16(&mut lent[0..all]);
-    let answer = cut_replay::replay(row, cuts, &mut lent[0..room]);
-    told(answer, events(row), &lent[0..all], out, at)
+    replay_lent(row, cuts, room, &mut lent[..all], out, at)
 }
 
 // The numbers of a replay: ROOM C c... ROW...
@@ -173,6 +215,18 @@ fn replay(line: &[u8], given: &mut [u16], lent: &mut [u16], out: &mut [u8], at: 
     replay_given(&given[0..n], lent, out, at)
 }
 
+// The slack, or the refusal.
+fn slack_row(row: &[u16], m: usize, p: usize, out: &mut [u8], at: usize) -> usize
+    requires { ⌜ at ≤ 2 ^ 63 ⌝ }
+    ensures { λ r. ⌜ Puts (slackAnswer (now (row .entry)) m p) (now (out .entry)) (now (out .exit)) at r ⌝ }
+{
+    let spare = spare::slack(row, m, p);
+    match spare {
+        Spare::Slots(slots) => probe_lines::told_slack(slots, out, at),
+        Spare::Refused(r) => probe_lines::told_refusal(r, out, at),
+    }
+}
+
 // `slack MESSAGE PLACE ROW...`
 fn slack(line: &[u8], given: &mut [u16], out: &mut [u8], at: usize) -> usize
     requires { ⌜ at ≤ 2 ^ 63 ⌝ }
@@ -183,16 +237,7 @@ fn slack(line: &[u8], given: &mut [u16], out: &mut [u8], at: usize) -> usize
     }
     let m = rows::number(given, 0);
     let p = rows::number(given, 1);
-    told_slack(spare::slack(&given[2..n], m, p), out, at)
-}
-
-fn told_slack(spare: Spare, out: &mut [u8], at: usize) -> usize
-    requires { ⌜ at ≤ 2 ^ 63 ⌝ }
-{
-    match spare {
-        Spare::Slots(slots) => probe_lines::told_slack(slots, out, at),
-        Spare::Refused(r) => probe_lines::told_refusal(r, out, at),
-    }
+    slack_row(&given[2..n], m, p, out, at)
 }
 
 // A verdict: resistant, or how many pairs with their numbers.

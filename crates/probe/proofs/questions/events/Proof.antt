@@ -1,6 +1,8 @@
 -- `probe::questions::events` is safe: a row's timeout and its messages are at most 65,536 each.
 use native.Mathlib.Nat.{mul-le-mul, mul-le-mul-left}
 use native.Mathlib.Omega.{arith}
+use Prim.Native.Nat.{ℕ, _*_}
+use mathlib.Core.Path.{ap₂}
 use borrow.Author.Needs.{needs}
 use Rattle.probe.proofs.questions.events.Statement.{statement}
 use Rattle.probe.proofs.questions.events.Tie as tie
@@ -20,7 +22,7 @@ mul-result-2 c =
     record { fits = omega arith }
 
 returns : tie.Need-returns
-returns c = search needs
+returns c = ap₂ (λ (t m : ℕ). t * (2 * m)) (c .before .timeout .ensures .is) (c .messages .ensures .is)
 
 pub events-spec : {M : Type 1} → statement M
 events-spec = tie.close (tie.spec timeout-requires messages-requires mul-result mul-result-2 returns)
