@@ -32,9 +32,13 @@ isTouched plan cuts m = ltb 0 (harm (hers plan m) cuts (pairs cuts))
 abbrev pub stands : Plan → List ℕ → ℕ → ℕ → Position
 stands plan cuts s m = positionOf m (positions (orderOf plan) (isCut plan cuts) (tableOf plan) 0 s (start plan))
 
--- how many messages the list touches that are not at their targets at time s
+-- how many messages of some kind are not at their targets at time s
+abbrev pub away : Plan → List ℕ → ℕ → (ℕ → Bool) → ℕ
+away plan cuts s kind = sumOf (λ m. oneIf (kind m && not (atTarget (stands plan cuts s m)))) (length (plan .messages))
+
+-- of those that the list touches
 abbrev pub harmed : Plan → List ℕ → ℕ → ℕ
-harmed plan cuts s = sumOf (λ m. oneIf (isTouched plan cuts m && not (atTarget (stands plan cuts s m)))) (length (plan .messages))
+harmed plan cuts s = away plan cuts s (isTouched plan cuts)
 
 -- no pair is in a slot before s
 abbrev pub NotBefore : ℕ → List ℕ → ℕ → Type 0

@@ -1,0 +1,38 @@
+-- What a search needs to know of its bounds. Each gives a pair a weight: a list that is sought has enough of it, the messages that its first
+-- pairs mark and that are away at a time counted with it, and later pairs have no more than a number for each slot says.
+use Prim.Native.Nat.{ℕ, _+_, _*_, _≤_, _<_}
+use mathlib.Core.Path.{_≡_}
+use mathlib.Core.Bool.{true}
+use mathlib.Core.List.{List, _++_}
+use lib.ListN.{length, getD}
+use Rattle.scope.specs.Limits.{mostSlots, tableSize}
+use Rattle.scope.specs.Plan.{Plan}
+use Rattle.table.specs.Table.{indexOf}
+use Rattle.scope.specs.Cuts.{isCutList}
+use Rattle.bound.specs.Touch.{harm}
+use Rattle.bound.specs.Harmed.{harmed, NotBefore}
+use Rattle.bound.specs.Strips.{bared, lost}
+
+-- the weight of a pair, from lists of all slots and links one after another, and the most from a slot on, from lists of all slots
+abbrev pub weightIn : List ℕ → ℕ → ℕ → ℕ → ℕ
+weightIn weights j s e = getD weights (j * tableSize + indexOf s e) 0
+
+abbrev pub topIn : List ℕ → ℕ → ℕ → ℕ
+topIn most j s = getD most (j * mostSlots + s) 0
+
+-- a list that answers: what its first part marks that is away at time s, and what its later pairs weigh, is at least `need`
+pub record BoundOn (plan : Plan) (Answers : List ℕ → Type 0) (need : ℕ) (marked : List ℕ → ℕ → ℕ) (weight : ℕ → ℕ → ℕ) (top : ℕ → ℕ) : Type 0 where
+  pub enough : (pre x : List ℕ) (d n s : ℕ) → s ≤ plan .timeout → length pre ≡ 2 * d → length x ≡ 2 * n → NotBefore s x n →
+      isCutList plan (pre ++ x) ≡ true → Answers (pre ++ x) → need ≤ marked pre s + harm weight x n
+  pub later : (s i e : ℕ) → s ≤ i → i < plan .timeout → e < length (plan .links) → weight i e ≤ top s
+
+-- both at once, counted in halves: twice the losses are at most the touches and the strips together
+abbrev pub harmedAndBared : Plan → List ℕ → ℕ → ℕ
+harmedAndBared plan cuts s = harmed plan cuts s + bared plan cuts s
+
+-- all that the search knows: touches, strips, both, and a whole list's losses
+pub record Bounds (plan : Plan) (Answers : List ℕ → Type 0) (need : ℕ) (weights most : List ℕ) : Type 0 where
+  pub touches : BoundOn plan Answers need (harmed plan) (weightIn weights 0) (topIn most 0)
+  pub strips : BoundOn plan Answers need (bared plan) (weightIn weights 1) (topIn most 1)
+  pub both : BoundOn plan Answers (2 * need) (harmedAndBared plan) (weightIn weights 2) (topIn most 2)
+  pub whole : (cuts : List ℕ) (d s : ℕ) → s ≤ plan .timeout → length cuts ≡ 2 * d → isCutList plan cuts ≡ true → Answers cuts → need ≤ lost plan cuts s

@@ -1,0 +1,79 @@
+-- "a list loses only messages that it both touches and strips": a place is robust if a message that leaves its first path there is in time,
+-- with nobody in its way but those that D counts; a pair strips a message of what would help it, a fragile place or such a second path.
+use Prim.Native.Nat.{ℕ, _+_}
+use mathlib.Core.Path.{_≡_}
+use mathlib.Core.Bool.{Bool, true, false, cond, not, _&&_, _||_}
+use mathlib.Core.List.{List, [], _∷_}
+use lib.ListN.{length}
+use lib.Dec.{ltb, leb}
+use Rattle.scope.specs.Outcome.{gives}
+use Rattle.scope.specs.Plan.{Plan, Place, pathOf}
+use Rattle.scope.specs.Good.{rules}
+use Rattle.scope.specs.Slot.{atTarget}
+use Rattle.scope.specs.Cuts.{pairs, cutsLink}
+use Rattle.scope.specs.Cycle.{orderOf}
+use Rattle.scope.specs.Spare.{delay, noSecond}
+use Rattle.bound.specs.Sums.{sumOf, oneIf}
+use Rattle.bound.specs.Touch.{harm, touches}
+use Rattle.bound.specs.Harmed.{hers, isTouched, stands, away}
+
+-- a place of message m is robust if it has a second path and its slot plus D is at most t: its slack is 0 or more
+abbrev pub isRobust : Plan → ℕ → Place → Bool
+isRobust plan m p = not (noSecond (p .second)) && leb (p .slot + delay (orderOf plan) (plan .messages) m (p .second)) (plan .timeout)
+
+-- else it is fragile: the fragile places of message m's path
+unfoldable pub fragileOf : Plan → ℕ → List Place → List Place
+fragileOf plan m [] = []
+fragileOf plan m (p ∷ ps) = cond (isRobust plan m p) (fragileOf plan m ps) (p ∷ fragileOf plan m ps)
+
+-- of message m and those after it
+unfoldable pub fragilePaths : Plan → ℕ → List (List Place) → List (List Place)
+fragilePaths plan m [] = []
+fragilePaths plan m (path ∷ paths) = fragileOf plan m path ∷ fragilePaths plan (m + 1) paths
+
+-- the plan with its fragile places alone
+abbrev pub fragilePlan : Plan → Plan
+fragilePlan plan =
+    record {
+      vertices = plan .vertices;
+      timeout = plan .timeout;
+      links = plan .links;
+      messages = fragilePaths plan 0 (plan .messages);
+    }
+
+-- a pair that names link d cuts one of these links
+unfoldable pub cutsOneOf : Plan → ℕ → List ℕ → Bool
+cutsOneOf plan d [] = false
+cutsOneOf plan d (e ∷ es) = cutsLink plan d e || cutsOneOf plan d es
+
+-- it cuts a link of the second path of a robust one of these places of message m
+unfoldable pub throughRobust : Plan → ℕ → ℕ → List Place → Bool
+throughRobust plan m d [] = false
+throughRobust plan m d (p ∷ ps) = (isRobust plan m p && cutsOneOf plan d (p .second)) || throughRobust plan m d ps
+
+-- how often the pair (s, e) strips message m: of each fragile place that it touches, and once of second paths, in whatever slot
+abbrev pub strips : Plan → ℕ → ℕ → ℕ → ℕ
+strips plan m s e = hers (fragilePlan plan) m s e + oneIf (throughRobust plan m e (pathOf plan m))
+
+-- and all messages
+abbrev pub bares : Plan → ℕ → ℕ → ℕ
+bares plan s e =
+    touches (fragilePlan plan) s e + sumOf (λ m. oneIf (throughRobust plan m e (pathOf plan m))) (length (plan .messages))
+
+-- a pair of the list strips message m
+abbrev pub isStripped : Plan → List ℕ → ℕ → Bool
+isStripped plan cuts m = ltb 0 (harm (strips plan m) cuts (pairs cuts))
+
+-- how many messages that the list strips are not at their targets at time s
+abbrev pub bared : Plan → List ℕ → ℕ → ℕ
+bared plan cuts s = away plan cuts s (isStripped plan cuts)
+
+-- how many that it touches and strips
+abbrev pub lost : Plan → List ℕ → ℕ → ℕ
+lost plan cuts s = away plan cuts s (λ m. isTouched plan cuts m && isStripped plan cuts m)
+
+-- a list loses only messages that it both touches and strips
+abbrev pub LosesOnly : Type 0
+LosesOnly =
+    (plan : Plan) (cuts : List ℕ) (m : ℕ) → rules plan ≡ gives 0 → atTarget (stands plan cuts (plan .timeout) m) ≡ false →
+    (isTouched plan cuts m ≡ true) × (isStripped plan cuts m ≡ true)
