@@ -56,7 +56,7 @@ module _ (plan : Plan) (pre x : List ℕ) (d n s : ℕ) (g : rules plan ≡ give
       omega (arith, a, b, ap (harm weight pre) k) in
       untouched-arrives (orderOf plan) (isCut plan (pre ++ x)) (tableOf plan) (plan .timeout) m (pathOf plan m) (start plan)
       (List·getD-map onFirst (plan .messages) m []) (good-rises plan g m)
-      (unharmed plan m 0 (pre ++ x) (pathOf plan m) (good-rises plan g m) (table-gives plan g m) none)
+      (unharmed plan (tableOf plan) m 0 (pre ++ x) (pathOf plan m) (good-rises plan g m) (table-gives plan g m) none)
 
   pub each-counts : 1 ≤ oneIf (atTarget (stands plan (pre ++ x) (plan .timeout) m)) +
       (oneIf (isTouched plan pre m && not (atTarget (stands plan pre s m))) + harm (hers plan m) x n)

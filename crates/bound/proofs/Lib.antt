@@ -1,6 +1,8 @@
 pub mod Sums
 pub mod Parts
 pub mod Touch
+pub mod Fragile
+pub mod Strips
 pub mod Harmed
 pub mod Weights
 pub mod Bounds

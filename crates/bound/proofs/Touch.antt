@@ -46,13 +46,13 @@ counts owner t m s i e a b h =
     let term = sum-term (λ j. oneIf (eqb (owner (s + j) e) (m + 1))) (t - s) (i - s) (omega arith) in
     omega (arith, term, ap oneIf (eq-eqb (owner (s + (i - s)) e) (m + 1) here))
 
--- no pair that counts an entry of message m: its first path is not cut in time
-pub unharmed : (plan : Plan) (m least : ℕ) (cuts : List ℕ) (path : List Place) → slotsRise (plan .timeout) least path ≡ true →
-    TableGives (tableOf plan) m path → harm (hers plan m) cuts (pairs cuts) ≡ 0 → WholeInTime (isCut plan cuts) path
-unharmed plan m least cuts [] r own none = tt
-unharmed plan m least cuts (p ∷ ps) r own none = (
+-- no pair that counts an entry of message m: this part of its first path is not cut in time
+pub unharmed : (plan : Plan) (owner : ℕ → ℕ → ℕ) (m least : ℕ) (cuts : List ℕ) (path : List Place) → slotsRise (plan .timeout) least path ≡ true →
+    TableGives owner m path → harm (λ s e. hersIn owner (plan .timeout - s) m s e) cuts (pairs cuts) ≡ 0 → WholeInTime (isCut plan cuts) path
+unharmed plan owner m least cuts [] r own none = tt
+unharmed plan owner m least cuts (p ∷ ps) r own none = (
   λ i l. not-cut plan cuts i (p .link) (λ j a b. by j a (eqb-true (cutLink cuts j) (p .link) b) (ltb i (cutSlot cuts j)) refl l),
-  unharmed plan m (p .slot + 1) cuts ps (rises (plan .timeout) least p ps r .rest) (own .1) none,
+  unharmed plan owner m (p .slot + 1) cuts ps (rises (plan .timeout) least p ps r .rest) (own .1) none,
 )
   where
     by : (j : ℕ) → j < pairs cuts → cutLink cuts j ≡ p .link → {i : ℕ} (b : Bool) → ltb i (cutSlot cuts j) ≡ b → i ≤ p .slot → i < cutSlot cuts j
@@ -60,9 +60,9 @@ unharmed plan m least cuts (p ∷ ps) r own none = (
     by j a b {i} false h l =
         let high = rises (plan .timeout) least p ps r .high in
         let late : cutSlot cuts j ≤ i = ltb-false i (cutSlot cuts j) h in
-        let some = counts (tableOf plan) (plan .timeout) m (cutSlot cuts j) (p .slot) (p .link) (omega arith) (omega arith) (own .0) in
-        let here : 1 ≤ hers plan m (cutSlot cuts j) (cutLink cuts j) = rw b some in
-        let term = sum-term (λ k. hers plan m (cutSlot cuts k) (cutLink cuts k)) (pairs cuts) j a in
+        let some = counts owner (plan .timeout) m (cutSlot cuts j) (p .slot) (p .link) (omega arith) (omega arith) (own .0) in
+        let here : 1 ≤ hersIn owner (plan .timeout - cutSlot cuts j) m (cutSlot cuts j) (cutLink cuts j) = rw b some in
+        let term = sum-term (λ k. hersIn owner (plan .timeout - cutSlot cuts k) m (cutSlot cuts k) (cutLink cuts k)) (pairs cuts) j a in
         absurd (omega arith)
 
 -- how many are at their targets, as a sum

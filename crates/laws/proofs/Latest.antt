@@ -1,5 +1,6 @@
--- A message that can turn at a place is not there later than in its slot, and what it has left is its first path from a place on.
-use Prim.Native.Nat.{ℕ, _+_, _<_}
+-- A message past its slot at a place has no second path there, and one that can turn is not past it; what a message has left is its first
+-- path from a place on.
+use Prim.Native.Nat.{ℕ, _+_, _≤_, _<_}
 use native.Mathlib.Omega.{arith}
 use mathlib.Core.Path.{_≡_, refl, sym, _∙_, ap, subst}
 use mathlib.Core.Logic.{_⊎_, inl, inr, ⊎-elim}
@@ -7,72 +8,85 @@ use mathlib.Core.Bool.{Bool, true, false, true≢false, false≢true}
 use mathlib.Core.List.{List, [], _∷_}
 use lib.ListN.{length, drop, length-drop}
 use lib.Seq.{drop-drop}
-use lib.Dec.{eqb}
-use borrow.Author.Tests.{eqb-true, eqb-false}
+use lib.Dec.{ltb, eqb}
+use borrow.Author.Tests.{ltb-true, ltb-false, eqb-true, eqb-false}
 use Rattle.scope.specs.Plan.{Place}
 use Rattle.scope.specs.Good.{slotsRise}
 use Rattle.scope.specs.Slot.{Position, onFirst, onSecond, Moved, atTarget, turn}
 use Rattle.scope.specs.Spare.{noSecond}
 use Rattle.laws.specs.Message.{standsAt, positionOf}
-use Rattle.laws.specs.Diverted.{TurnsInTime}
+use Rattle.laws.specs.Diverted.{Stranded, TurnsInTime}
 use Rattle.laws.proofs.One.{acts}
 use Rattle.laws.proofs.Rising.{Rises, rises, rising, earlier}
 use Rattle.laws.proofs.Slots.{one-slot, kept}
 
--- past its slot at a place without a second path
-abbrev Late : ℕ → List Place → Type 0
-Late i [] = ⊥
-Late i (q ∷ qs) = (q .second ≡ []) × (q .slot < i)
+-- past its slot at a place without a second path, whose link was down in that slot
+abbrev Late : (ℕ → ℕ → Bool) → ℕ → List Place → Type 0
+Late down i [] = ⊥
+Late down i (q ∷ qs) = (q .slot < i) × (q .second ≡ []) × (down (q .slot) (q .link) ≡ true)
 
-abbrev InTime : ℕ → ℕ → Position → Type 0
-InTime t i (onFirst ps) = (slotsRise t i ps ≡ true) ⊎ Late i ps
-InTime t i (onSecond es) = Unit {0}
+abbrev InTime : (ℕ → ℕ → Bool) → ℕ → ℕ → Position → Type 0
+InTime down t i (onFirst ps) = (slotsRise t i ps ≡ true) ⊎ Late down i ps
+InTime down t i (onSecond es) = Unit {0}
 
-home : (t i : ℕ) (p : Position) → atTarget p ≡ true → InTime t (i + 1) p
-unfolding slotsRise
-home t i (onFirst []) h = inl refl
-home t i (onFirst (q ∷ qs)) h = absurd (false≢true h)
-home t i (onSecond es) h = tt
+module _ (down : ℕ → ℕ → Bool) (t i : ℕ) where
+  home : (p : Position) → atTarget p ≡ true → InTime down t (i + 1) p
+  unfolding slotsRise
+  home (onFirst []) h = inl refl
+  home (onFirst (q ∷ qs)) h = absurd (false≢true h)
+  home (onSecond es) h = tt
 
--- on its first path, and not crossing: its slot is still to come, or there is no second path
-waits : (t i : ℕ) (q : Place) (qs : List Place) → ((q .slot ≡ i) → q .second ≡ []) → InTime t i (onFirst (q ∷ qs)) → InTime t (i + 1) (onFirst (q ∷ qs))
-waits t i q qs none =
-    ⊎-elim
-    (λ r. let s = rises t i q qs r in by s (eqb (q .slot) i) refl)
-    (λ l. inr (l .0, omega (arith, l .1)))
-  where
-    by : Rises t i q qs → (b : Bool) → eqb (q .slot) i ≡ b → InTime t (i + 1) (onFirst (q ∷ qs))
-    by s true e = let same : q .slot ≡ i = eqb-true (q .slot) i e in inr (none same, omega arith)
-    by s false e = inl (rising t (i + 1) q qs (record { low = omega (arith, s .low, eqb-false (q .slot) i e); high = s .high; rest = s .rest }))
+  -- on its first path, and not crossing: its slot is still to come, or there is no second path and the link is down
+  waits : (q : Place) (qs : List Place) → (q .slot ≡ i → (q .second ≡ []) × (down i (q .link) ≡ true)) → InTime down t i (onFirst (q ∷ qs)) →
+      InTime down t (i + 1) (onFirst (q ∷ qs))
+  waits q qs none =
+      ⊎-elim
+      (λ r. let s = rises t i q qs r in by s (eqb (q .slot) i) refl)
+      (λ l. inr (omega (arith, l .0), l .1, l .2))
+    where
+      by : Rises t i q qs → (b : Bool) → eqb (q .slot) i ≡ b → InTime down t (i + 1) (onFirst (q ∷ qs))
+      by s true e =
+          let same : q .slot ≡ i = eqb-true (q .slot) i e in
+          inr (omega arith, none same .0, ap (λ (j : ℕ). down j (q .link)) same ∙ none same .1)
+      by s false e = inl (rising t (i + 1) q qs (record { low = omega (arith, s .low, eqb-false (q .slot) i e); high = s .high; rest = s .rest }))
 
-crossed : (t i : ℕ) (q : Place) (qs : List Place) → q .slot ≡ i → InTime t i (onFirst (q ∷ qs)) → InTime t (i + 1) (onFirst qs)
-crossed t i q qs same =
-    ⊎-elim (λ r. let s = rises t i q qs r in inl (earlier t (i + 1) (q .slot + 1) qs (omega arith) (s .rest)))
-    (λ l. absurd (omega (arith, l .1)))
+  crossed : (q : Place) (qs : List Place) → q .slot ≡ i → InTime down t i (onFirst (q ∷ qs)) → InTime down t (i + 1) (onFirst qs)
+  crossed q qs same =
+      ⊎-elim (λ r. let s = rises t i q qs r in inl (earlier t (i + 1) (q .slot + 1) qs (omega arith) (s .rest)))
+      (λ l. absurd (omega (arith, l .0)))
 
-step : (t : ℕ) (rank : ℕ → ℕ) (down : ℕ → Bool) (owner : ℕ → ℕ) (i : ℕ) (tried : List ℕ) (m : ℕ) (p : Position) →
-    InTime t i p → InTime t (i + 1) (acts rank down owner i tried m (turn down p) .next)
-step t rank down owner i tried m p g =
-    one-slot (λ (v : Moved). InTime t (i + 1) (v .next)) rank down owner i tried m p
-    (record {
-      kind0 = λ h. home t i p h;
-      kind1 = λ q qs h d n. waits t i q qs (λ s. absurd (n s)) (subst (InTime t i) h g);
-      kind2 = λ q qs h d s. crossed t i q qs s (subst (InTime t i) h g);
-      kind3 = λ f fs h d o r. tt;
-      kind4 = λ f fs h d o. tt;
-      kind5 = λ f fs h d o r. tt;
-      kind6 = λ q qs h d n. waits t i q qs (λ s. n) (subst (InTime t i) h g);
-      kind7 = λ f fs h d. tt;
-    })
+  step : (rank : ℕ → ℕ) (owner : ℕ → ℕ) (tried : List ℕ) (m : ℕ) (p : Position) →
+      InTime down t i p → InTime down t (i + 1) (acts rank (down i) owner i tried m (turn (down i) p) .next)
+  step rank owner tried m p g =
+      one-slot (λ (v : Moved). InTime down t (i + 1) (v .next)) rank (down i) owner i tried m p
+      (record {
+        kind0 = λ h. home p h;
+        kind1 = λ q qs h d n. waits q qs (λ s. absurd (n s)) (subst (InTime down t i) h g);
+        kind2 = λ q qs h d s. crossed q qs s (subst (InTime down t i) h g);
+        kind3 = λ f fs h d o r. tt;
+        kind4 = λ f fs h d o. tt;
+        kind5 = λ f fs h d o r. tt;
+        kind6 = λ q qs h d n. waits q qs (λ s. (n, d)) (subst (InTime down t i) h g);
+        kind7 = λ f fs h d. tt;
+      })
+
+pub stranded : Stranded
+stranded rank down owner t m s path ps h r q qs stands past =
+    let z : 0 + s ≡ s = omega arith in
+    let at = kept rank down owner m (InTime down t) (λ i tried p. step down t i rank (owner i) tried m p) s 0 ps
+    (subst (InTime down t 0) (sym h) (inl r)) in
+    let here : InTime down t s (onFirst (q ∷ qs)) =
+    subst (InTime down t s) stands (subst (λ (i : ℕ). InTime down t i (standsAt rank down owner m s ps)) z at) in
+    ⊎-elim (λ x. absurd (omega (arith, rises t s q qs x .low))) (λ l. (l .1, l .2)) here
 
 pub turns-in-time : TurnsInTime
-turns-in-time rank down owner t m s path ps h r q qs stands second =
-    let z : 0 + s ≡ s = omega arith in
-    let at = kept rank down owner m (InTime t) (λ i tried p. step t rank (down i) (owner i) i tried m p) s 0 ps
-    (subst (InTime t 0) (sym h) (inl r)) in
-    let here : InTime t s (onFirst (q ∷ qs)) =
-    subst (InTime t s) stands (subst (λ (i : ℕ). InTime t i (standsAt rank down owner m s ps)) z at) in
-    ⊎-elim (λ x. rises t s q qs x .low) (λ l. absurd (true≢false (sym (ap noSecond (l .0)) ∙ second))) here
+turns-in-time rank down owner t m s path ps h r q qs stands second = by (ltb (q .slot) s) refl
+  where
+    by : (b : Bool) → ltb (q .slot) s ≡ b → s ≤ q .slot
+    by true e =
+        let none = stranded rank down owner t m s path ps h r q qs stands (ltb-true (q .slot) s e) .0 in
+        absurd (true≢false (sym (ap noSecond none) ∙ second))
+    by false e = ltb-false (q .slot) s e
 
 -- what it has left
 abbrev FromPlace : List Place → Position → Type 0

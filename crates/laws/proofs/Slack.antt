@@ -1,9 +1,9 @@
 -- What slack 0 or more means: a message that leaves its first path at that place, and whose second path stays whole, has arrived at time t.
-use Prim.Native.Nat.{ℕ, suc, _+_, _-_, _≤_, _<_}
+use Prim.Native.Nat.{ℕ, zero, suc, _+_, _-_, _≤_, _<_}
 use native.Mathlib.Omega.{arith}
 use mathlib.Core.Path.{_≡_, refl, sym, _∙_, ap}
 use mathlib.Core.Logic.{⊎-elim}
-use mathlib.Core.Bool.{Bool, true, false, cond, true≢false}
+use mathlib.Core.Bool.{Bool, true, false, cond, true≢false, false≢true}
 use mathlib.Core.List.{List, [], _∷_}
 use lib.ListN.{length, drop}
 use lib.Seq.{drop-cons}
@@ -11,14 +11,15 @@ use lib.IntN.{pos, negsuc, subℕ}
 use lib.Dec.{ltb}
 use borrow.Author.Tests.{ltb-false}
 use Rattle.scope.specs.Plan.{Plan, Place, pathOf}
-use Rattle.scope.specs.Slot.{onFirst, onSecond, atTarget, turned, turn}
+use Rattle.scope.specs.Slot.{Position, onFirst, onSecond, Moved, atTarget, turned, turn}
 use Rattle.scope.specs.Cuts.{isCut}
 use Rattle.scope.specs.Cycle.{positions, start, tableOf, orderOf}
 use Rattle.scope.specs.Spare.{delay, placeOf, noSecond}
 use Rattle.laws.specs.Message.{hasTurned}
-use Rattle.laws.specs.Diverted.{standing, OnSecondPath, Leaves, ArrivesFromPlace, LeavesInTime, LeavesSomewhere, SlackMeansArrival, ArrivesUnderCuts, SlackUnderCuts}
-use Rattle.laws.proofs.Turned.{at-target-stays}
-use Rattle.laws.proofs.Slots.{JustTurned, turned-from}
+use Rattle.laws.specs.Diverted.{standing, OnSecondPath, Leaves, ArrivesFromPlace, LeavesInTime, LeavesSomewhere, HasLeft, SlackMeansArrival, ArrivesUnderCuts, SlackUnderCuts}
+use Rattle.laws.proofs.One.{acts, triedIn}
+use Rattle.laws.proofs.Turned.{step-at, at-target-stays}
+use Rattle.laws.proofs.Slots.{JustTurned, turned-from, one-slot}
 use Rattle.laws.proofs.Good.{good-rises}
 use Rattle.laws.proofs.Kept.{starts}
 use Rattle.laws.proofs.Seconds.{no-link-twice}
@@ -101,6 +102,52 @@ leaves-somewhere rank down plan m s path before turns =
           },
           second,
         )
+
+-- it has turned after a slot if it had turned in it
+act-turned : (rank : ℕ → ℕ) (down : ℕ → Bool) (owner : ℕ → ℕ) (i : ℕ) (tried : List ℕ) (m : ℕ) (p : Position) →
+    hasTurned (acts rank down owner i tried m (turn down p) .next) ≡ true → (path : List ℕ) × (turn down p ≡ onSecond path)
+act-turned rank down owner i tried m p =
+    one-slot (λ (v : Moved). hasTurned (v .next) ≡ true → (path : List ℕ) × (turn down p ≡ onSecond path)) rank down owner i tried m p
+    (record {
+      kind0 = home p;
+      kind1 = λ q qs h d n g. absurd (false≢true g);
+      kind2 = λ q qs h d s g. absurd (false≢true g);
+      kind3 = λ f fs h d o r g. (f ∷ fs, h);
+      kind4 = λ f fs h d o g. (f ∷ fs, h);
+      kind5 = λ f fs h d o r g. (f ∷ fs, h);
+      kind6 = λ q qs h d n g. absurd (false≢true g);
+      kind7 = λ f fs h d g. (f ∷ fs, h);
+    })
+  where
+    home : (r : Position) → atTarget r ≡ true → hasTurned r ≡ true → (path : List ℕ) × (turn down r ≡ onSecond path)
+    home (onFirst ps) h g = absurd (false≢true g)
+    home (onSecond es) h g = (es, refl)
+
+pub has-left : HasLeft
+unfolding positions
+has-left rank down plan m zero h = absurd (true≢false (sym h ∙ ap hasTurned (starts plan m)))
+has-left rank down plan m (suc i) h = by (hasTurned (standing rank down plan m i)) refl (has-left rank down plan m i)
+  where
+    owner : ℕ → ℕ → ℕ
+    owner = tableOf plan
+
+    ps : List Position
+    ps = positions rank down owner 0 i (start plan)
+
+    next : standing rank down plan m (suc i) ≡ acts rank (down i) (owner i) i (triedIn (down i) ps) m (turn (down i) (standing rank down plan m i)) .next
+    next =
+        let one : suc i ≡ i + 1 = omega arith in
+        ap (standing rank down plan m) one ∙ standing-after rank down plan m i 1 ∙
+        step-at rank down owner m i ps (standing rank down plan m i) refl
+
+    by : (b : Bool) → hasTurned (standing rank down plan m i) ≡ b →
+        (hasTurned (standing rank down plan m i) ≡ true → (p : ℕ) × (s : ℕ) × (s < i) × Leaves rank down plan m p s) →
+        (p : ℕ) × (s : ℕ) × (s < suc i) × Leaves rank down plan m p s
+    by true b before = let l = before b in (l .0, l .1, omega (arith, l .2), l .3)
+    by false b before =
+        let now = act-turned rank (down i) (owner i) i (triedIn (down i) ps) m (standing rank down plan m i) (sym (ap hasTurned next) ∙ h) in
+        let l = leaves-somewhere rank down plan m i (now .0) b (now .1) in
+        (l .0, i, omega arith, l .1)
 
 pub arrives-under-cuts : ArrivesUnderCuts
 arrives-under-cuts plan cuts = arrives-from-place (orderOf plan) (isCut plan cuts) plan

@@ -1,12 +1,12 @@
 -- The table of a good plan gives each message the link and slot of each of its places.
 use Prim.Native.Nat.{ℕ, _+_, _<_}
 use native.Mathlib.Omega.{arith}
-use mathlib.Core.Path.{_≡_, refl, sym, _∙_, ap}
-use mathlib.Core.Bool.{Bool, true, false, _&&_, true≢false, or-true}
+use mathlib.Core.Path.{_≡_, refl, sym, _∙_, ap, ap₂}
+use mathlib.Core.Bool.{Bool, true, false, _&&_, _||_, true≢false, false≢true, or-true, and-eq-true-iff}
 use mathlib.Core.List.{List, [], _∷_}
 use lib.ListN.{length}
 use lib.Dec.{ltb, eqb}
-use borrow.Author.Tests.{ltb-true, ltb-false, lt-ltb, eq-eqb}
+use borrow.Author.Tests.{ltb-true, ltb-false, lt-ltb, eqb-true, eq-eqb}
 use Rattle.scope.specs.Lowest.{lowest, some}
 use Rattle.scope.specs.Outcome.{gives}
 use Rattle.scope.specs.Plan.{Plan, Place, pathOf}
@@ -40,12 +40,12 @@ unfolding holds
 holds-more e i p ps h = rw h (or-true (eqb (p .link) e && eqb (p .slot) i))
 
 module _ (plan : Plan) (m : ℕ) (there : m < length (plan .messages)) where
-  entry-is : (e i : ℕ) → holds e i (pathOf plan m) ≡ true → some (λ j. holds e i (pathOf plan j)) m ≡ false → tableOf plan i e ≡ m + 1
+  -- a slot and link that message m holds and no lower one are hers
+  pub lowest-has : (e i : ℕ) → holds e i (pathOf plan m) ≡ true → ((j : ℕ) → j < m → holds e i (pathOf plan j) ≡ false) → tableOf plan i e ≡ m + 1
   unfolding tableOf
-  entry-is e i h none =
+  lowest-has e i h none =
       let test : ℕ → Bool = λ j. holds e i (pathOf plan j) in
-      let l : lowest test (length (plan .messages)) ≡ m =
-      lowest-is test (length (plan .messages)) m there h (none-some test m none) in
+      let l : lowest test (length (plan .messages)) ≡ m = lowest-is test (length (plan .messages)) m there h none in
       ap (entryOf (length (plan .messages))) l ∙ rw (lt-ltb m (length (plan .messages)) there)
 
   entries-are : (ps : List Place) → ((e i : ℕ) → holds e i ps ≡ true → holds e i (pathOf plan m) ≡ true) → taken plan m ps ≡ false →
@@ -54,7 +54,8 @@ module _ (plan : Plan) (m : ℕ) (there : m < length (plan .messages)) where
   entries-are [] part free = tt
   entries-are (p ∷ ps) part free =
       let two = or-false (some (λ j. holds (p .link) (p .slot) (pathOf plan j)) m) (taken plan m ps) free in (
-        entry-is (p .link) (p .slot) (part (p .link) (p .slot) (holds-here p ps)) (two .0),
+        lowest-has (p .link) (p .slot) (part (p .link) (p .slot) (holds-here p ps))
+            (none-some (λ j. holds (p .link) (p .slot) (pathOf plan j)) m (two .0)),
         entries-are ps (λ e i h. part e i (holds-more e i p ps h)) (two .1),
       )
 
@@ -62,3 +63,20 @@ pub table-gives : (plan : Plan) → rules plan ≡ gives 0 → (m : ℕ) → Tab
 table-gives plan g m =
     there-or-not plan (TableGives (tableOf plan) m) m
     (λ h. entries-are plan m h (pathOf plan m) (λ e i k. k) (keeps-rules plan g .table m h)) tt
+
+-- and each slot and link that a first path holds is one of those
+pub holds-gives : (owner : ℕ → ℕ → ℕ) (m e i : ℕ) (ps : List Place) → TableGives owner m ps → holds e i ps ≡ true → owner i e ≡ m + 1
+unfolding holds
+holds-gives owner m e i [] own h = absurd (false≢true h)
+holds-gives owner m e i (p ∷ ps) own h = by (eqb (p .link) e && eqb (p .slot) i) refl h (holds-gives owner m e i ps (own .1))
+  where
+    by : (b : Bool) → (eqb (p .link) e && eqb (p .slot) i) ≡ b → (b || holds e i ps) ≡ true → (holds e i ps ≡ true → owner i e ≡ m + 1) → owner i e ≡ m + 1
+    by false c g more = more g
+    by true c g more =
+        let two = and-eq-true-iff (eqb (p .link) e) (eqb (p .slot) i) .0 c in
+        ap₂ owner (sym (eqb-true (p .slot) i (two .1))) (sym (eqb-true (p .link) e (two .0))) ∙ own .0
+
+pub gives-held : (owner : ℕ → ℕ → ℕ) (m : ℕ) (ps : List Place) → ((e i : ℕ) → holds e i ps ≡ true → owner i e ≡ m + 1) → TableGives owner m ps
+gives-held owner m [] h = tt
+gives-held owner m (p ∷ ps) h =
+    (h (p .link) (p .slot) (holds-here p ps), gives-held owner m ps (λ e i k. h e i (holds-more e i p ps k)))

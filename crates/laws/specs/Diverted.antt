@@ -3,7 +3,7 @@
 use Prim.Native.Nat.{ℕ, _+_, _≤_, _<_}
 use mathlib.Core.Path.{_≡_}
 use mathlib.Core.Bool.{Bool, true, false}
-use mathlib.Core.List.{List, _∷_}
+use mathlib.Core.List.{List, [], _∷_}
 use lib.ListN.{length, drop}
 use lib.IntN.{pos}
 use Rattle.scope.specs.Outcome.{gives}
@@ -53,7 +53,14 @@ ArrivesFromPlace =
     s + delay rank (plan .messages) m (placeOf plan m p .second) ≤ plan .timeout →
     atTarget (standing rank down plan m (s + delay rank (plan .messages) m (placeOf plan m p .second))) ≡ true
 
--- a message that can turn at a place is not there later than in its slot
+-- a message before a place of its first path past that place's slot has no second path there, and the link was down in that slot
+abbrev pub Stranded : Type 0
+Stranded =
+    (rank : ℕ → ℕ) (down : ℕ → ℕ → Bool) (owner : ℕ → ℕ → ℕ) (t m s : ℕ) (path : List Place) (ps : List Position) →
+    positionOf m ps ≡ onFirst path → slotsRise t 0 path ≡ true → (q : Place) (qs : List Place) →
+    standsAt rank down owner m s ps ≡ onFirst (q ∷ qs) → q .slot < s → (q .second ≡ []) × (down (q .slot) (q .link) ≡ true)
+
+-- so a message that can turn at a place is not there later than in its slot
 abbrev pub TurnsInTime : Type 0
 TurnsInTime =
     (rank : ℕ → ℕ) (down : ℕ → ℕ → Bool) (owner : ℕ → ℕ → ℕ) (t m s : ℕ) (path : List Place) (ps : List Position) →
@@ -70,6 +77,12 @@ abbrev pub LeavesSomewhere : Type 0
 LeavesSomewhere =
     (rank : ℕ → ℕ) (down : ℕ → ℕ → Bool) (plan : Plan) (m s : ℕ) (path : List ℕ) → hasTurned (standing rank down plan m s) ≡ false →
     OnSecondPath rank down plan m s path → (p : ℕ) × Leaves rank down plan m p s × (placeOf plan m p .second ≡ path)
+
+-- so whoever stands on a second path left its first path at a place, in an earlier slot
+abbrev pub HasLeft : Type 0
+HasLeft =
+    (rank : ℕ → ℕ) (down : ℕ → ℕ → Bool) (plan : Plan) (m i : ℕ) → hasTurned (standing rank down plan m i) ≡ true →
+    (p : ℕ) × (s : ℕ) × (s < i) × Leaves rank down plan m p s
 
 -- "slack 0 or more, with the second path whole until arrival, means arrival in time"
 abbrev pub SlackMeansArrival : Type 0
