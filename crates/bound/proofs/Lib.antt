@@ -1,9 +1,10 @@
 pub mod Sums
 pub mod Parts
 pub mod Touch
+pub mod Harmed
 pub mod Fragile
 pub mod Strips
-pub mod Harmed
+pub mod Enough
 pub mod Weights
 pub mod Bounds
 pub mod Marking

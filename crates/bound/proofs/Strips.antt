@@ -9,7 +9,7 @@ use lib.ListN.{length, getD, drop}
 use lib.Seq.{drop-cons}
 use lib.IntN.{pos, subℕ}
 use lib.Dec.{leb, eqb}
-use borrow.Author.Tests.{leb-true, le-ltb, eqb-true}
+use borrow.Author.Tests.{ltb-false, leb-true, le-ltb, eqb-true}
 use Rattle.scope.specs.Outcome.{gives}
 use Rattle.scope.specs.Plan.{Plan, Place, pathOf}
 use Rattle.scope.specs.Good.{rules, has, slotsRise}
@@ -29,10 +29,11 @@ use Rattle.laws.proofs.Latest.{stranded, left-from}
 use Rattle.laws.proofs.Slack.{leaves-in-time, slack-under-cuts, has-left}
 use Rattle.bound.specs.Sums.{oneIf}
 use Rattle.bound.specs.Touch.{harm}
-use Rattle.bound.specs.Harmed.{hers, stands}
-use Rattle.bound.specs.Strips.{isRobust, fragileOf, fragilePlan, cutsOneOf, throughRobust, strips}
-use Rattle.bound.proofs.Sums.{sum-le, sum-term}
-use Rattle.bound.proofs.Touch.{unharmed}
+use Rattle.bound.specs.Harmed.{hers, isTouched, stands}
+use Rattle.bound.specs.Strips.{isRobust, fragileOf, fragilePlan, cutsOneOf, throughRobust, strips, isStripped, StripsCount, LosesOnly, LosesNoMoreThanBoth}
+use Rattle.bound.proofs.Sums.{sum-le, sum-plus, sum-term}
+use Rattle.bound.proofs.Touch.{all-hers, unharmed, touches-count}
+use Rattle.bound.proofs.Harmed.{loses-each, was-away}
 use Rattle.bound.proofs.Fragile.{fragile-rises, fragile-gives}
 
 abbrev nowhere : Place
@@ -151,9 +152,37 @@ module _ (plan : Plan) (m : ℕ) where
         slack-under-cuts plan cuts m p (l .1) (plan .timeout - (placeOf plan m p .slot + delay (orderOf plan) (plan .messages) m (placeOf plan m p .second)))
         g (l .3) (λ i a b away e on. second-whole p (l .3 .place) strong i e on) (in-time (placeOf plan m p) strong)
 
-    pub unstripped-arrives : atTarget (stands plan cuts (plan .timeout) m) ≡ true
+    unstripped-arrives : atTarget (stands plan cuts (plan .timeout) m) ≡ true
     unstripped-arrives = by (stands plan cuts (plan .timeout) m) refl
       where
         by : (q : Position) → stands plan cuts (plan .timeout) m ≡ q → atTarget (stands plan cuts (plan .timeout) m) ≡ true
         by (onFirst ps) h = ap atTarget h ∙ from-first ps h
         by (onSecond es) h = from-second (ap hasTurned h)
+
+strips-none : (plan : Plan) → rules plan ≡ gives 0 → (cuts : List ℕ) (m : ℕ) → isStripped plan cuts m ≡ false →
+    atTarget (stands plan cuts (plan .timeout) m) ≡ true
+strips-none plan g cuts m none = unstripped-arrives plan m cuts g (omega (arith, ltb-false 0 (harm (strips plan m) cuts (pairs cuts)) none))
+
+pub strips-count : StripsCount
+strips-count plan g =
+    record {
+      all = λ s e.
+          let n = length (plan .messages) in
+          let weak : ℕ → ℕ = λ m. hers (fragilePlan plan) m s e in
+          let strong : ℕ → ℕ = λ m. oneIf (throughRobust plan m e (pathOf plan m)) in
+          omega (arith, sum-plus weak strong n, all-hers (tableOf (fragilePlan plan)) n (plan .timeout - s) s e);
+      none = strips-none plan g;
+    }
+
+pub loses-only : LosesOnly
+loses-only plan cuts m g gone =
+    (hit (isTouched plan cuts m) (touches-count plan g .none cuts m), hit (isStripped plan cuts m) (strips-none plan g cuts m))
+  where
+    hit : (b : Bool) → (b ≡ false → atTarget (stands plan cuts (plan .timeout) m) ≡ true) → b ≡ true
+    hit true h = refl
+    hit false h = absurd (true≢false (sym (h refl) ∙ gone))
+
+pub loses-no-more-than-both : LosesNoMoreThanBoth
+loses-no-more-than-both plan cuts s g early =
+    loses-each plan cuts (λ m. oneIf (isTouched plan cuts m && isStripped plan cuts m && not (atTarget (stands plan cuts s m))))
+    (λ m gone. let both = loses-only plan cuts m g gone in rw (both .0, both .1, was-away plan s m cuts early gone) (omega arith))

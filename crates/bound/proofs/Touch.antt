@@ -1,5 +1,5 @@
--- A message that is not at its target at the end has a pair that cuts a link of its first path in time, and the table gives each link
--- and slot to one message at most.
+-- Touches count losses: a message that is not at its target at the end has a pair that cuts a link of its first path in time, and the
+-- table gives each link and slot to one message at most.
 use Prim.Native.Nat.{ℕ, _+_, _-_, _≤_, _<_}
 use native.Mathlib.Omega.{arith}
 use mathlib.Core.Path.{_≡_, refl, _∙_, ap}
@@ -8,34 +8,31 @@ use mathlib.Core.List.{List, [], _∷_}
 use lib.ListN.{length}
 use lib.Dec.{ltb, eqb}
 use borrow.Author.Tests.{ltb-true, ltb-false, eqb-true, eq-eqb}
-use Rattle.scope.specs.Plan.{Plan, Place}
-use Rattle.scope.specs.Good.{slotsRise}
-use Rattle.scope.specs.Slot.{Position, atTarget}
+use Rattle.scope.specs.Outcome.{gives}
+use Rattle.scope.specs.Plan.{Plan, Place, pathOf}
+use Rattle.scope.specs.Good.{rules, slotsRise}
+use Rattle.scope.specs.Slot.{atTarget}
 use Rattle.scope.specs.Cuts.{pairs, cutSlot, cutLink, isCut}
-use Rattle.scope.specs.Cycle.{tableOf, arrived}
-use Rattle.laws.specs.Message.{positionOf}
+use Rattle.scope.specs.Cycle.{orderOf, tableOf, start}
 use Rattle.laws.specs.Untouched.{WholeInTime}
 use Rattle.laws.specs.Links.{TableGives}
 use Rattle.laws.proofs.Rising.{rises}
+use Rattle.laws.proofs.Good.{good-rises}
+use Rattle.laws.proofs.Table.{table-gives}
+use Rattle.laws.proofs.Kept.{starts}
+use Rattle.laws.proofs.Untouched.{untouched-arrives}
 use Rattle.laws.proofs.Cuts.{not-cut}
 use Rattle.bound.specs.Sums.{sumOf, oneIf}
-use Rattle.bound.specs.Touch.{harm, touchedIn, touches}
-use Rattle.bound.specs.Harmed.{hersIn, hers}
-use Rattle.bound.proofs.Sums.{sum-le, sum-term, sum-first, sum-swap, one-of-them}
+use Rattle.bound.specs.Touch.{harm, touchedIn}
+use Rattle.bound.specs.Harmed.{hersIn, hers, isTouched, stands, TouchesCount}
+use Rattle.bound.proofs.Sums.{sum-le, sum-term, sum-swap, one-of-them}
 
 -- what all messages have of a link is what the link has
-all-hers : (owner : ℕ → ℕ → ℕ) (n slots s e : ℕ) → sumOf (λ m. hersIn owner slots m s e) n ≤ touchedIn owner slots s e
+pub all-hers : (owner : ℕ → ℕ → ℕ) (n slots s e : ℕ) → sumOf (λ m. hersIn owner slots m s e) n ≤ touchedIn owner slots s e
 all-hers owner n slots s e =
     let swap = sum-swap (λ m i. oneIf (eqb (owner (s + i) e) (m + 1))) n slots in
     let less = sum-le (λ i. sumOf (λ m. oneIf (eqb (owner (s + i) e) (m + 1))) n) (λ i. oneIf (ltb 0 (owner (s + i) e))) slots
     (λ i l. one-of-them (owner (s + i) e) n) in
-    omega (arith, swap, less)
-
-pub all-harmed : (plan : Plan) (n : ℕ) (cuts : List ℕ) (k : ℕ) → sumOf (λ m. harm (hers plan m) cuts k) n ≤ harm (touches plan) cuts k
-all-harmed plan n cuts k =
-    let swap = sum-swap (λ m j. hers plan m (cutSlot cuts j) (cutLink cuts j)) n k in
-    let less = sum-le (λ j. sumOf (λ m. hers plan m (cutSlot cuts j) (cutLink cuts j)) n) (λ j. touches plan (cutSlot cuts j) (cutLink cuts j)) k
-    (λ j l. all-hers (tableOf plan) n (plan .timeout - cutSlot cuts j) (cutSlot cuts j) (cutLink cuts j)) in
     omega (arith, swap, less)
 
 -- a pair at or before an entry of message m counts it
@@ -65,8 +62,18 @@ unharmed plan owner m least cuts (p ∷ ps) r own none = (
         let term = sum-term (λ k. hersIn owner (plan .timeout - cutSlot cuts k) m (cutSlot cuts k) (cutLink cuts k)) (pairs cuts) j a in
         absurd (omega arith)
 
--- how many are at their targets, as a sum
-pub arrived-sum : (qs : List Position) → arrived qs ≡ sumOf (λ m. oneIf (atTarget (positionOf m qs))) (length qs)
-unfolding arrived sumOf
-arrived-sum [] = refl
-arrived-sum (q ∷ qs) = omega (arith, arrived-sum qs, sum-first (λ m. oneIf (atTarget (positionOf m (q ∷ qs)))) (length qs))
+-- whom no pair touches is at its target at the end
+touches-none : (plan : Plan) → rules plan ≡ gives 0 → (cuts : List ℕ) (m : ℕ) → isTouched plan cuts m ≡ false →
+    atTarget (stands plan cuts (plan .timeout) m) ≡ true
+touches-none plan g cuts m none =
+    untouched-arrives (orderOf plan) (isCut plan cuts) (tableOf plan) (plan .timeout) m (pathOf plan m) (start plan)
+    (starts plan m) (good-rises plan g m)
+    (unharmed plan (tableOf plan) m 0 cuts (pathOf plan m) (good-rises plan g m) (table-gives plan g m)
+    (omega (arith, ltb-false 0 (harm (hers plan m) cuts (pairs cuts)) none)))
+
+pub touches-count : TouchesCount
+touches-count plan g =
+    record {
+      all = λ s e. all-hers (tableOf plan) (length (plan .messages)) (plan .timeout - s) s e;
+      none = touches-none plan g;
+    }

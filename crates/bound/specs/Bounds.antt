@@ -21,9 +21,14 @@ abbrev pub topIn : List ℕ → ℕ → ℕ → ℕ
 topIn most j s = getD most (j * mostSlots + s) 0
 
 -- a list that answers: what its first part marks that is away at time s, and what its later pairs weigh, is at least `need`
-pub record BoundOn (plan : Plan) (Answers : List ℕ → Type 0) (need : ℕ) (marked : List ℕ → ℕ → ℕ) (weight : ℕ → ℕ → ℕ) (top : ℕ → ℕ) : Type 0 where
-  pub enough : (pre x : List ℕ) (d n s : ℕ) → s ≤ plan .timeout → length pre ≡ 2 * d → length x ≡ 2 * n → NotBefore s x n →
-      isCutList plan (pre ++ x) ≡ true → Answers (pre ++ x) → need ≤ marked pre s + harm weight x n
+abbrev pub Enough : Plan → (List ℕ → Type 0) → ℕ → (List ℕ → ℕ → ℕ) → (ℕ → ℕ → ℕ) → Type 0
+Enough plan Answers need marked weight =
+    (pre x : List ℕ) (d n s : ℕ) → s ≤ plan .timeout → length pre ≡ 2 * d → length x ≡ 2 * n → NotBefore s x n →
+    isCutList plan (pre ++ x) ≡ true → Answers (pre ++ x) → need ≤ marked pre s + harm weight x n
+
+pub record BoundOn (plan : Plan) (Answers : List ℕ → Type 0) (need : ℕ) (marked : List ℕ → ℕ → ℕ) (weight : ℕ → ℕ → ℕ)
+    (top : ℕ → ℕ) : Type 0 where
+  pub enough : Enough plan Answers need marked weight
   pub later : (s i e : ℕ) → s ≤ i → i < plan .timeout → e < length (plan .links) → weight i e ≤ top s
 
 -- both at once, counted in halves: twice the losses are at most the touches and the strips together
@@ -35,4 +40,5 @@ pub record Bounds (plan : Plan) (Answers : List ℕ → Type 0) (need : ℕ) (we
   pub touches : BoundOn plan Answers need (harmed plan) (weightIn weights 0) (topIn most 0)
   pub strips : BoundOn plan Answers need (bared plan) (weightIn weights 1) (topIn most 1)
   pub both : BoundOn plan Answers (2 * need) (harmedAndBared plan) (weightIn weights 2) (topIn most 2)
-  pub whole : (cuts : List ℕ) (d s : ℕ) → s ≤ plan .timeout → length cuts ≡ 2 * d → isCutList plan cuts ≡ true → Answers cuts → need ≤ lost plan cuts s
+  pub whole : (cuts : List ℕ) (d s : ℕ) → s ≤ plan .timeout → length cuts ≡ 2 * d → isCutList plan cuts ≡ true → Answers cuts →
+      need ≤ lost plan cuts s

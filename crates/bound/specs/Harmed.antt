@@ -1,8 +1,8 @@
--- "a list loses no more messages than it touches", counted as a set and from a time on: what a list can still lose at time s are the
--- messages that its pairs touch and that are not at their targets, and those that later pairs touch.
+-- Losses counted as a set and from a time on: what a list can still lose at time s are the messages that its pairs hit and that are not at
+-- their targets, and those that later pairs hit. Over any way to hit a message; touching it is one.
 use Prim.Native.Nat.{ℕ, _+_, _-_, _*_, _≤_, _<_}
 use mathlib.Core.Path.{_≡_}
-use mathlib.Core.Bool.{Bool, not, _&&_}
+use mathlib.Core.Bool.{Bool, true, false, not, _&&_}
 use mathlib.Core.List.{List, _++_}
 use lib.ListN.{length}
 use lib.Dec.{ltb, eqb}
@@ -24,9 +24,13 @@ hersIn owner n m s e = sumOf (λ i. oneIf (eqb (owner (s + i) e) (m + 1))) n
 abbrev pub hers : Plan → ℕ → ℕ → ℕ → ℕ
 hers plan m s e = hersIn (tableOf plan) (plan .timeout - s) m s e
 
+-- a pair of the list hits message m, where `hits` says how often the pair (s, e) hits it
+abbrev pub isHit : (ℕ → ℕ → ℕ → ℕ) → List ℕ → ℕ → Bool
+isHit hits cuts m = ltb 0 (harm (hits m) cuts (pairs cuts))
+
 -- a pair of the list touches message m
 abbrev pub isTouched : Plan → List ℕ → ℕ → Bool
-isTouched plan cuts m = ltb 0 (harm (hers plan m) cuts (pairs cuts))
+isTouched plan = isHit (hers plan)
 
 -- where message m stands at time s
 abbrev pub stands : Plan → List ℕ → ℕ → ℕ → Position
@@ -44,8 +48,18 @@ harmed plan cuts s = away plan cuts s (isTouched plan cuts)
 abbrev pub NotBefore : ℕ → List ℕ → ℕ → Type 0
 NotBefore s cuts n = (j : ℕ) → j < n → s ≤ cutSlot cuts j
 
--- a list that goes on from slot s or later loses no more messages than its first part harms at time s and its later pairs touch
+-- a weight counts losses: a pair weighs at least what it hits, and a message that no pair hits is at its target at the end
+pub record CountsLosses (plan : Plan) (hits : ℕ → ℕ → ℕ → ℕ) (weight : ℕ → ℕ → ℕ) : Type 0 where
+  pub all : (s e : ℕ) → sumOf (λ m. hits m s e) (length (plan .messages)) ≤ weight s e
+  pub none : (cuts : List ℕ) (m : ℕ) → isHit hits cuts m ≡ false → atTarget (stands plan cuts (plan .timeout) m) ≡ true
+
+-- then a list that goes on from slot s or later loses no more messages than its first part hits that are away at time s, and its later pairs weigh
 abbrev pub LosesNoMoreFrom : Type 0
 LosesNoMoreFrom =
-    (plan : Plan) (pre x : List ℕ) (d n s : ℕ) → rules plan ≡ gives 0 → s ≤ plan .timeout → length pre ≡ 2 * d → length x ≡ 2 * n → NotBefore s x n →
-    length (plan .messages) ≤ arrivals plan (pre ++ x) + (harmed plan pre s + harm (touches plan) x n)
+    (plan : Plan) (hits : ℕ → ℕ → ℕ → ℕ) (weight : ℕ → ℕ → ℕ) → CountsLosses plan hits weight → (pre x : List ℕ) (d n s : ℕ) →
+    s ≤ plan .timeout → length pre ≡ 2 * d → length x ≡ 2 * n → NotBefore s x n →
+    length (plan .messages) ≤ arrivals plan (pre ++ x) + (away plan pre s (isHit hits pre) + harm weight x n)
+
+-- touches count losses
+abbrev pub TouchesCount : Type 0
+TouchesCount = (plan : Plan) → rules plan ≡ gives 0 → CountsLosses plan (hers plan) (touches plan)

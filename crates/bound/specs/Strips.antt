@@ -1,21 +1,21 @@
 -- "a list loses only messages that it both touches and strips": a place is robust if a message that leaves its first path there is in time,
 -- with nobody in its way but those that D counts; a pair strips a message of what would help it, a fragile place or such a second path.
-use Prim.Native.Nat.{ℕ, _+_}
+use Prim.Native.Nat.{ℕ, _+_, _≤_}
 use mathlib.Core.Path.{_≡_}
 use mathlib.Core.Bool.{Bool, true, false, cond, not, _&&_, _||_}
 use mathlib.Core.List.{List, [], _∷_}
 use lib.ListN.{length}
-use lib.Dec.{ltb, leb}
+use lib.Dec.{leb}
 use Rattle.scope.specs.Outcome.{gives}
 use Rattle.scope.specs.Plan.{Plan, Place, pathOf}
 use Rattle.scope.specs.Good.{rules}
 use Rattle.scope.specs.Slot.{atTarget}
-use Rattle.scope.specs.Cuts.{pairs, cutsLink}
-use Rattle.scope.specs.Cycle.{orderOf}
+use Rattle.scope.specs.Cuts.{cutsLink}
+use Rattle.scope.specs.Cycle.{orderOf, arrivals}
 use Rattle.scope.specs.Spare.{delay, noSecond}
 use Rattle.bound.specs.Sums.{sumOf, oneIf}
-use Rattle.bound.specs.Touch.{harm, touches}
-use Rattle.bound.specs.Harmed.{hers, isTouched, stands, away}
+use Rattle.bound.specs.Touch.{touches}
+use Rattle.bound.specs.Harmed.{hers, isHit, isTouched, stands, away, CountsLosses}
 
 -- a place of message m is robust if it has a second path and its slot plus D is at most t: its slack is 0 or more
 abbrev pub isRobust : Plan → ℕ → Place → Bool
@@ -62,7 +62,7 @@ bares plan s e =
 
 -- a pair of the list strips message m
 abbrev pub isStripped : Plan → List ℕ → ℕ → Bool
-isStripped plan cuts m = ltb 0 (harm (strips plan m) cuts (pairs cuts))
+isStripped plan = isHit (strips plan)
 
 -- how many messages that the list strips are not at their targets at time s
 abbrev pub bared : Plan → List ℕ → ℕ → ℕ
@@ -77,3 +77,13 @@ abbrev pub LosesOnly : Type 0
 LosesOnly =
     (plan : Plan) (cuts : List ℕ) (m : ℕ) → rules plan ≡ gives 0 → atTarget (stands plan cuts (plan .timeout) m) ≡ false →
     (isTouched plan cuts m ≡ true) × (isStripped plan cuts m ≡ true)
+
+-- so no more, counted as a set and from any time on
+abbrev pub LosesNoMoreThanBoth : Type 0
+LosesNoMoreThanBoth =
+    (plan : Plan) (cuts : List ℕ) (s : ℕ) → rules plan ≡ gives 0 → s ≤ plan .timeout →
+    length (plan .messages) ≤ arrivals plan cuts + lost plan cuts s
+
+-- strips count losses, as touches do
+abbrev pub StripsCount : Type 0
+StripsCount = (plan : Plan) → rules plan ≡ gives 0 → CountsLosses plan (strips plan) (bares plan)

@@ -1,0 +1,84 @@
+-- The bounds of a search out of the counts: a list that fails has enough of each weight, and of two weights together.
+use Prim.Native.Nat.{ℕ, _+_, _-_, _*_, _≤_, _<_}
+use native.Mathlib.Omega.{arith}
+use mathlib.Core.Path.{_≡_}
+use mathlib.Core.List.{List, _++_}
+use lib.ListN.{length}
+use Rattle.scope.specs.Outcome.{gives}
+use Rattle.scope.specs.Plan.{Plan}
+use Rattle.scope.specs.Good.{rules}
+use Rattle.scope.specs.Cuts.{pairs, cutSlot, cutLink}
+use Rattle.scope.proofs.Cuts.{slot-below, link-below}
+use Rattle.bound.specs.Touch.{harm, touches}
+use Rattle.bound.specs.Harmed.{hers, isHit, away, harmed, CountsLosses}
+use Rattle.bound.specs.Strips.{strips, bares, bared}
+use Rattle.bound.specs.Bound.{Fails}
+use Rattle.bound.specs.Bounds.{weightIn, topIn, Enough, Bounds}
+use Rattle.order.proofs.Parts.{slot-right, link-right, pairs-both}
+use Rattle.bound.proofs.Sums.{sum-le, sum-plus}
+use Rattle.bound.proofs.Touch.{touches-count}
+use Rattle.bound.proofs.Harmed.{loses-no-more-from}
+use Rattle.bound.proofs.Strips.{strips-count, loses-no-more-than-both}
+
+-- in each slot and on each link of a plan one weight is at most another
+abbrev pub AtMost : Plan → (ℕ → ℕ → ℕ) → (ℕ → ℕ → ℕ) → Type 0
+AtMost plan weight other = (s e : ℕ) → s < plan .timeout → e < length (plan .links) → weight s e ≤ other s e
+
+module _ (plan : Plan) (Answers : List ℕ → Type 0) where
+  -- a heavier weight will do
+  pub enough-more : (need : ℕ) (marked : List ℕ → ℕ → ℕ) (weight other : ℕ → ℕ → ℕ) → AtMost plan weight other →
+      Enough plan Answers need marked weight → Enough plan Answers need marked other
+  enough-more need marked weight other most enough pre x d n s early long rest later good answers =
+      let less : harm weight x n ≤ harm other x n =
+      sum-le (λ j. weight (cutSlot x j) (cutLink x j)) (λ j. other (cutSlot x j) (cutLink x j)) n
+      (λ j h.
+      let there : d + j < pairs (pre ++ x) = omega (arith, pairs-both pre x d long n rest) in
+      let slot : cutSlot x j < plan .timeout = rw (slot-right pre x d long j) at (slot-below plan (pre ++ x) good (d + j) there) in
+      let link : cutLink x j < length (plan .links) = rw (link-right pre x d long j) at (link-below plan (pre ++ x) good (d + j) there) in
+      most (cutSlot x j) (cutLink x j) slot link) in
+      omega (arith, less, enough pre x d n s early long rest later good answers)
+
+  -- two at once
+  enough-both : (need : ℕ) (marked also : List ℕ → ℕ → ℕ) (weight other : ℕ → ℕ → ℕ) → Enough plan Answers need marked weight →
+      Enough plan Answers need also other →
+      Enough plan Answers (2 * need) (λ cuts s. marked cuts s + also cuts s) (λ s e. weight s e + other s e)
+  enough-both need marked also weight other one two pre x d n s early long rest later good answers =
+      let both = sum-plus (λ j. weight (cutSlot x j) (cutLink x j)) (λ j. other (cutSlot x j) (cutLink x j)) n in
+      omega (arith, both, one pre x d n s early long rest later good answers, two pre x d n s early long rest later good answers)
+
+-- a list that fails loses enough
+pub enough-lost : (plan : Plan) (l need : ℕ) (hits : ℕ → ℕ → ℕ → ℕ) (weight : ℕ → ℕ → ℕ) → CountsLosses plan hits weight →
+    need ≡ length (plan .messages) + 1 - l → Enough plan (Fails plan l) need (λ cuts s. away plan cuts s (isHit hits cuts)) weight
+enough-lost plan l need hits weight c e pre x d n s early long rest later good fails =
+    omega (arith, loses-no-more-from plan hits weight c pre x d n s early long rest later)
+
+-- all that a search knows of a good plan, from weights that are no less than what a pair touches and strips
+pub bounds : (plan : Plan) (l need : ℕ) (weights most : List ℕ) → rules plan ≡ gives 0 → need ≡ length (plan .messages) + 1 - l →
+    AtMost plan (touches plan) (weightIn weights 0) → AtMost plan (bares plan) (weightIn weights 1) →
+    AtMost plan (λ s e. touches plan s e + bares plan s e) (weightIn weights 2) →
+    ((j s i e : ℕ) → j < 3 → s ≤ i → i < plan .timeout → e < length (plan .links) → weightIn weights j i e ≤ topIn most j s) →
+    Bounds plan (Fails plan l) need weights most
+bounds plan l need weights most g e touched stripped both top =
+    let fails = Fails plan l in
+    let touching : Enough plan fails need (harmed plan) (touches plan) = enough-lost plan l need (hers plan) (touches plan) (touches-count plan g) e in
+    let baring : Enough plan fails need (bared plan) (bares plan) = enough-lost plan l need (strips plan) (bares plan) (strips-count plan g) e in
+    record {
+      touches =
+          record {
+            enough = enough-more plan fails need (harmed plan) (touches plan) (weightIn weights 0) touched touching;
+            later = λ s i f. top 0 s i f (omega arith);
+          };
+      strips =
+          record {
+            enough = enough-more plan fails need (bared plan) (bares plan) (weightIn weights 1) stripped baring;
+            later = λ s i f. top 1 s i f (omega arith);
+          };
+      both =
+          record {
+            enough =
+                enough-more plan fails (2 * need) (λ cuts s. harmed plan cuts s + bared plan cuts s) (λ s f. touches plan s f + bares plan s f)
+                (weightIn weights 2) both (enough-both plan fails need (harmed plan) (bared plan) (touches plan) (bares plan) touching baring);
+            later = λ s i f. top 2 s i f (omega arith);
+          };
+      whole = λ cuts d s early long good lost. omega (arith, loses-no-more-than-both plan cuts s g early);
+    }
