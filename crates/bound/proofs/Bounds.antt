@@ -21,7 +21,8 @@ use Rattle.bound.proofs.Touch.{touches-count}
 use Rattle.bound.proofs.Enough.{enough-more, enough-lost}
 
 -- the weight of a pair is how many messages the table has on its link from its slot on
-weight-is : (owner : ℕ → ℕ → ℕ) (table weights : List ℕ) → Table owner table → Weighs table weights → (s e : ℕ) → s < mostSlots → e < mostLinks →
+weight-is : (owner : ℕ → ℕ → ℕ) (table weights : List ℕ) → Table owner table → Weighs table weights → (s e : ℕ) →
+    s < mostSlots → e < mostLinks →
     touchedIn owner (mostSlots - s) s e ≡ weightIn weights s e
 weight-is owner table weights t w s e hs he =
     let slot : s ≡ indexOf s e / mostLinks = omega arith in

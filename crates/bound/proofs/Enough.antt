@@ -60,8 +60,10 @@ pub bounds : (plan : Plan) (l need : ℕ) (weights most : List ℕ) → rules pl
     Bounds plan (Fails plan l) need weights most
 bounds plan l need weights most g e touched stripped both top =
     let fails = Fails plan l in
-    let touching : Enough plan fails need (harmed plan) (touches plan) = enough-lost plan l need (hers plan) (touches plan) (touches-count plan g) e in
-    let baring : Enough plan fails need (bared plan) (bares plan) = enough-lost plan l need (strips plan) (bares plan) (strips-count plan g) e in
+    let touching : Enough plan fails need (harmed plan) (touches plan) =
+    enough-lost plan l need (hers plan) (touches plan) (touches-count plan g) e in
+    let baring : Enough plan fails need (bared plan) (bares plan) =
+    enough-lost plan l need (strips plan) (bares plan) (strips-count plan g) e in
     record {
       touches =
           record {

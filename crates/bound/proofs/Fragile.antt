@@ -47,7 +47,8 @@ module _ (plan : Plan) where
         here : Bool
         here = eqb (p .link) e && eqb (p .slot) i
 
-        more : (b : Bool) → (holds e i (fragileOf plan m ps) ≡ true → holds e i ps ≡ true) → (b || holds e i (fragileOf plan m ps)) ≡ true → (b || holds e i ps) ≡ true
+        more : (b : Bool) → (holds e i (fragileOf plan m ps) ≡ true → holds e i ps ≡ true) →
+            (b || holds e i (fragileOf plan m ps)) ≡ true → (b || holds e i ps) ≡ true
         more true r g = refl
         more false r g = r g
 
@@ -81,9 +82,11 @@ module _ (plan : Plan) where
         there-or-not plan (λ (path : List Place). TableGives (tableOf (fragilePlan plan)) m (fragileOf plan m path)) m
         (λ there. gives-held (tableOf (fragilePlan plan)) m (fragileOf plan m (pathOf plan m))
         (λ e i h. let held : holds e i (pathOf (fragilePlan plan) m) ≡ true = ap (holds e i) (fragile-path m) ∙ h in
-        lowest-has (fragilePlan plan) m (omega (arith, fragile-long)) e i held (λ j l. by m e i held j l (holds e i (pathOf (fragilePlan plan) j)) refl)))
+        lowest-has (fragilePlan plan) m (omega (arith, fragile-long)) e i held
+        (λ j l. by m e i held j l (holds e i (pathOf (fragilePlan plan) j)) refl)))
         tt
       where
-        by : (k e i : ℕ) → holds e i (pathOf (fragilePlan plan) k) ≡ true → (j : ℕ) → j < k → (b : Bool) → holds e i (pathOf (fragilePlan plan) j) ≡ b → b ≡ false
+        by : (k e i : ℕ) → holds e i (pathOf (fragilePlan plan) k) ≡ true → (j : ℕ) → j < k → (b : Bool) →
+            holds e i (pathOf (fragilePlan plan) j) ≡ b → b ≡ false
         by k e i held j l false h = refl
         by k e i held j l true h = absurd (omega (arith, holder k e i held, holder j e i h))

@@ -37,7 +37,8 @@ loses-each plan cuts f counts =
     let qs = positions (orderOf plan) (isCut plan cuts) (tableOf plan) 0 (plan .timeout) (start plan) in
     let there : ℕ → ℕ = λ m. oneIf (atTarget (positionOf m qs)) in
     let size : length qs ≡ length (plan .messages) =
-    lengths-kept .ofPositions (orderOf plan) (isCut plan cuts) (tableOf plan) 0 (plan .timeout) (start plan) ∙ length-map (plan .messages) onFirst in
+    lengths-kept .ofPositions (orderOf plan) (isCut plan cuts) (tableOf plan) 0 (plan .timeout) (start plan) ∙
+    length-map (plan .messages) onFirst in
     let each = sum-le (λ m. 1) (λ m. there m + f m) (length qs) (λ m l. by m (atTarget (positionOf m qs)) refl) in
     omega (arith, each, size, sum-ones (length qs), arrived-sum qs, ap (sumOf f) size, sum-plus there f (length qs))
   where
@@ -47,7 +48,8 @@ loses-each plan cuts f counts =
 
 module _ (plan : Plan) (s m : ℕ) where
   -- who is away at the end was so at time s
-  pub was-away : (cuts : List ℕ) → s ≤ plan .timeout → atTarget (stands plan cuts (plan .timeout) m) ≡ false → atTarget (stands plan cuts s m) ≡ false
+  pub was-away : (cuts : List ℕ) → s ≤ plan .timeout → atTarget (stands plan cuts (plan .timeout) m) ≡ false →
+      atTarget (stands plan cuts s m) ≡ false
   was-away cuts early gone = by (atTarget (stands plan cuts s m)) refl
     where
       by : (b : Bool) → atTarget (stands plan cuts s m) ≡ b → b ≡ false
@@ -59,12 +61,14 @@ module _ (plan : Plan) (s m : ℕ) where
           let e : t ≡ s + (t - s) = omega arith in
           let stays : atTarget (stands plan cuts t m) ≡ true =
           ap (λ (k : ℕ). atTarget (stands plan cuts k m)) e ∙
-          ap (λ (qs : List Position). atTarget (positionOf m qs)) (positions-follow (orderOf plan) down (tableOf plan) 0 s (t - s) (start plan)) ∙
+          ap (λ (qs : List Position). atTarget (positionOf m qs))
+          (positions-follow (orderOf plan) down (tableOf plan) 0 s (t - s) (start plan)) ∙
           ap atTarget (at-target-stays (orderOf plan) down (tableOf plan) m (0 + s) ps h .there (t - s)) ∙ h in
           absurd (true≢false (sym stays ∙ gone))
 
   -- up to time s a list does what its first part does
-  same-until : (pre x : List ℕ) (d n : ℕ) → length pre ≡ 2 * d → length x ≡ 2 * n → NotBefore s x n → stands plan (pre ++ x) s m ≡ stands plan pre s m
+  same-until : (pre x : List ℕ) (d n : ℕ) → length pre ≡ 2 * d → length x ≡ 2 * n → NotBefore s x n →
+      stands plan (pre ++ x) s m ≡ stands plan pre s m
   same-until pre x d n long rest later =
       ap (positionOf m)
       (depends-on-these-slots (orderOf plan) (isCut plan (pre ++ x)) (isCut plan pre) (tableOf plan) 0 s (start plan)
@@ -80,7 +84,8 @@ module _ (plan : Plan) (hits : ℕ → ℕ → ℕ → ℕ) (weight : ℕ → �
       (λ j l. c .all (cutSlot cuts j) (cutLink cuts j)) in
       omega (arith, swap, less)
 
-  module _ (pre x : List ℕ) (d n s : ℕ) (early : s ≤ plan .timeout) (long : length pre ≡ 2 * d) (rest : length x ≡ 2 * n) (later : NotBefore s x n)
+  module _ (pre x : List ℕ) (d n s : ℕ) (early : s ≤ plan .timeout) (long : length pre ≡ 2 * d)
+      (rest : length x ≡ 2 * n) (later : NotBefore s x n)
       (m : ℕ) (gone : atTarget (stands plan (pre ++ x) (plan .timeout) m) ≡ false) where
     -- who is away at the end was hit
     not-missed : harm (hits m) pre (pairs pre) ≡ 0 → harm (hits m) x n ≡ 0 → ⊥

@@ -33,7 +33,8 @@ module _ (weight : ℕ → ℕ → ℕ) (pre x : List ℕ) (d : ℕ) (long : len
       rw e (omega (arith, harm-both n, last))
 
 -- a link that a pair names, at or before this slot
-is-cut : (plan : Plan) (cuts : List ℕ) (i e j : ℕ) → j < pairs cuts → cutsLink plan (cutLink cuts j) e ≡ true → cutSlot cuts j ≤ i → isCut plan cuts i e ≡ true
+is-cut : (plan : Plan) (cuts : List ℕ) (i e j : ℕ) → j < pairs cuts → cutsLink plan (cutLink cuts j) e ≡ true →
+    cutSlot cuts j ≤ i → isCut plan cuts i e ≡ true
 unfolding isCut
 is-cut plan cuts i e j l same early =
     some-one (λ k. cutsLink plan (cutLink cuts k) e && leb (cutSlot cuts k) i) (pairs cuts) j l (rw (same, le-leb (cutSlot cuts j) i early))
@@ -52,12 +53,15 @@ cut-before plan pre x d n s long rest later i e h = by (isCut plan pre i e) refl
         (omega (arith, slot-left pre x d long (c .0) l, c .3))
     by false t = not-cut plan (pre ++ x) i e (λ j l same. each j l same (ltb j d) refl (ltb i (cutSlot pre j)) refl)
       where
-        each : (j : ℕ) → j < pairs (pre ++ x) → cutsLink plan (cutLink (pre ++ x) j) e ≡ true → (b : Bool) → ltb j d ≡ b → (a : Bool) → ltb i (cutSlot pre j) ≡ a →
+        each : (j : ℕ) → j < pairs (pre ++ x) → cutsLink plan (cutLink (pre ++ x) j) e ≡ true →
+            (b : Bool) → ltb j d ≡ b → (a : Bool) → ltb i (cutSlot pre j) ≡ a →
             i < cutSlot (pre ++ x) j
         each j l same true u true v = omega (arith, ltb-true i (cutSlot pre j) v, slot-left pre x d long j (ltb-true j d u))
         each j l same true u false v =
             let low : j < d = ltb-true j d u in
-            absurd (true≢false (sym (is-cut plan pre i e j (omega arith) (ap (λ (k : ℕ). cutsLink plan k e) (sym (link-left pre x d long j low)) ∙ same) (ltb-false i (cutSlot pre j) v)) ∙ t))
+            let front : cutsLink plan (cutLink pre j) e ≡ true =
+            ap (λ (k : ℕ). cutsLink plan k e) (sym (link-left pre x d long j low)) ∙ same in
+            absurd (true≢false (sym (is-cut plan pre i e j (omega arith) front (ltb-false i (cutSlot pre j) v)) ∙ t))
         each j l same false u a v =
             let at : d + (j - d) ≡ j = omega (arith, ltb-false j d u) in
             let right : cutSlot (pre ++ x) j ≡ cutSlot x (j - d) = rw at at (slot-right pre x d long (j - d)) in

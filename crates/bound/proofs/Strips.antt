@@ -30,7 +30,8 @@ use Rattle.laws.proofs.Slack.{leaves-in-time, slack-under-cuts, has-left}
 use Rattle.bound.specs.Sums.{oneIf}
 use Rattle.bound.specs.Touch.{harm}
 use Rattle.bound.specs.Harmed.{hers, isTouched, stands}
-use Rattle.bound.specs.Strips.{isRobust, fragileOf, fragilePlan, cutsOneOf, throughRobust, strips, isStripped, StripsCount, LosesOnly, LosesNoMoreThanBoth}
+use Rattle.bound.specs.Strips.{isRobust, fragileOf, fragilePlan, cutsOneOf, throughRobust, strips, isStripped}
+use Rattle.bound.specs.Strips.{StripsCount, LosesOnly, LosesNoMoreThanBoth}
 use Rattle.bound.proofs.Sums.{sum-le, sum-plus, sum-term}
 use Rattle.bound.proofs.Touch.{all-hers, unharmed, touches-count}
 use Rattle.bound.proofs.Harmed.{loses-each, was-away}
@@ -96,7 +97,8 @@ module _ (plan : Plan) (m : ℕ) where
     -- its fragile places are whole in time, and the second paths of the others at all times
     fragile-whole : WholeInTime (isCut plan cuts) (fragileOf plan m (pathOf plan m))
     fragile-whole =
-        let less = sum-le (λ j. hers (fragilePlan plan) m (cutSlot cuts j) (cutLink cuts j)) (λ j. strips plan m (cutSlot cuts j) (cutLink cuts j))
+        let less = sum-le (λ j. hers (fragilePlan plan) m (cutSlot cuts j) (cutLink cuts j))
+        (λ j. strips plan m (cutSlot cuts j) (cutLink cuts j))
         (pairs cuts) (λ j l. omega arith) in
         unharmed plan (tableOf (fragilePlan plan)) m 0 cuts (fragileOf plan m (pathOf plan m))
         (fragile-rises plan m (plan .timeout) 0 (pathOf plan m) (good-rises plan g m)) (fragile-gives plan g m) (omega arith)
@@ -121,7 +123,8 @@ module _ (plan : Plan) (m : ℕ) where
     from-first : (ps : List Place) → stands plan cuts (plan .timeout) m ≡ onFirst ps → atTarget (onFirst ps) ≡ true
     from-first [] h = refl
     from-first (q ∷ qs) h =
-        let place = left-from (orderOf plan) (isCut plan cuts) (tableOf plan) m (plan .timeout) (pathOf plan m) (start plan) (starts plan m) q qs h in
+        let place = left-from (orderOf plan) (isCut plan cuts) (tableOf plan) m (plan .timeout) (pathOf plan m)
+        (start plan) (starts plan m) q qs h in
         let k = place .0 in
         let both : placeOf plan m k ∷ drop (suc k) (pathOf plan m) ≡ q ∷ qs = sym (drop-cons (pathOf plan m) k nowhere (place .1)) ∙ place .2 in
         let same : placeOf plan m k ≡ q = cc both in
@@ -149,7 +152,8 @@ module _ (plan : Plan) (m : ℕ) where
         let l = has-left (orderOf plan) (isCut plan cuts) plan m (plan .timeout) h in
         let p = l .0 in
         let strong = left-robust p (l .1) (l .3) in
-        slack-under-cuts plan cuts m p (l .1) (plan .timeout - (placeOf plan m p .slot + delay (orderOf plan) (plan .messages) m (placeOf plan m p .second)))
+        slack-under-cuts plan cuts m p (l .1)
+        (plan .timeout - (placeOf plan m p .slot + delay (orderOf plan) (plan .messages) m (placeOf plan m p .second)))
         g (l .3) (λ i a b away e on. second-whole p (l .3 .place) strong i e on) (in-time (placeOf plan m p) strong)
 
     unstripped-arrives : atTarget (stands plan cuts (plan .timeout) m) ≡ true

@@ -44,7 +44,8 @@ counts owner t m s i e a b h =
     omega (arith, term, ap oneIf (eq-eqb (owner (s + (i - s)) e) (m + 1) here))
 
 -- no pair that counts an entry of message m: this part of its first path is not cut in time
-pub unharmed : (plan : Plan) (owner : ℕ → ℕ → ℕ) (m least : ℕ) (cuts : List ℕ) (path : List Place) → slotsRise (plan .timeout) least path ≡ true →
+pub unharmed : (plan : Plan) (owner : ℕ → ℕ → ℕ) (m least : ℕ) (cuts : List ℕ) (path : List Place) →
+    slotsRise (plan .timeout) least path ≡ true →
     TableGives owner m path → harm (λ s e. hersIn owner (plan .timeout - s) m s e) cuts (pairs cuts) ≡ 0 → WholeInTime (isCut plan cuts) path
 unharmed plan owner m least cuts [] r own none = tt
 unharmed plan owner m least cuts (p ∷ ps) r own none = (
@@ -52,7 +53,8 @@ unharmed plan owner m least cuts (p ∷ ps) r own none = (
   unharmed plan owner m (p .slot + 1) cuts ps (rises (plan .timeout) least p ps r .rest) (own .1) none,
 )
   where
-    by : (j : ℕ) → j < pairs cuts → cutLink cuts j ≡ p .link → {i : ℕ} (b : Bool) → ltb i (cutSlot cuts j) ≡ b → i ≤ p .slot → i < cutSlot cuts j
+    by : (j : ℕ) → j < pairs cuts → cutLink cuts j ≡ p .link → {i : ℕ} (b : Bool) → ltb i (cutSlot cuts j) ≡ b →
+        i ≤ p .slot → i < cutSlot cuts j
     by j a b {i} true h l = ltb-true i (cutSlot cuts j) h
     by j a b {i} false h l =
         let high = rises (plan .timeout) least p ps r .high in

@@ -53,7 +53,8 @@ pub record CountsLosses (plan : Plan) (hits : ℕ → ℕ → ℕ → ℕ) (weig
   pub all : (s e : ℕ) → sumOf (λ m. hits m s e) (length (plan .messages)) ≤ weight s e
   pub none : (cuts : List ℕ) (m : ℕ) → isHit hits cuts m ≡ false → atTarget (stands plan cuts (plan .timeout) m) ≡ true
 
--- then a list that goes on from slot s or later loses no more messages than its first part hits that are away at time s, and its later pairs weigh
+-- then a list that goes on from slot s or later loses no more messages than its first part hits that are away at time s, and its later
+-- pairs weigh
 abbrev pub LosesNoMoreFrom : Type 0
 LosesNoMoreFrom =
     (plan : Plan) (hits : ℕ → ℕ → ℕ → ℕ) (weight : ℕ → ℕ → ℕ) → CountsLosses plan hits weight → (pre x : List ℕ) (d n s : ℕ) →

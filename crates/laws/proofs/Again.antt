@@ -55,7 +55,8 @@ third rank down owner i tried m e p =
       kind1 = λ q qs h d s k n. absurd (omega arith);
       kind2 = λ q qs h d s k n. absurd (omega arith);
       kind3 = λ f fs h d o r k n.
-          subst (λ (x : ℕ). Third down owner x p (onSecond fs)) n (record { rest = fs; before = h; after = refl; link = record { whole = d; free = o } });
+          subst (λ (x : ℕ). Third down owner x p (onSecond fs)) n
+          (record { rest = fs; before = h; after = refl; link = record { whole = d; free = o } });
       kind4 = λ f fs h d o k n. absurd (omega arith);
       kind5 = λ f fs h d o r k n. absurd (omega arith);
       kind6 = λ q qs h d s k n. absurd (omega arith);

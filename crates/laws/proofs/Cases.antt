@@ -51,7 +51,8 @@ act-second P rank down owner i tried m e es =
     second-cases P (down e) (owner e) (rank (foremost rank e m 0 tried)) (rank m) (foremost rank e m 0 tried) e es
 
 -- the act of a message on its first path: kinds 6, 2, 1
-pub act-first : (P : Moved → Type 0) (rank : ℕ → ℕ) (down : ℕ → Bool) (owner : ℕ → ℕ) (i : ℕ) (tried : List ℕ) (m : ℕ) (p : Place) (ps : List Place) →
+pub act-first : (P : Moved → Type 0) (rank : ℕ → ℕ) (down : ℕ → Bool) (owner : ℕ → ℕ) (i : ℕ) (tried : List ℕ) (m : ℕ)
+    (p : Place) (ps : List Place) →
     (down (p .link) ≡ true → P (moved (onFirst (p ∷ ps)) 6 (p .link))) →
     (down (p .link) ≡ false → p .slot ≡ i → P (moved (onFirst ps) 2 (p .link))) →
     (down (p .link) ≡ false → (p .slot ≡ i → ⊥) → P (moved (onFirst (p ∷ ps)) 1 (p .link))) →

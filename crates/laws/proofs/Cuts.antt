@@ -29,7 +29,8 @@ cut-pair plan cuts i e h =
     let two = and-eq-true-iff (cutsLink plan (cutLink cuts j) e) (leb (cutSlot cuts j) i) .0 (seek-is test (pairs cuts) 0 (omega arith)) in
     (j, l, two .0, leb-true (cutSlot cuts j) i (two .1))
 
-pub not-cut : (plan : Plan) (cuts : List ℕ) (i e : ℕ) → ((j : ℕ) → j < pairs cuts → cutsLink plan (cutLink cuts j) e ≡ true → i < cutSlot cuts j) →
+pub not-cut : (plan : Plan) (cuts : List ℕ) (i e : ℕ) →
+    ((j : ℕ) → j < pairs cuts → cutsLink plan (cutLink cuts j) e ≡ true → i < cutSlot cuts j) →
     isCut plan cuts i e ≡ false
 not-cut plan cuts i e none = by (isCut plan cuts i e) refl
   where

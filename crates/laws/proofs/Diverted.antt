@@ -41,7 +41,12 @@ module _ (rank : ℕ → ℕ) (down : ℕ → ℕ → Bool) (plan : Plan) (m : �
       let ps = positions rank down owner 0 s (start plan) in
       let heavy : ℕ → ℕ = λ e. entries e (plan .messages) + lowerThrough rank m e 0 (plan .messages) in
       let most : (e : ℕ) → comes plan s e + pending rank m e 0 ps ≤ heavy e =
-      λ e. omega (arith, entries-most s e (plan .messages), pending-falls-on rank down owner m e s 0 (start plan), pending-start rank m e 0 (plan .messages)) in
+      λ e. omega (
+        arith,
+        entries-most s e (plan .messages),
+        pending-falls-on rank down owner m e s 0 (start plan),
+        pending-start rank m e 0 (plan .messages),
+      ) in
       omega (arith, potential-most (λ e. comes plan s e + pending rank m e 0 ps) heavy most path, delay-is rank (plan .messages) m path)
 
   -- where it stands k slots after slot s

@@ -56,7 +56,8 @@ keeps-rules plan h =
     record { ends = a .0; once = b .0; firstPaths = c .0; slots = d .0; table = f .0; secondPaths = g .0 }
 
 -- a message that is there, or one that is not, whose first path is empty
-pub there-or-not : (plan : Plan) (P : List Place → Type 0) (m : ℕ) → (m < length (plan .messages) → P (pathOf plan m)) → P [] → P (pathOf plan m)
+pub there-or-not : (plan : Plan) (P : List Place → Type 0) (m : ℕ) → (m < length (plan .messages) → P (pathOf plan m)) → P [] →
+    P (pathOf plan m)
 there-or-not plan P m there not-there = by (ltb m (length (plan .messages))) refl
   where
     by : (b : Bool) → ltb m (length (plan .messages)) ≡ b → P (pathOf plan m)

@@ -50,7 +50,8 @@ module _ (rank : ℕ → ℕ) (down : ℕ → ℕ → Bool) (owner : ℕ → ℕ
       pending rank m e 0 (nexts (slot rank down owner i ps)) < pending rank m e 0 ps
   first-gone once free f is low number =
       let c = lowest-crosses rank down owner f i e ps (tries-number (down i) e f ps number) free (lowest-tries f is) in
-      let before : mayCross e (positionOf f ps) ≡ true = turn-from (down i) e (positionOf f ps) (e ∷ c .rest) (c .before) (has-first e (c .rest)) in
+      let before : mayCross e (positionOf f ps) ≡ true =
+      turn-from (down i) e (positionOf f ps) (e ∷ c .rest) (c .before) (has-first e (c .rest)) in
       let crossed = different-rest e (c .rest) (turned-once (down i) (positionOf f ps) (e ∷ c .rest) (once f) (c .before)) .0 in
       let after : mayCross e (positionOf f (nexts (slot rank down owner i ps))) ≡ false =
       ap (mayCross e) (next-at (slot rank down owner i ps) f ∙ c .after) ∙ crossed in

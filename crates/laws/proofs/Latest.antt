@@ -48,7 +48,8 @@ module _ (down : ℕ → ℕ → Bool) (t i : ℕ) where
       by s true e =
           let same : q .slot ≡ i = eqb-true (q .slot) i e in
           inr (omega arith, none same .0, ap (λ (j : ℕ). down j (q .link)) same ∙ none same .1)
-      by s false e = inl (rising t (i + 1) q qs (record { low = omega (arith, s .low, eqb-false (q .slot) i e); high = s .high; rest = s .rest }))
+      by s false e =
+          inl (rising t (i + 1) q qs (record { low = omega (arith, s .low, eqb-false (q .slot) i e); high = s .high; rest = s .rest }))
 
   crossed : (q : Place) (qs : List Place) → q .slot ≡ i → InTime down t i (onFirst (q ∷ qs)) → InTime down t (i + 1) (onFirst qs)
   crossed q qs same =

@@ -105,7 +105,8 @@ no-lower rank down owner e a b ps c d =
     let tried : tries down (onSecond (e ∷ d .rest)) ≡ e + 1 = rw whole in
     let t : getD (triedIn down ps) b 0 ≡ e + 1 = tried-at down ps b ∙ ap (tries down) (d .before) ∙ tried in
     let z : 0 + b ≡ b = omega arith in
-    let low : rank (foremost rank e a 0 (triedIn down ps)) ≤ rank b = subst (λ (x : ℕ). rank (foremost rank e a 0 (triedIn down ps)) ≤ rank x) z (foremost-low rank e (triedIn down ps) a 0 b t) in
+    let low : rank (foremost rank e a 0 (triedIn down ps)) ≤ rank b =
+    subst (λ (x : ℕ). rank (foremost rank e a 0 (triedIn down ps)) ≤ rank x) z (foremost-low rank e (triedIn down ps) a 0 b t) in
     omega (arith, c .first)
 
 pub at-most-one-crosses : AtMostOneCrosses

@@ -80,7 +80,8 @@ module _ (rank : ℕ → ℕ) (down : ℕ → ℕ → Bool) (owner tab : ℕ →
     closer i ps once e es h whole =
         let w = weight i ps in
         let v = weight (i + 1) (nexts (slot rank down owner i ps)) in
-        let next : positionOf m (nexts (slot rank down owner i ps)) ≡ acts rank (down i) (owner i) i (triedIn (down i) ps) m (onSecond (e ∷ es)) .next =
+        let next : positionOf m (nexts (slot rank down owner i ps)) ≡
+        acts rank (down i) (owner i) i (triedIn (down i) ps) m (onSecond (e ∷ es)) .next =
         next-at (slot rank down owner i ps) m ∙
         ap (λ (x : Moved). x .next) (move-at rank down owner i ps m ∙ ap (acts rank (down i) (owner i) i (triedIn (down i) ps) m) h) in
         let lower = weight-falls i ps in
@@ -96,7 +97,8 @@ module _ (rank : ℕ → ℕ) (down : ℕ → ℕ → Bool) (owner tab : ℕ →
     -- with n slots to come, and the sum at most n, it has arrived after them
     pub arrives : (n i : ℕ) (ps : List Position) → ((k : ℕ) → NoLinkTwiceLeft (positionOf k ps)) → (path : List ℕ) →
         turn (down i) (positionOf m ps) ≡ onSecond path → potential (weight i ps) path ≤ n →
-        ((k : ℕ) → k < n → atTarget (positionOf m (positions rank down owner i k ps)) ≡ false → (x : ℕ) → has x path ≡ true → down (i + k) x ≡ false) →
+        ((k : ℕ) → k < n → atTarget (positionOf m (positions rank down owner i k ps)) ≡ false →
+        (x : ℕ) → has x path ≡ true → down (i + k) x ≡ false) →
         atTarget (positionOf m (positions rank down owner i n ps)) ≡ true
     unfolding positions potential
     arrives zero i ps once [] h l whole = arrived-before (down i) (positionOf m ps) h

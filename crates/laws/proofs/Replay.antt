@@ -38,7 +38,8 @@ events-follow rank down owner i (suc n) k ps =
     ap (λ (j : ℕ). events rank down owner i j ps) a ∙
     ap (λ (es : List ℕ). numbers ms ++ es)
     (events-follow rank down owner (i + 1) n k (nexts ms) ∙
-    ap (λ (j : ℕ). events rank down owner (i + 1) n (nexts ms) ++ events rank down owner j k (positions rank down owner (i + 1) n (nexts ms))) b) ∙
+    ap (λ (j : ℕ). events rank down owner (i + 1) n (nexts ms) ++ events rank down owner j k (positions rank down owner (i + 1) n (nexts ms)))
+    b) ∙
     sym (append-assoc (numbers ms) (events rank down owner (i + 1) n (nexts ms)) _)
 
 -- lengths
@@ -97,7 +98,8 @@ unfolding positions events
 depends-on-these-slots rank down other owner i zero ps same = record { positionsAgree = refl; eventsAgree = refl }
 depends-on-these-slots rank down other owner i (suc n) ps same =
     let now = slot-agrees rank down other owner i ps (λ e. same i e (omega arith) (omega arith)) in
-    let more = depends-on-these-slots rank down other owner (i + 1) n (nexts (slot rank down owner i ps)) (λ j e a b. same j e (omega arith) (omega arith)) in
+    let more = depends-on-these-slots rank down other owner (i + 1) n (nexts (slot rank down owner i ps))
+    (λ j e a b. same j e (omega arith) (omega arith)) in
     record {
       positionsAgree = more .positionsAgree ∙ ap (λ (ms : List Moved). positions rank other owner (i + 1) n (nexts ms)) now;
       eventsAgree =

@@ -61,5 +61,6 @@ events-in-row rank down owner n m i ps h g =
       kind =
           ap (λ (j : ℕ). getD (events rank down owner 0 n ps) j 0) a ∙ row-at rank down owner n i (2 * m) ps h (omega arith) ∙ kind-at ms m;
       number =
-          ap (λ (j : ℕ). getD (events rank down owner 0 n ps) j 0) b ∙ row-at rank down owner n i (2 * m + 1) ps h (omega arith) ∙ number-at ms m;
+          ap (λ (j : ℕ). getD (events rank down owner 0 n ps) j 0) b ∙ row-at rank down owner n i (2 * m + 1) ps h (omega arith) ∙
+          number-at ms m;
     }

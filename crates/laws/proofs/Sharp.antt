@@ -29,7 +29,9 @@ whole i from before away e h = not-cut planB cutAtOnce i e (λ j l link. absurd 
         true≢false (sym h ∙ sym (ap (λ (x : ℕ). has x (1 ∷ 2 ∷ [])) zeroth))
 
 pub sharp : Sharp
-unfolding seek numbersAt linksAt placesAt afterPlaces messagesAt planOf has different areLinks joins visited slotsRise holds taken goodSeconds rules isCut foremost tableOf moves slot numbers positions events eventRow entriesOf entries hasSecondThrough lowerThrough delay
+unfolding seek numbersAt linksAt placesAt afterPlaces messagesAt planOf has different areLinks joins visited slotsRise holds taken
+    goodSeconds rules isCut foremost tableOf moves slot numbers positions events eventRow entriesOf entries hasSecondThrough
+    lowerThrough delay
 sharp =
     record {
       good = refl;

@@ -16,7 +16,8 @@ use Rattle.scope.specs.Cuts.{isCut}
 use Rattle.scope.specs.Cycle.{positions, start, tableOf, orderOf}
 use Rattle.scope.specs.Spare.{delay, placeOf, noSecond}
 use Rattle.laws.specs.Message.{hasTurned}
-use Rattle.laws.specs.Diverted.{standing, OnSecondPath, Leaves, ArrivesFromPlace, LeavesInTime, LeavesSomewhere, HasLeft, SlackMeansArrival, ArrivesUnderCuts, SlackUnderCuts}
+use Rattle.laws.specs.Diverted.{standing, OnSecondPath, Leaves, ArrivesFromPlace, LeavesInTime, LeavesSomewhere, HasLeft}
+use Rattle.laws.specs.Diverted.{SlackMeansArrival, ArrivesUnderCuts, SlackUnderCuts}
 use Rattle.laws.proofs.One.{acts, triedIn}
 use Rattle.laws.proofs.Turned.{step-at, at-target-stays}
 use Rattle.laws.proofs.Slots.{JustTurned, turned-from, one-slot}
@@ -134,7 +135,8 @@ has-left rank down plan m (suc i) h = by (hasTurned (standing rank down plan m i
     ps : List Position
     ps = positions rank down owner 0 i (start plan)
 
-    next : standing rank down plan m (suc i) ≡ acts rank (down i) (owner i) i (triedIn (down i) ps) m (turn (down i) (standing rank down plan m i)) .next
+    next : standing rank down plan m (suc i) ≡
+        acts rank (down i) (owner i) i (triedIn (down i) ps) m (turn (down i) (standing rank down plan m i)) .next
     next =
         let one : suc i ≡ i + 1 = omega arith in
         ap (standing rank down plan m) one ∙ standing-after rank down plan m i 1 ∙

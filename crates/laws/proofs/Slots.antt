@@ -15,7 +15,8 @@ use Rattle.laws.proofs.Cases.{turn-cases, act-first, act-second}
 use Rattle.laws.proofs.Turned.{step-at}
 
 -- what has to be shown in each line of the table, so that it holds of what a message does from position p
-pub record Kinds (P : Moved → Type 0) (rank : ℕ → ℕ) (down : ℕ → Bool) (owner : ℕ → ℕ) (i : ℕ) (tried : List ℕ) (m : ℕ) (p : Position) : Type 0 where
+pub record Kinds (P : Moved → Type 0) (rank : ℕ → ℕ) (down : ℕ → Bool) (owner : ℕ → ℕ) (i : ℕ) (tried : List ℕ)
+    (m : ℕ) (p : Position) : Type 0 where
   pub kind0 : atTarget p ≡ true → P (moved p 0 0)
   pub kind1 : (q : Place) (qs : List Place) → p ≡ onFirst (q ∷ qs) → down (q .link) ≡ false → (q .slot ≡ i → ⊥) →
       P (moved (onFirst (q ∷ qs)) 1 (q .link))

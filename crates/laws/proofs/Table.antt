@@ -41,7 +41,8 @@ holds-more e i p ps h = rw h (or-true (eqb (p .link) e && eqb (p .slot) i))
 
 module _ (plan : Plan) (m : ℕ) (there : m < length (plan .messages)) where
   -- a slot and link that message m holds and no lower one are hers
-  pub lowest-has : (e i : ℕ) → holds e i (pathOf plan m) ≡ true → ((j : ℕ) → j < m → holds e i (pathOf plan j) ≡ false) → tableOf plan i e ≡ m + 1
+  pub lowest-has : (e i : ℕ) → holds e i (pathOf plan m) ≡ true → ((j : ℕ) → j < m → holds e i (pathOf plan j) ≡ false) →
+      tableOf plan i e ≡ m + 1
   unfolding tableOf
   lowest-has e i h none =
       let test : ℕ → Bool = λ j. holds e i (pathOf plan j) in
@@ -70,7 +71,8 @@ unfolding holds
 holds-gives owner m e i [] own h = absurd (false≢true h)
 holds-gives owner m e i (p ∷ ps) own h = by (eqb (p .link) e && eqb (p .slot) i) refl h (holds-gives owner m e i ps (own .1))
   where
-    by : (b : Bool) → (eqb (p .link) e && eqb (p .slot) i) ≡ b → (b || holds e i ps) ≡ true → (holds e i ps ≡ true → owner i e ≡ m + 1) → owner i e ≡ m + 1
+    by : (b : Bool) → (eqb (p .link) e && eqb (p .slot) i) ≡ b → (b || holds e i ps) ≡ true →
+        (holds e i ps ≡ true → owner i e ≡ m + 1) → owner i e ≡ m + 1
     by false c g more = more g
     by true c g more =
         let two = and-eq-true-iff (eqb (p .link) e) (eqb (p .slot) i) .0 c in

@@ -102,5 +102,6 @@ ArrivesUnderCuts =
 abbrev pub SlackUnderCuts : Type 0
 SlackUnderCuts =
     (plan : Plan) (cuts : List ℕ) (m p s n : ℕ) → rules plan ≡ gives 0 → Leaves (orderOf plan) (isCut plan cuts) plan m p s →
-    WholeUntilArrival (orderOf plan) (isCut plan cuts) plan m s (placeOf plan m p .second) → slackOf (orderOf plan) plan m (placeOf plan m p) ≡ pos n →
+    WholeUntilArrival (orderOf plan) (isCut plan cuts) plan m s (placeOf plan m p .second) →
+    slackOf (orderOf plan) plan m (placeOf plan m p) ≡ pos n →
     atTarget (standing (orderOf plan) (isCut plan cuts) plan m (plan .timeout)) ≡ true
