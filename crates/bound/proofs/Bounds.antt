@@ -18,6 +18,7 @@ use Rattle.bound.specs.Harmed.{hers, harmed}
 use Rattle.bound.specs.Weights.{entriesFrom, Weighs, Tops}
 use Rattle.bound.proofs.Sums.{sum-same, sum-fewer}
 use Rattle.bound.proofs.Touch.{touches-count}
+use Rattle.bound.proofs.OneLink.{touches-most}
 use Rattle.bound.proofs.Enough.{enough-more, enough-lost}
 
 -- the weight of a pair is how many messages the table has on its link from its slot on
@@ -41,6 +42,7 @@ bound plan l need table weights most g time links t w m e =
           (λ s f hs hf.
           omega (
             arith,
+            touches-most plan s f,
             weight-is (tableOf plan) table weights t w s f (omega arith) (omega arith),
             sum-fewer (λ i. oneIf (ltb 0 (tableOf plan (s + i) f))) (plan .timeout - s) (mostSlots - s) (omega arith),
           ))

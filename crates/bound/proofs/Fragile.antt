@@ -2,13 +2,13 @@
 use Prim.Native.Nat.{ℕ, zero, suc, _+_, _<_}
 use native.Mathlib.Omega.{arith}
 use mathlib.Core.Path.{_≡_, refl, sym, _∙_, ap}
-use mathlib.Core.Bool.{Bool, true, false, cond, _&&_, _||_, or-true}
+use mathlib.Core.Bool.{Bool, true, false, cond, _&&_, _||_, or-true, and-eq-true-iff}
 use mathlib.Core.List.{List, [], _∷_}
 use lib.ListN.{length, getD}
-use lib.Dec.{eqb}
+use lib.Dec.{ltb, eqb}
 use Rattle.scope.specs.Outcome.{gives}
 use Rattle.scope.specs.Plan.{Plan, Place, pathOf}
-use Rattle.scope.specs.Good.{rules, slotsRise, holds}
+use Rattle.scope.specs.Good.{rules, areLinks, linksOf, slotsRise, holds}
 use Rattle.scope.specs.Cycle.{tableOf}
 use Rattle.laws.specs.Links.{TableGives}
 use Rattle.laws.proofs.Cases.{cond-cases}
@@ -67,6 +67,17 @@ module _ (plan : Plan) where
         cond-cases (λ (q : List Place). slotsRise t least q ≡ true) (isRobust plan m p) (fragileOf plan m ps) (p ∷ fragileOf plan m ps)
         (λ h. earlier t least (p .slot + 1) (fragileOf plan m ps) (omega (arith, s .low)) more)
         (λ h. rising t least p (fragileOf plan m ps) (record { low = s .low; high = s .high; rest = more }))
+
+    -- and its links are links
+    pub fragile-links : (ps : List Place) → areLinks plan (linksOf ps) ≡ true → areLinks plan (linksOf (fragileOf plan m ps)) ≡ true
+    unfolding fragileOf areLinks
+    fragile-links [] h = h
+    fragile-links (p ∷ ps) h =
+        let two = and-eq-true-iff (ltb (p .link) (length (plan .links))) (areLinks plan (linksOf ps)) .0 h in
+        let more = fragile-links ps (two .1) in
+        cond-cases (λ (q : List Place). areLinks plan (linksOf q) ≡ true) (isRobust plan m p) (fragileOf plan m ps) (p ∷ fragileOf plan m ps)
+        (λ b. more)
+        (λ b. and-eq-true-iff (ltb (p .link) (length (plan .links))) (areLinks plan (linksOf (fragileOf plan m ps))) .1 (two .0, more))
 
   module _ (g : rules plan ≡ gives 0) where
     -- in a good plan whose place it is, fragile or not, is told by the table

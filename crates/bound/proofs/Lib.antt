@@ -5,6 +5,7 @@ pub mod Harmed
 pub mod Fragile
 pub mod Strips
 pub mod Enough
+pub mod OneLink
 pub mod Weights
 pub mod Bounds
 pub mod Marking

@@ -22,7 +22,7 @@ use Rattle.laws.specs.Message.{hasTurned}
 use Rattle.laws.specs.Untouched.{WholeInTime}
 use Rattle.laws.specs.Diverted.{Leaves}
 use Rattle.laws.proofs.Rising.{rises}
-use Rattle.laws.proofs.Good.{good-rises}
+use Rattle.laws.proofs.Good.{good-rises, good-links}
 use Rattle.laws.proofs.Kept.{starts}
 use Rattle.laws.proofs.Cuts.{not-cut}
 use Rattle.laws.proofs.Latest.{stranded, left-from}
@@ -35,7 +35,7 @@ use Rattle.bound.specs.Strips.{StripsCount, LosesOnly, LosesNoMoreThanBo
 use Rattle.bound.proofs.Sums.{sum-le, sum-plus, sum-term}
 use Rattle.bound.proofs.Touch.{all-hers, unharmed, touches-count}
 use Rattle.bound.proofs.Harmed.{loses-each, was-away}
-use Rattle.bound.proofs.Fragile.{fragile-rises, fragile-gives}
+use Rattle.bound.proofs.Fragile.{fragile-rises, fragile-links, fragile-gives}
 
 abbrev nowhere : Place
 nowhere = record { link = 0; slot = 0; second = [] }
@@ -101,7 +101,9 @@ module _ (plan : Plan) (m : ℕ) where
         (λ j. strips plan m (cutSlot cuts j) (cutLink cuts j))
         (pairs cuts) (λ j l. omega arith) in
         unharmed plan (tableOf (fragilePlan plan)) m 0 cuts (fragileOf plan m (pathOf plan m))
-        (fragile-rises plan m (plan .timeout) 0 (pathOf plan m) (good-rises plan g m)) (fragile-gives plan g m) (omega arith)
+        (fragile-links plan m (pathOf plan m) (good-links plan g m))
+        (fragile-rises plan m (plan .timeout) 0 (pathOf plan m) (good-rises plan g m))
+        (fragile-gives plan g m) (omega arith)
 
     not-through : (j : ℕ) → j < pairs cuts → throughRobust plan m (cutLink cuts j) (pathOf plan m) ≡ false
     not-through j l = by (throughRobust plan m (cutLink cuts j) (pathOf plan m)) refl
@@ -174,7 +176,7 @@ strips-count plan g =
           let n = length (plan .messages) in
           let weak : ℕ → ℕ = λ m. hers (fragilePlan plan) m s e in
           let strong : ℕ → ℕ = λ m. oneIf (throughRobust plan m e (pathOf plan m)) in
-          omega (arith, sum-plus weak strong n, all-hers (tableOf (fragilePlan plan)) n (plan .timeout - s) s e);
+          omega (arith, sum-plus weak strong n, all-hers (fragilePlan plan) n s e);
       none = strips-none plan g;
     }
 

@@ -14,15 +14,15 @@ use Rattle.scope.specs.Cuts.{pairs, cutSlot, isCut}
 use Rattle.scope.specs.Cycle.{orderOf, tableOf, start, positions, arrivals}
 use Rattle.laws.specs.Message.{positionOf}
 use Rattle.bound.specs.Sums.{sumOf, oneIf}
-use Rattle.bound.specs.Touch.{harm, touches}
+use Rattle.bound.specs.Touch.{harm, overCut, touches}
 
 -- in how many of n slots from slot s on the table gives link e to message m
 abbrev pub hersIn : (ℕ → ℕ → ℕ) → ℕ → ℕ → ℕ → ℕ → ℕ
 hersIn owner n m s e = sumOf (λ i. oneIf (eqb (owner (s + i) e) (m + 1))) n
 
--- and in the plan's slots
+-- and, in the plan's slots, the links that a pair with link d cuts
 abbrev pub hers : Plan → ℕ → ℕ → ℕ → ℕ
-hers plan m s e = hersIn (tableOf plan) (plan .timeout - s) m s e
+hers plan m s d = overCut plan d (hersIn (tableOf plan) (plan .timeout - s) m s)
 
 -- a pair of the list hits message m, where `hits` says how often the pair (s, e) hits it
 abbrev pub isHit : (ℕ → ℕ → ℕ → ℕ) → List ℕ → ℕ → Bool

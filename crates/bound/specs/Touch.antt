@@ -1,13 +1,14 @@
--- "a list loses no more messages than it touches": a pair touches the messages that have its link before them in its slot or later.
+-- "a list loses no more messages than it touches": a pair touches the messages that have a link which it cuts before them in its slot or later.
 use Prim.Native.Nat.{ℕ, _+_, _-_, _*_, _≤_}
 use mathlib.Core.Path.{_≡_}
+use mathlib.Core.Bool.{cond}
 use mathlib.Core.List.{List}
 use lib.ListN.{length}
 use lib.Dec.{ltb}
 use Rattle.scope.specs.Outcome.{gives}
 use Rattle.scope.specs.Plan.{Plan}
 use Rattle.scope.specs.Good.{rules}
-use Rattle.scope.specs.Cuts.{cutSlot, cutLink}
+use Rattle.scope.specs.Cuts.{cutSlot, cutLink, cutsLink}
 use Rattle.scope.specs.Cycle.{tableOf, arrivals}
 use Rattle.bound.specs.Sums.{sumOf, oneIf}
 
@@ -19,9 +20,13 @@ harm weight cuts n = sumOf (λ j. weight (cutSlot cuts j) (cutLink cuts j)) n
 abbrev pub touchedIn : (ℕ → ℕ → ℕ) → ℕ → ℕ → ℕ → ℕ
 touchedIn owner n s e = sumOf (λ i. oneIf (ltb 0 (owner (s + i) e))) n
 
+-- the sum over the links that a pair with link d cuts
+abbrev pub overCut : Plan → ℕ → (ℕ → ℕ) → ℕ
+overCut plan d count = sumOf (λ e. cond (cutsLink plan d e) (count e) 0) (length (plan .links))
+
 -- a pair touches those of its slot and every later one of the plan
 abbrev pub touches : Plan → ℕ → ℕ → ℕ
-touches plan s e = touchedIn (tableOf plan) (plan .timeout - s) s e
+touches plan s d = overCut plan d (touchedIn (tableOf plan) (plan .timeout - s) s)
 
 -- a list loses no more messages than it touches
 abbrev pub LosesNoMore : Type 0

@@ -2,16 +2,18 @@
 use Prim.Native.Nat.{ℕ, _<_}
 use native.Mathlib.Omega.{arith}
 use mathlib.Core.Path.{_≡_, refl}
-use mathlib.Core.Bool.{Bool, true, false, cond}
-use mathlib.Core.List.{List, []}
+use mathlib.Core.Bool.{Bool, true, false, cond, _&&_}
+use mathlib.Core.List.{List, [], _∷_}
 use lib.ListN.{length, List·getD-eq-default}
 use lib.Dec.{ltb}
 use borrow.Author.Tests.{ltb-true, ltb-false, not-false}
 use Rattle.scope.specs.Lowest.{lowest}
 use Rattle.scope.proofs.Outcomes.{not-both}
 use Rattle.scope.specs.Outcome.{Outcome, gives, refuse, unlessSome}
-use Rattle.scope.specs.Plan.{Plan, Place, pathOf}
+use Rattle.scope.specs.Plan.{Plan, Place, linkOf, pathOf}
 use Rattle.scope.specs.Good.{rules, badEnds, repeats, badFirstPath, badSlots, badTable, badSecondPath, slotsRise}
+use Rattle.scope.specs.Good.{areLinks, joins, different, visited, isPathFrom, linksOf, headOf}
+use Rattle.scope.proofs.Bools.{and-left}
 use Rattle.scope.proofs.Lowest.{seek-low}
 
 -- nothing below n breaks a rule
@@ -69,3 +71,14 @@ unfolding slotsRise
 good-rises plan g m =
     there-or-not plan (λ (path : List Place). slotsRise (plan .timeout) 0 path ≡ true) m
     (λ h. not-false (slotsRise (plan .timeout) 0 (pathOf plan m)) (keeps-rules plan g .slots m h)) refl
+
+pub good-links : (plan : Plan) → rules plan ≡ gives 0 → (m : ℕ) → areLinks plan (linksOf (pathOf plan m)) ≡ true
+unfolding areLinks
+good-links plan g m =
+    there-or-not plan (λ (path : List Place). areLinks plan (linksOf path) ≡ true) m
+    (λ h.
+    let es = linksOf (pathOf plan m) in
+    let v = linkOf plan (headOf es) .from in
+    and-left (areLinks plan es) (joins plan v es)
+    (and-left (areLinks plan es && joins plan v es) (different (v ∷ visited plan es))
+    (not-false (isPathFrom plan v es) (keeps-rules plan g .firstPaths m h)))) refl

@@ -26,6 +26,7 @@ use Rattle.bound.specs.Touch.{harm}
 use Rattle.bound.specs.Harmed.{hersIn, hers, isTouched, stands, harmed}
 use Rattle.bound.specs.Marks.{mostEntries, entryFrom, MayMarkAll, Marks}
 use Rattle.bound.proofs.Sums.{sum-same, sum-le, sum-fewer}
+use Rattle.bound.proofs.OneLink.{hers-most}
 use Rattle.search.specs.declared.Asked.{Asked}
 use Rattle.search.specs.declared.Picked.{Picked}
 use Rattle.search.specs.Hunt.{cutsOf, Playable, Holding, StandAt}
@@ -73,6 +74,7 @@ module _ (row table : List ℕ) (a : Asked) (p : Picked) (y : Playable row table
       let e = cutLink (cutsOf p) j in
       omega (
         arith,
+        hers-most (planOf row) m s e,
         entry-is m s e,
         sum-fewer (λ k. oneIf (eqb (tableOf (planOf row) (s + k) e) (m + 1))) (planOf row .timeout - s) (mostSlots - s) (omega (arith, y .timeout, y .short)),
       ))
