@@ -4,6 +4,7 @@ pub mod Touch
 pub mod Harmed
 pub mod Fragile
 pub mod Strips
+pub mod Sharper
 pub mod Enough
 pub mod OneLink
 pub mod Weights

@@ -2,6 +2,7 @@ pub mod Sums
 pub mod Touch
 pub mod Harmed
 pub mod Strips
+pub mod Sharper
 pub mod Bound
 pub mod Bounds
 pub mod Weights
