@@ -57,8 +57,9 @@ pub bounds : (plan : Plan) (l need : ℕ) (weights most : List ℕ) → rules pl
     AtMost plan (touches plan) (weightIn weights 0) → AtMost plan (bares plan) (weightIn weights 1) →
     AtMost plan (λ s e. touches plan s e + bares plan s e) (weightIn weights 2) →
     ((j s i e : ℕ) → j < 3 → s ≤ i → i < plan .timeout → e < length (plan .links) → weightIn weights j i e ≤ topIn most j s) →
+    ((j s i e : ℕ) → j < 3 → s ≤ i → i < plan .timeout → e < length (plan .links) → weightIn weights j i e ≤ weightIn weights j s e) →
     Bounds plan (Fails plan l) need weights most
-bounds plan l need weights most g e touched stripped both top =
+bounds plan l need weights most g e touched stripped both top fall =
     let fails = Fails plan l in
     let touching : Enough plan fails need (harmed plan) (touches plan) =
     enough-lost plan l need (hers plan) (touches plan) (touches-count plan g) e in
@@ -69,11 +70,13 @@ bounds plan l need weights most g e touched stripped both top =
           record {
             enough = enough-more plan fails need (harmed plan) (touches plan) (weightIn weights 0) touched touching;
             later = λ s i f. top 0 s i f (omega arith);
+            falls = λ s i f. fall 0 s i f (omega arith);
           };
       strips =
           record {
             enough = enough-more plan fails need (bared plan) (bares plan) (weightIn weights 1) stripped baring;
             later = λ s i f. top 1 s i f (omega arith);
+            falls = λ s i f. fall 1 s i f (omega arith);
           };
       both =
           record {
@@ -81,6 +84,7 @@ bounds plan l need weights most g e touched stripped both top =
                 enough-more plan fails (2 * need) (λ cuts s. harmed plan cuts s + bared plan cuts s) (λ s f. touches plan s f + bares plan s f)
                 (weightIn weights 2) both (enough-both plan fails need (harmed plan) (bared plan) (touches plan) (bares plan) touching baring);
             later = λ s i f. top 2 s i f (omega arith);
+            falls = λ s i f. fall 2 s i f (omega arith);
           };
       whole = λ cuts d s early long good lost. omega (arith, loses-no-more-than-both plan cuts s g early);
     }

@@ -1,5 +1,6 @@
 -- What a search needs to know of its bounds. Each gives a pair a weight: a list that is sought has enough of it, the messages that its first
--- pairs mark and that are away at a time counted with it, and later pairs have no more than a number for each slot says.
+-- pairs mark and that are away at a time counted with it; later pairs have no more than a number for each slot says, and on one link no more
+-- than earlier ones.
 use Prim.Native.Nat.{ℕ, _+_, _*_, _≤_, _<_}
 use mathlib.Core.Path.{_≡_}
 use mathlib.Core.Bool.{true}
@@ -30,6 +31,7 @@ pub record BoundOn (plan : Plan) (Answers : List ℕ → Type 0) (need : ℕ) (m
     (top : ℕ → ℕ) : Type 0 where
   pub enough : Enough plan Answers need marked weight
   pub later : (s i e : ℕ) → s ≤ i → i < plan .timeout → e < length (plan .links) → weight i e ≤ top s
+  pub falls : (s i e : ℕ) → s ≤ i → i < plan .timeout → e < length (plan .links) → weight i e ≤ weight s e
 
 -- both at once, counted in halves: twice the losses are at most the touches and the strips together
 abbrev pub harmedAndBared : Plan → List ℕ → ℕ → ℕ
