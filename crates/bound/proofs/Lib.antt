@@ -8,5 +8,6 @@ pub mod Sharper
 pub mod Enough
 pub mod OneLink
 pub mod Weights
+pub mod Planes
 pub mod Bounds
 pub mod Marking

@@ -1,4 +1,4 @@
--- The loops that mark: over the slots of a pair's link, and over the pairs.
+-- The loops that mark: over the slots of a pair's link, and over the messages.
 use Prim.Native.Nat.{ℕ, zero, suc, _+_, _-_, _≤_, _<_}
 use native.Mathlib.Omega.{arith}
 use mathlib.Core.Path.{_≡_, refl, sym, _∙_, ap, ap₂}
@@ -7,20 +7,20 @@ use mathlib.Core.List.{List}
 use lib.ListN.{length, getD, set, length-set}
 use lib.Seq.{getD-set-same, getD-set-other}
 use lib.Dec.{ltb, eqb}
+use borrow.Author.Count.{below-more}
 use borrow.Author.Tests.{ltb-true, ltb-false, lt-ltb, eqb-true, eqb-false, eq-eqb, ne-eqb}
-use Rattle.scope.specs.Limits.{mostSlots}
+use Rattle.scope.specs.Limits.{mostSlots, mostMessages, mostEntries}
 use Rattle.table.specs.Table.{entryAt}
-use Rattle.scope.specs.Cuts.{pairs, cutSlot, cutLink}
 use Rattle.bound.specs.Sums.{sumOf, oneIf}
-use Rattle.bound.specs.Touch.{harm}
-use Rattle.bound.specs.Marks.{mostEntries, entryFrom, MayMark, Marked, MayMarkAll, Marks}
+use Rattle.bound.specs.Seconds.{secondIn}
+use Rattle.bound.specs.Marks.{entryHits, stripHits, MayMark, Marked}
 
 -- how often entry w stands on link e in the n slots from slot s on
 abbrev standing : List ℕ → ℕ → ℕ → ℕ → ℕ → ℕ
 standing table w s e n = sumOf (λ i. oneIf (eqb (entryAt table (s + i) e) w)) n
 
 -- what is more than nothing stays so with as much added
-same-some : (a b c : ℕ) → ltb 0 a ≡ ltb 0 b → ltb 0 (a + c) ≡ ltb 0 (b + c)
+pub same-some : (a b c : ℕ) → ltb 0 a ≡ ltb 0 b → ltb 0 (a + c) ≡ ltb 0 (b + c)
 same-some a b c e = by (ltb 0 b) refl
   where
     by : (t : Bool) → ltb 0 b ≡ t → ltb 0 (a + c) ≡ ltb 0 (b + c)
@@ -41,15 +41,15 @@ pub record Marking (table : List ℕ) (s e : ℕ) (old new : List ℕ) (i : ℕ)
   pub long : length new ≡ mostEntries
   pub is : (w : ℕ) → w < mostEntries → ltb 0 (getD new w 0) ≡ ltb 0 (getD old w 0 + standing table w s e (i - s))
 
-module _ (table : List ℕ) (s e : ℕ) (old : List ℕ) (m : MayMark s old) where
+module _ (table : List ℕ) (s e : ℕ) (old : List ℕ) (may : MayMark s old) where
   pub marking-none : Marking table s e old old s
   unfolding sumOf
   marking-none =
       let z : s - s ≡ zero = omega arith in
       record {
         from = omega arith;
-        few = m .slot;
-        long = m .long;
+        few = may .slot;
+        long = may .long;
         is = λ w h. let none : getD old w 0 ≡ getD old w 0 + 0 = omega arith in rw z (ap (ltb 0) none);
       }
 
@@ -86,44 +86,57 @@ module _ (table : List ℕ) (s e : ℕ) (old : List ℕ) (m : MayMark s old) whe
             getD old w 0 + (standing table w s e (i - s) + oneIf (eqb (entryAt table (s + (i - s)) e) w)) = omega (arith, none-more) in
             rw more (ap (ltb 0) (getD-set-other new v w 1 0 other) ∙ g .is w l ∙ ap (ltb 0) whole)
 
-    pub marking-done : mostSlots ≤ i → Marked table s e old new
+    pub marking-done : mostSlots ≤ i → Marked (entryHits table) s e old new
     marking-done h =
         let k : i - s ≡ mostSlots - s = omega (arith, g .few) in
         record {
           long = g .long;
-          is = λ w l. g .is w l ∙ ap (λ (n : ℕ). ltb 0 (getD old w 0 + standing table w s e n)) k;
+          is = λ m l. g .is (m + 1) (omega arith) ∙ ap (λ (n : ℕ). ltb 0 (getD old (m + 1) 0 + standing table (m + 1) s e n)) k;
         }
 
--- the pairs below j are marked
-pub record MarkingAll (table cuts marks : List ℕ) (j : ℕ) : Type 0 where
-  pub few : j ≤ pairs cuts
-  pub long : length marks ≡ mostEntries
-  pub is : (w : ℕ) → w < mostEntries → ltb 0 (getD marks w 0) ≡ ltb 0 (harm (entryFrom table w) cuts j)
+-- the messages below m are marked that have link e, and no others
+pub record Baring (seconds : List ℕ) (e : ℕ) (old new : List ℕ) (m : ℕ) : Type 0 where
+  pub long : length new ≡ mostEntries
+  pub is : (j : ℕ) → j < m → ltb 0 (getD new (j + 1) 0) ≡ ltb 0 (getD old (j + 1) 0 + secondIn seconds e j)
+  pub rest : (j : ℕ) → m ≤ j → getD new (j + 1) 0 ≡ getD old (j + 1) 0
 
-module _ (table cuts old : List ℕ) (m : MayMarkAll cuts old) where
-  pub marking-all-none : MarkingAll table cuts old 0
-  unfolding sumOf
-  marking-all-none = record { few = omega arith; long = m .long; is = λ w h. ap (ltb 0) (m .none w) }
+module _ (seconds : List ℕ) (e : ℕ) (old : List ℕ) where
+  pub baring-none : length old ≡ mostEntries → Baring seconds e old old 0
+  baring-none l = record { long = l; is = λ j h. absurd (omega arith); rest = λ j h. refl }
 
-  module _ (marks : List ℕ) (j : ℕ) (g : MarkingAll table cuts marks j) (h : j < pairs cuts) where
-    pub may-mark : (s : ℕ) → s ≡ cutSlot cuts j → MayMark s marks
-    may-mark s a =
-        record { slot = omega (arith, m .slots j h); long = g .long }
-
-    pub marking-all-more : (s e : ℕ) (new : List ℕ) → s ≡ cutSlot cuts j → e ≡ cutLink cuts j → Marked table s e marks new → MarkingAll table cuts new (j + 1)
-    unfolding sumOf
-    marking-all-more s e new a b k =
-        let more : j + 1 ≡ suc j = omega arith in
+  module _ (new : List ℕ) (m : ℕ) (g : Baring seconds e old new m) where
+    pub baring-skip : secondIn seconds e m ≡ 0 → Baring seconds e old new (m + 1)
+    baring-skip z =
+        let same : getD new (m + 1) 0 ≡ getD old (m + 1) 0 + secondIn seconds e m = omega (arith, g .rest m (omega arith), z) in
         record {
-          few = omega arith;
-          long = k .long;
-          is = λ w l.
-              k .is w l ∙ same-some (getD marks w 0) (harm (entryFrom table w) cuts j) (entryFrom table w s e) (g .is w l) ∙
-              ap (λ (n : ℕ). ltb 0 (harm (entryFrom table w) cuts j + n)) (ap₂ (entryFrom table w) a b) ∙
-              ap (λ (n : ℕ). ltb 0 (harm (entryFrom table w) cuts n)) (sym more);
+          long = g .long;
+          is = below-more (λ j. ltb 0 (getD new (j + 1) 0) ≡ ltb 0 (getD old (j + 1) 0 + secondIn seconds e j)) m (g .is) (ap (ltb 0) same);
+          rest = λ j h. g .rest j (omega arith);
         }
 
-  pub marking-all-done : (marks : List ℕ) (j : ℕ) → MarkingAll table cuts marks j → pairs cuts ≤ j → Marks table cuts marks
-  marking-all-done marks j g h =
-      let e : j ≡ pairs cuts = omega (arith, g .few) in
-      record { long = g .long; is = λ w l. g .is w l ∙ ap (λ (n : ℕ). ltb 0 (harm (entryFrom table w) cuts n)) e }
+    pub baring-mark : m < mostMessages → (secondIn seconds e m ≡ 0 → ⊥) → Baring seconds e old (set new (m + 1) 1) (m + 1)
+    baring-mark h z =
+        record {
+          long = length-set new (m + 1) 1 ∙ g .long;
+          is = below-more (λ j. ltb 0 (getD (set new (m + 1) 1) (j + 1) 0) ≡ ltb 0 (getD old (j + 1) 0 + secondIn seconds e j)) m
+              (λ j l. ap (ltb 0) (other j (λ q. omega arith)) ∙ g .is j l)
+              (ap (ltb 0) (getD-set-same new (m + 1) 1 0 (omega (arith, g .long))) ∙ sym (lt-ltb 0 (getD old (m + 1) 0 + secondIn seconds e m) (omega (arith, z))));
+          rest = λ j l. other j (λ q. omega arith) ∙ g .rest j (omega arith);
+        }
+      where
+        other : (j : ℕ) → (j + 1 ≡ m + 1 → ⊥) → getD (set new (m + 1) 1) (j + 1) 0 ≡ getD new (j + 1) 0
+        other j = getD-set-other new (m + 1) (j + 1) 1 0
+
+    pub baring-done : mostMessages ≤ m → Marked (λ j s e. secondIn seconds e j) 0 e old new
+    baring-done h = record { long = g .long; is = λ j l. g .is j (omega arith) }
+
+-- first the fragile entries, then the second paths
+pub bared-by-both : (fragile seconds : List ℕ) (s e : ℕ) (old mid new : List ℕ) →
+    Marked (entryHits fragile) s e old mid → Marked (λ j s e. secondIn seconds e j) 0 e mid new → Marked (stripHits fragile seconds) s e old new
+bared-by-both fragile seconds s e old mid new a b =
+    record {
+      long = b .long;
+      is = λ m l.
+          let sum : getD old (m + 1) 0 + entryHits fragile m s e + secondIn seconds e m ≡ getD old (m + 1) 0 + stripHits fragile seconds m s e = omega arith in
+          b .is m l ∙ same-some (getD mid (m + 1) 0) (getD old (m + 1) 0 + entryHits fragile m s e) (secondIn seconds e m) (a .is m l) ∙ ap (ltb 0) sum;
+    }

@@ -2,17 +2,17 @@
 use Prim.Native.Nat.{ℕ, zero, suc, _+_, _-_, _*_, _/_, _%_, _≤_, _<_}
 use native.Mathlib.Omega.{arith}
 use mathlib.Core.Path.{_≡_, refl, sym, _∙_, ap, ap₂}
-use mathlib.Core.Bool.{Bool, true, false}
+use mathlib.Core.Bool.{Bool, true, false, cond}
 use mathlib.Core.List.{List}
-use lib.ListN.{length, getD, set, length-set, List·getD-eq-default}
+use lib.ListN.{length, getD, set, replicate, length-set, length-replicate, getD-replicate, List·getD-eq-default}
 use lib.Seq.{getD-set-same, getD-set-other}
 use lib.Dec.{ltb, eqb}
-use borrow.Author.Tests.{eqb-true, eqb-false, lt-ltb}
+use borrow.Author.Tests.{ltb-true, ltb-false, eqb-true, eqb-false, lt-ltb}
 use Rattle.scope.specs.Limits.{mostSlots, mostLinks, tableSize}
 use Rattle.table.specs.Table.{entryAt}
 use Rattle.bound.specs.Sums.{sumOf, oneIf}
 use Rattle.bound.specs.Touch.{touchedIn}
-use Rattle.bound.specs.Weights.{entriesFrom, below, Weighs, Tops}
+use Rattle.bound.specs.Weights.{entriesFrom, below, mostOnLink, laterIn, ForLinks, OnLinks, WeighsFrom, Weighs, WeighsStrips, Tops}
 use Rattle.bound.proofs.Sums.{sum-le, sum-same, sum-first, sum-ones}
 
 from-more : (table : List ℕ) (s e : ℕ) → s < mostSlots → entriesFrom table s e ≡ oneIf (ltb 0 (entryAt table s e)) + entriesFrom table (s + 1) e
@@ -42,59 +42,95 @@ at-most-one : (b : Bool) → oneIf b ≤ 1
 at-most-one true = omega arith
 at-most-one false = omega arith
 
-below-small : (table : List ℕ) (k : ℕ) → below table k ≤ mostSlots
+pub below-small : (table : List ℕ) (k : ℕ) → below table k ≤ mostSlots
 below-small table k =
     let s = k / mostLinks in
     let e = k % mostLinks in
     let less = sum-le (λ i. oneIf (ltb 0 (entryAt table (s + i) e))) (λ i. 1) (mostSlots - s) (λ i l. at-most-one (ltb 0 (entryAt table (s + i) e))) in
     omega (arith, less, sum-ones (mostSlots - s))
 
-pub record Weighing (table weights : List ℕ) (k : ℕ) : Type 0 where
+-- what the weight at an index is
+abbrev whole : List ℕ → List ℕ → ℕ → ℕ
+whole table links k = below table k + getD links (k % mostLinks) 0
+
+pub record Weighing (table links weights : List ℕ) (k : ℕ) : Type 0 where
   pub few : k ≤ tableSize
   pub long : length weights ≡ tableSize
-  pub is : (j : ℕ) → k ≤ j → getD weights j 0 ≡ below table j
+  pub is : (j : ℕ) → k ≤ j → j < tableSize → getD weights j 0 ≡ whole table links j
 
-pub weighing-none : (table weights : List ℕ) → length weights ≡ tableSize → Weighing table weights tableSize
-weighing-none table weights l =
+module _ (table links : List ℕ) (numbers : ForLinks links) where
+  pub whole-small : (k : ℕ) → whole table links k ≤ mostSlots + mostOnLink
+  whole-small k = omega (arith, below-small table k, numbers .few (k % mostLinks))
+
+  pub weighing-none : (weights : List ℕ) → length weights ≡ tableSize → Weighing table links weights tableSize
+  weighing-none weights l = record { few = omega arith; long = l; is = λ j h m. absurd (omega arith) }
+
+  module _ (weights : List ℕ) (k : ℕ) (g : Weighing table links weights k) where
+    later-is : 0 < k → laterIn weights links (k - 1) ≡ below table (k - 1 + mostLinks) + getD links ((k - 1) % mostLinks) 0
+    later-is h = by (ltb (k - 1 + mostLinks) tableSize) refl
+      where
+        by : (b : Bool) → ltb (k - 1 + mostLinks) tableSize ≡ b →
+            cond b (getD weights (k - 1 + mostLinks) 0) (getD links ((k - 1) % mostLinks) 0) ≡ below table (k - 1 + mostLinks) + getD links ((k - 1) % mostLinks) 0
+        by true t =
+            let link : (k - 1 + mostLinks) % mostLinks ≡ (k - 1) % mostLinks = omega arith in
+            g .is (k - 1 + mostLinks) (omega arith) (ltb-true (k - 1 + mostLinks) tableSize t) ∙
+            ap (λ (e : ℕ). below table (k - 1 + mostLinks) + getD links e 0) link
+        by false t = omega (arith, below-past table (k - 1 + mostLinks) (ltb-false (k - 1 + mostLinks) tableSize t))
+
+    pub weighing-small : 0 < k → laterIn weights links (k - 1) ≤ mostSlots + mostOnLink
+    weighing-small h = omega (arith, later-is h, below-small table (k - 1 + mostLinks), numbers .few ((k - 1) % mostLinks))
+
+    put : (v : ℕ) → 0 < k → v ≡ oneIf (ltb 0 (entryAt table ((k - 1) / mostLinks) ((k - 1) % mostLinks))) + laterIn weights links (k - 1) → Weighing table links (set weights (k - 1) v) (k - 1)
+    put v h e =
+        record {
+          few = omega (arith, g .few);
+          long = length-set weights (k - 1) v ∙ g .long;
+          is = λ j l m. by j l m (eqb j (k - 1)) refl;
+        }
+      where
+        here : v ≡ whole table links (k - 1)
+        here = omega (arith, e, later-is h, below-more table (k - 1) (omega (arith, g .few)))
+
+        by : (j : ℕ) → k - 1 ≤ j → j < tableSize → (b : Bool) → eqb j (k - 1) ≡ b → getD (set weights (k - 1) v) j 0 ≡ whole table links j
+        by j l m true b =
+            let same : j ≡ k - 1 = eqb-true j (k - 1) b in
+            rw same (getD-set-same weights (k - 1) v 0 (omega (arith, g .few, g .long)) ∙ here)
+        by j l m false b =
+            let other : j ≡ k - 1 → ⊥ = eqb-false j (k - 1) b in
+            getD-set-other weights (k - 1) j v 0 other ∙ g .is j (omega (arith, other)) m
+
+    pub weighing-zero : (v : ℕ) → 0 < k → entryAt table ((k - 1) / mostLinks) ((k - 1) % mostLinks) ≡ 0 → v ≡ laterIn weights links (k - 1) → Weighing table links (set weights (k - 1) v) (k - 1)
+    weighing-zero v h e f = put v h (rw e (omega arith))
+
+    pub weighing-one : (v : ℕ) → 0 < k → (entryAt table ((k - 1) / mostLinks) ((k - 1) % mostLinks) ≡ 0 → ⊥) → v ≡ laterIn weights links (k - 1) → Weighing table links (set weights (k - 1) (v + 1)) (k - 1)
+    weighing-one v h e f =
+        let some : 0 < entryAt table ((k - 1) / mostLinks) ((k - 1) % mostLinks) = omega (arith, e) in
+        put (v + 1) h (rw (lt-ltb 0 (entryAt table ((k - 1) / mostLinks) ((k - 1) % mostLinks)) some) (omega arith))
+
+    pub weighing-done : k ≤ 0 → WeighsFrom table links weights
+    weighing-done h = record { long = g .long; is = λ j l. g .is j (omega arith) l }
+
+-- no number for any link
+none-of : (links : List ℕ) → links ≡ replicate mostLinks 0 → (e : ℕ) → getD links e 0 ≡ 0
+none-of links z e = ap (λ (l : List ℕ). getD l e 0) z ∙ by (ltb e mostLinks) refl
+  where
+    by : (b : Bool) → ltb e mostLinks ≡ b → _≡_ {A = ℕ} (getD (replicate mostLinks 0) e 0) 0
+    by true h = getD-replicate mostLinks e 0 0 (ltb-true e mostLinks h)
+    by false h = List·getD-eq-default (replicate mostLinks 0) 0 {n = e} (omega (arith, ltb-false e mostLinks h, length-replicate {A = ℕ} mostLinks 0))
+
+pub no-links : (links : List ℕ) → links ≡ replicate mostLinks 0 → ForLinks links
+no-links links e = record { long = ap length e ∙ length-replicate {A = ℕ} mostLinks 0; few = λ l. omega (arith, none-of links e l) }
+
+pub weighs-alone : (table links weights : List ℕ) → links ≡ replicate mostLinks 0 → WeighsFrom table links weights → Weighs table weights
+weighs-alone table links weights e w = record { long = w .long; is = λ k l. omega (arith, w .is k l, none-of links e (k % mostLinks)) }
+
+pub weighs-strips : (fragile seconds links weights : List ℕ) → OnLinks seconds links → WeighsFrom fragile links weights → WeighsStrips fragile seconds weights
+weighs-strips fragile seconds links weights o w =
     record {
-      few = omega arith;
-      long = l;
-      is = λ j h. List·getD-eq-default weights 0 (omega arith) ∙ sym (below-past table j h);
+      long = w .long;
+      is = λ k l. omega (arith, w .is k l, o .is (k % mostLinks) (omega arith));
+      few = λ k l. omega (arith, w .is k l, whole-small fragile links (o .numbers) k);
     }
-
-module _ (table weights : List ℕ) (k : ℕ) (g : Weighing table weights k) where
-  pub weighing-small : (j : ℕ) → k ≤ j → getD weights j 0 ≤ mostSlots
-  weighing-small j h = omega (arith, g .is j h, below-small table j)
-
-  put : (v : ℕ) → 0 < k → v ≡ oneIf (ltb 0 (entryAt table ((k - 1) / mostLinks) ((k - 1) % mostLinks))) + getD weights (k - 1 + mostLinks) 0 → Weighing table (set weights (k - 1) v) (k - 1)
-  put v h e =
-      record {
-        few = omega (arith, g .few);
-        long = length-set weights (k - 1) v ∙ g .long;
-        is = λ j l. by j l (eqb j (k - 1)) refl;
-      }
-    where
-      here : v ≡ below table (k - 1)
-      here = e ∙ ap (λ (n : ℕ). oneIf (ltb 0 (entryAt table ((k - 1) / mostLinks) ((k - 1) % mostLinks))) + n) (g .is (k - 1 + mostLinks) (omega arith)) ∙ sym (below-more table (k - 1) (omega (arith, g .few)))
-
-      by : (j : ℕ) → k - 1 ≤ j → (b : Bool) → eqb j (k - 1) ≡ b → getD (set weights (k - 1) v) j 0 ≡ below table j
-      by j l true b =
-          let same : j ≡ k - 1 = eqb-true j (k - 1) b in
-          rw same (getD-set-same weights (k - 1) v 0 (omega (arith, g .few, g .long)) ∙ here)
-      by j l false b =
-          let other : j ≡ k - 1 → ⊥ = eqb-false j (k - 1) b in
-          getD-set-other weights (k - 1) j v 0 other ∙ g .is j (omega (arith, other))
-
-  pub weighing-zero : (v : ℕ) → 0 < k → entryAt table ((k - 1) / mostLinks) ((k - 1) % mostLinks) ≡ 0 → v ≡ getD weights (k - 1 + mostLinks) 0 → Weighing table (set weights (k - 1) v) (k - 1)
-  weighing-zero v h e f = put v h (rw e (omega arith))
-
-  pub weighing-one : (v : ℕ) → 0 < k → (entryAt table ((k - 1) / mostLinks) ((k - 1) % mostLinks) ≡ 0 → ⊥) → v ≡ getD weights (k - 1 + mostLinks) 0 → Weighing table (set weights (k - 1) (v + 1)) (k - 1)
-  weighing-one v h e f =
-      let some : 0 < entryAt table ((k - 1) / mostLinks) ((k - 1) % mostLinks) = omega (arith, e) in
-      put (v + 1) h (rw (lt-ltb 0 (entryAt table ((k - 1) / mostLinks) ((k - 1) % mostLinks)) some) (omega arith))
-
-  pub weighing-done : k ≤ 0 → Weighs table weights
-  weighing-done h = record { long = g .long; is = λ j l. g .is j (omega arith) }
 
 pub record Topping (weights most : List ℕ) (top k : ℕ) : Type 0 where
   pub few : k ≤ tableSize

@@ -5,5 +5,6 @@ pub mod Strips
 pub mod Sharper
 pub mod Bound
 pub mod Bounds
+pub mod Seconds
 pub mod Weights
 pub mod Marks

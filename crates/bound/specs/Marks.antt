@@ -1,41 +1,44 @@
--- The marks that a search makes: an entry of the table is marked that stands on the link of a pair in the pair's slot or later.
-use Prim.Native.Nat.{ℕ, _+_, _-_, _*_, _≤_, _<_}
+-- The marks that a search makes, a byte for each message plus one: those that the pairs of a list hit.
+use Prim.Native.Nat.{ℕ, _+_, _-_, _≤_, _<_}
 use mathlib.Core.Path.{_≡_}
 use mathlib.Core.List.{List}
 use lib.ListN.{length, getD}
 use lib.Dec.{ltb, eqb}
-use Rattle.scope.specs.Limits.{mostSlots}
-use Rattle.scope.specs.Cuts.{pairs, cutSlot}
+use Rattle.scope.specs.Limits.{mostSlots, mostLinks, mostMessages, mostEntries, secondsSize}
+use Rattle.scope.specs.Cuts.{pairs}
 use Rattle.table.specs.Table.{entryAt}
 use Rattle.bound.specs.Sums.{sumOf, oneIf}
 use Rattle.bound.specs.Touch.{harm}
-
--- an entry of the table is a byte, and each has a mark
-abbrev pub mostEntries : ℕ
-mostEntries = 256
+use Rattle.bound.specs.Seconds.{secondIn}
 
 -- how often a table has entry w on link e in slot s or later
 abbrev pub entryFrom : List ℕ → ℕ → ℕ → ℕ → ℕ
 entryFrom table w s e = sumOf (λ i. oneIf (eqb (entryAt table (s + i) e) w)) (mostSlots - s)
+
+-- how often the pair (s, e) hits message m in a table
+abbrev pub entryHits : List ℕ → ℕ → ℕ → ℕ → ℕ
+entryHits table m s e = entryFrom table (m + 1) s e
+
+-- and in a table of fragile places and the second paths of robust ones
+abbrev pub stripHits : List ℕ → List ℕ → ℕ → ℕ → ℕ → ℕ
+stripHits fragile seconds m s e = entryHits fragile m s e + secondIn seconds e m
 
 -- a pair may be marked
 pub record MayMark (s : ℕ) (marks : List ℕ) : Type 0 where
   pub slot : s ≤ mostSlots
   pub long : length marks ≡ mostEntries
 
--- marked is what was, and what the pair adds
-pub record Marked (table : List ℕ) (s e : ℕ) (old new : List ℕ) : Type 0 where
+pub record MayBare (seconds : List ℕ) (e : ℕ) (marks : List ℕ) : Type 0 where
+  pub link : e < mostLinks
+  pub bytes : length seconds ≡ secondsSize
+  pub long : length marks ≡ mostEntries
+
+-- marked is what was, and what the pair hits
+pub record Marked (hits : ℕ → ℕ → ℕ → ℕ) (s e : ℕ) (old new : List ℕ) : Type 0 where
   pub long : length new ≡ mostEntries
-  pub is : (w : ℕ) → w < mostEntries → ltb 0 (getD new w 0) ≡ ltb 0 (getD old w 0 + entryFrom table w s e)
+  pub is : (m : ℕ) → m < mostMessages → ltb 0 (getD new (m + 1) 0) ≡ ltb 0 (getD old (m + 1) 0 + hits m s e)
 
--- all pairs of a list may be marked, and nothing is
-pub record MayMarkAll (cuts marks : List ℕ) : Type 0 where
-  pub even : length cuts ≡ 2 * pairs cuts
-  pub slots : (j : ℕ) → j < pairs cuts → cutSlot cuts j ≤ mostSlots
+-- marked is what the list's pairs hit
+pub record Marks (hits : ℕ → ℕ → ℕ → ℕ) (cuts marks : List ℕ) : Type 0 where
   pub long : length marks ≡ mostEntries
-  pub none : (w : ℕ) → getD marks w 0 ≡ 0
-
--- marked is what the list's pairs add
-pub record Marks (table cuts marks : List ℕ) : Type 0 where
-  pub long : length marks ≡ mostEntries
-  pub is : (w : ℕ) → w < mostEntries → ltb 0 (getD marks w 0) ≡ ltb 0 (harm (entryFrom table w) cuts (pairs cuts))
+  pub is : (m : ℕ) → m < mostMessages → ltb 0 (getD marks (m + 1) 0) ≡ ltb 0 (harm (hits m) cuts (pairs cuts))

@@ -1,42 +1,117 @@
-// How many messages a pair of a cut list can harm: it touches those that have its link before them in its slot or later, and a list
-// loses no more messages than it touches (specs/Touch). A search needs no more of this than specs/Bound says, so that a sharper
-// bound can take its place. It leans on the table of `table` and on the theorems of `laws`.
+// How many messages a pair of a cut list can harm: it touches those that have its link before them in its slot or later, and strips those
+// that it leaves without what would help them, and a list loses only messages that it both touches and strips (specs/Touch, specs/Strips). A
+// search needs no more of this than specs/Bounds says, so that a sharper bound can take its place. It leans on the table of `table` and on
+// the theorems of `laws`.
 use scope::limits::LINKS;
+use scope::limits::MESSAGES;
 use scope::limits::SLOTS;
 use scope::limits::TABLE;
 ghost use mathlib.Core.Path.{_≡_};
-ghost use Prim.Native.Nat.{_+_, _-_, _≤_};
-ghost use lib.ListN.{length, getD};
-ghost use Rattle.scope.specs.Limits.{mostSlots, tableSize};
-ghost use Rattle.bound.specs.Weights.{Weighs, Tops};
-ghost use Rattle.bound.specs.Marks.{MayMark, Marked, MayMarkAll, Marks};
+ghost use Prim.Native.Nat.{_+_, _-_, _≤_, _<_};
+ghost use lib.ListN.{length};
+ghost use Rattle.scope.specs.Limits.{mostSlots, mostLinks, tableSize, secondsSize, weightsSize, topsSize};
+ghost use Rattle.bound.specs.Seconds.{secondIn, onLink};
+ghost use Rattle.bound.specs.Weights.{mostOnLink, laterIn, ForLinks, OnLinks, WeighsFrom, Weighs, WeighsStrips, MayAdd, Added, MayWeigh, WeighsAll, Tops, TopsAll};
+ghost use Rattle.bound.specs.Marks.{entryHits, stripHits, MayMark, MayBare, Marked};
 
-// The number at an index, 0 past the end.
-fn at(weights: &[u16], k: usize) -> u16
-    ensures { λ r. ⌜ r ≡ getD (now (weights .entry)) k 0 ⌝ }
+// The weight a slot later, or a link's number where there is none.
+fn later(weights: &[u16], links: &[u16], k: usize) -> u16
+    requires { ⌜ (length (now weights) ≡ tableSize) × (length (now links) ≡ mostLinks) × (k < tableSize) ⌝ }
+    ensures { λ r. ⌜ r ≡ laterIn (now (weights .entry)) (now (links .entry)) k ⌝ }
 {
-    if k < weights.len() { weights[k] } else { 0 }
+    if k + LINKS < TABLE {
+        weights[k + LINKS]
+    } else {
+        links[k % LINKS]
+    }
 }
 
-// The weight of each slot and link: the entries of the table on that link from that slot on.
-pub fn weigh(table: &[u8], weights: &mut [u16])
-    requires { ⌜ length (now weights) ≡ tableSize ⌝ }
-    ensures { λ _. ⌜ Weighs (now (table .entry)) (now (weights .exit)) ⌝ }
+// The weight of each slot and link: the entries of the table on that link from that slot on, and a number for the link.
+fn weigh_from(table: &[u8], links: &[u16], weights: &mut [u16])
+    requires { ⌜ (length (now weights) ≡ tableSize) × ForLinks (now links) ⌝ }
+    ensures { λ _. ⌜ WeighsFrom (now (table .entry)) (now (links .entry)) (now (weights .exit)) ⌝ }
 {
     let mut k = TABLE;
     while 0 < k {
         k -= 1;
-        let later = at(weights, k + LINKS);
+        let w = later(weights, links, k);
         if table::entry(table, k / LINKS, k % LINKS) == 0 {
-            weights[k] = later;
+            weights[k] = w;
         } else {
-            weights[k] = later + 1;
+            weights[k] = w + 1;
         }
     }
 }
 
+// Of entries alone.
+pub fn weigh(table: &[u8], weights: &mut [u16])
+    requires { ⌜ length (now weights) ≡ tableSize ⌝ }
+    ensures { λ _. ⌜ Weighs (now (table .entry)) (now (weights .exit)) ⌝ }
+{
+    let links = [0u16; LINKS];
+    weigh_from(table, &links, weights);
+}
+
+// How many messages have link e on the second path of a robust place.
+fn on_link(seconds: &[u8], e: usize) -> u16
+    requires { ⌜ (length (now seconds) ≡ secondsSize) × (e < mostLinks) ⌝ }
+    ensures { λ r. ⌜ (r ≡ onLink (now (seconds .entry)) e) × (r ≤ mostOnLink) ⌝ }
+{
+    let mut sum = 0u16;
+    let mut m = 0;
+    while m < MESSAGES {
+        sum = sum + seconds[e * MESSAGES + m] as u16;
+        m += 1;
+    }
+    sum
+}
+
+// Each link's number of them.
+fn on_links(seconds: &[u8], links: &mut [u16])
+    requires { ⌜ (length (now seconds) ≡ secondsSize) × ForLinks (now links) ⌝ }
+    ensures { λ _. ⌜ OnLinks (now (seconds .entry)) (now (links .exit)) ⌝ }
+{
+    let mut e = 0;
+    while e < LINKS {
+        links[e] = on_link(seconds, e);
+        e += 1;
+    }
+}
+
+// What a pair strips: the fragile entries, and the second paths of robust places.
+fn weigh_strips(fragile: &[u8], seconds: &[u8], weights: &mut [u16])
+    requires { ⌜ (length (now seconds) ≡ secondsSize) × (length (now weights) ≡ tableSize) ⌝ }
+    ensures { λ _. ⌜ WeighsStrips (now (fragile .entry)) (now (seconds .entry)) (now (weights .exit)) ⌝ }
+{
+    let mut links = [0u16; LINKS];
+    on_links(seconds, &mut links);
+    weigh_from(fragile, &links, weights);
+}
+
+// Both together.
+fn weigh_both(weights: &mut [u16])
+    requires { ⌜ MayAdd (now weights) ⌝ }
+    ensures { λ _. ⌜ Added (now (weights .entry)) (now (weights .exit)) ⌝ }
+{
+    let mut k = 0;
+    while k < TABLE {
+        weights[2 * TABLE + k] = weights[k] + weights[TABLE + k];
+        k += 1;
+    }
+}
+
+// The three weights of each slot and link: what a pair touches, what it strips, and both together.
+pub fn weigh_all(table: &[u8], fragile: &[u8], seconds: &[u8], weights: &mut [u16])
+    requires { ⌜ MayWeigh (now seconds) (now weights) ⌝ }
+    ensures { λ _. ⌜ WeighsAll (now (table .entry)) (now (fragile .entry)) (now (seconds .entry)) (now (weights .exit)) ⌝ }
+{
+    weigh(table, &mut weights[0..TABLE]);
+    weigh_strips(fragile, seconds, &mut weights[TABLE..2 * TABLE]);
+    weigh_both(weights);
+}
+
 // For each slot the most that a pair from there on weighs.
-pub fn tops(weights: &[u16], most: &mut [u16])
+fn tops(weights: &[u16], most: &mut [u16])
     requires { ⌜ (length (now weights) ≡ tableSize) × (length (now most) ≡ mostSlots) ⌝ }
     ensures { λ _. ⌜ Tops (now (weights .entry)) (now (most .exit)) ⌝ }
 {
@@ -52,6 +127,21 @@ pub fn tops(weights: &[u16], most: &mut [u16])
     }
 }
 
+// Of each of the three weights.
+pub fn tops_all(weights: &[u16], most: &mut [u16])
+    requires { ⌜ (length (now weights) ≡ weightsSize) × (length (now most) ≡ topsSize) ⌝ }
+    ensures { λ _. ⌜ TopsAll (now (weights .entry)) (now (most .exit)) ⌝ }
+{
+    let mut j = 0;
+    while j < 3 {
+        tops(
+            &weights[j * TABLE..(j + 1) * TABLE],
+            &mut most[j * SLOTS..(j + 1) * SLOTS],
+        );
+        j += 1;
+    }
+}
+
 // What a list must weigh at least that leaves fewer than `least` of so many messages.
 pub fn need(messages: usize, least: usize) -> usize
     requires { ⌜ (least ≤ messages) × (messages ≤ 65536) ⌝ }
@@ -61,9 +151,9 @@ pub fn need(messages: usize, least: usize) -> usize
 }
 
 // Marks each entry that stands on link e in slot s or later.
-fn mark(table: &[u8], s: usize, e: usize, marks: &mut [u8])
+pub fn mark(table: &[u8], s: usize, e: usize, marks: &mut [u8])
     requires { ⌜ MayMark s (now marks) ⌝ }
-    ensures { λ _. ⌜ Marked (now (table .entry)) s e (now (marks .entry)) (now (marks .exit)) ⌝ }
+    ensures { λ _. ⌜ Marked (entryHits (now (table .entry))) s e (now (marks .entry)) (now (marks .exit)) ⌝ }
 {
     let mut i = s;
     while i < SLOTS {
@@ -73,15 +163,26 @@ fn mark(table: &[u8], s: usize, e: usize, marks: &mut [u8])
     }
 }
 
-// The marks of all pairs of a list, on marks that are 0.
-pub fn mark_all(table: &[u8], cuts: &[u16], marks: &mut [u8])
-    requires { ⌜ MayMarkAll (now cuts) (now marks) ⌝ }
-    ensures { λ _. ⌜ Marks (now (table .entry)) (now (cuts .entry)) (now (marks .exit)) ⌝ }
+// Marks each message that has link e on the second path of a robust place.
+fn mark_seconds(seconds: &[u8], e: usize, marks: &mut [u8])
+    requires { ⌜ MayBare (now seconds) e (now marks) ⌝ }
+    ensures { λ _. ⌜ Marked (λ m s e. secondIn (now (seconds .entry)) e m) 0 e (now (marks .entry)) (now (marks .exit)) ⌝ }
 {
-    let n = cuts.len() / 2;
-    let mut j = 0;
-    while j < n {
-        mark(table, cuts[2 * j] as usize, cuts[2 * j + 1] as usize, marks);
-        j += 1;
+    let mut m = 0;
+    while m < MESSAGES {
+        let there = seconds[e * MESSAGES + m];
+        m += 1;
+        if there != 0 {
+            marks[m] = 1;
+        }
     }
+}
+
+// Marks each message that the pair of slot s and link e strips.
+pub fn bare(fragile: &[u8], seconds: &[u8], s: usize, e: usize, marks: &mut [u8])
+    requires { ⌜ (s ≤ mostSlots) × MayBare (now seconds) e (now marks) ⌝ }
+    ensures { λ _. ⌜ Marked (stripHits (now (fragile .entry)) (now (seconds .entry))) s e (now (marks .entry)) (now (marks .exit)) ⌝ }
+{
+    mark(fragile, s, e, marks);
+    mark_seconds(seconds, e, marks);
 }

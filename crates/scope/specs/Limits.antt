@@ -22,6 +22,21 @@ mostPlaces = 16
 abbrev pub tableSize : ℕ
 tableSize = 4096
 
+-- a byte for each link and message, link by link
+abbrev pub secondsSize : ℕ
+secondsSize = 2048
+
+-- an entry of the table is a byte, and each has a mark
+abbrev pub mostEntries : ℕ
+mostEntries = 256
+
+-- three weights for each slot and link, one table after another, and the most of each for each slot
+abbrev pub weightsSize : ℕ
+weightsSize = 12288
+
+abbrev pub topsSize : ℕ
+topsSize = 192
+
 -- "The longest file is 7,348 bytes"; "the plan's row, at most 10,405 numbers"
 abbrev pub longestFile : ℕ
 longestFile = 7348

@@ -15,6 +15,16 @@ pub const PLACES: usize = 16;
 // A number for each slot and link, slot by slot.
 pub const TABLE: usize = SLOTS * LINKS;
 
+// A byte for each link and message, link by link; a mark for each byte that an entry of the table may be.
+pub const SECONDS: usize = LINKS * MESSAGES;
+
+pub const ENTRIES: usize = 256;
+
+// Three weights for each slot and link, and the three for each slot that none from there on exceeds.
+pub const WEIGHTS: usize = 3 * TABLE;
+
+pub const TOPS: usize = 3 * SLOTS;
+
 // The longest file in bytes, the longest row and the longest row of events in numbers.
 pub const FILE: usize = 7348;
 

@@ -14,19 +14,19 @@ use Rattle.scope.specs.Spare.{entriesOf, entries, hasSecondThrough, lowerThroug
 use Rattle.rows.proofs.Parts.{places-all, places-more, places-none}
 
 module _ (row : List ℕ) where
-  numbers-more : (i n k : ℕ) → k < n → numbersAt row i (n - k) ≡ at row i ∷ numbersAt row (i + 1) (n - (k + 1))
+  pub numbers-more : (i n k : ℕ) → k < n → numbersAt row i (n - k) ≡ at row i ∷ numbersAt row (i + 1) (n - (k + 1))
   unfolding numbersAt
   numbers-more i n k h = let f : n - k ≡ suc (n - (k + 1)) = omega arith in rw f
 
-  numbers-none : (i n k : ℕ) → n ≤ k → numbersAt row i (n - k) ≡ []
+  pub numbers-none : (i n k : ℕ) → n ≤ k → numbersAt row i (n - k) ≡ []
   unfolding numbersAt
   numbers-none i n k h = let f : n - k ≡ zero = omega arith in rw f
 
-  messages-more : (i n k : ℕ) → k < n → messagesAt row i (n - k) ≡ messageAt row i ∷ messagesAt row (afterMessage row i) (n - (k + 1))
+  pub messages-more : (i n k : ℕ) → k < n → messagesAt row i (n - k) ≡ messageAt row i ∷ messagesAt row (afterMessage row i) (n - (k + 1))
   unfolding messagesAt
   messages-more i n k h = let f : n - k ≡ suc (n - (k + 1)) = omega arith in rw f
 
-  messages-none : (i n k : ℕ) → n ≤ k → messagesAt row i (n - k) ≡ []
+  pub messages-none : (i n k : ℕ) → n ≤ k → messagesAt row i (n - k) ≡ []
   unfolding messagesAt
   messages-none i n k h = let f : n - k ≡ zero = omega arith in rw f
 

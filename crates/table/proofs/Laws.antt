@@ -181,7 +181,7 @@ lowest-next test m = ap (lowest test) (add-one m) ∙ last 0 m ∙ ap (λ k. con
         by false = rw same
 
 -- the entry of one message more
-entry-next : (test : ℕ → Bool) (m : ℕ) →
+pub entry-next : (test : ℕ → Bool) (m : ℕ) →
     cond (ltb 0 (entryOf m (lowest test m))) (entryOf m (lowest test m)) (cond (test m) (m + 1) 0) ≡ entryOf (m + 1) (lowest test (m + 1))
 entry-next test m = by (lowest test m) (ltb (lowest test m) m) (test m) refl ∙ ap (entryOf (m + 1)) (sym (lowest-next test m))
   where

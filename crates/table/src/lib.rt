@@ -37,7 +37,7 @@ pub fn entry(table: &[u8], slot: usize, link: usize) -> u8
 }
 
 // Puts w at a slot and a link, unless they are held already or the table has no such slot or link.
-fn mark(table: &mut [u8], link: usize, slot: usize, w: u8)
+pub fn mark(table: &mut [u8], link: usize, slot: usize, w: u8)
     requires { ⌜ length (now table) ≡ tableSize ⌝ }
     ensures { λ r. ⌜ Table (λ i e. marked w link slot i e (entryAt (now (table .entry)) i e)) (now (table .exit)) ⌝ }
 {
