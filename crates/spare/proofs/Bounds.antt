@@ -31,7 +31,7 @@ use Rattle.spare.proofs.Held.{entries-few}
 use Rattle.spare.proofs.There.{There, there, second-is}
 
 -- b(m, e) is at most the number of messages from j on that are lower than m
-lower-few : (m e j : ℕ) (paths : List (List Place)) → lowerThrough byNumber m e j paths ≤ m - j
+pub lower-few : (m e j : ℕ) (paths : List (List Place)) → lowerThrough byNumber m e j paths ≤ m - j
 unfolding lowerThrough
 lower-few m e j [] = omega arith
 lower-few m e j (path ∷ paths) = by (ltb j m) refl (hasSecondThrough e path) (lower-few m e (j + 1) paths)

@@ -1,0 +1,4 @@
+pub mod Puts
+pub mod Paths
+pub mod Costs
+pub mod Strips
