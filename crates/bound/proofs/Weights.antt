@@ -24,6 +24,13 @@ from-more table s e h =
     (sum-same (λ i. oneIf (ltb 0 (entryAt table (s + suc i) e))) (λ i. oneIf (ltb 0 (entryAt table (s + 1 + i) e))) (mostSlots - (s + 1))
     (λ i l. let t : s + suc i ≡ s + 1 + i = omega arith in ap (λ (j : ℕ). oneIf (ltb 0 (entryAt table j e))) t))
 
+-- fewer come from a later slot on
+pub entries-fall : (table : List ℕ) (s e d : ℕ) → s + d ≤ mostSlots → entriesFrom table (s + d) e ≤ entriesFrom table s e
+entries-fall table s e zero h = let z : s + 0 ≡ s = omega arith in rw z (omega arith)
+entries-fall table s e (suc d) h =
+    let t : s + suc d ≡ s + d + 1 = omega arith in
+    rw t (omega (arith, from-more table (s + d) e (omega arith), entries-fall table s e d (omega arith)))
+
 below-more : (table : List ℕ) (k : ℕ) → k < tableSize →
     below table k ≡ oneIf (ltb 0 (entryAt table (k / mostLinks) (k % mostLinks))) + below table (k + mostLinks)
 below-more table k h =

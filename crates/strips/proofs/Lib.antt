@@ -2,3 +2,4 @@ pub mod Puts
 pub mod Paths
 pub mod Costs
 pub mod Strips
+pub mod Lent
