@@ -1,7 +1,7 @@
 -- The loops that mark: over the slots of a pair's link, and over the messages.
 use Prim.Native.Nat.{ℕ, zero, suc, _+_, _-_, _≤_, _<_}
 use native.Mathlib.Omega.{arith}
-use mathlib.Core.Path.{_≡_, refl, sym, _∙_, ap, ap₂}
+use mathlib.Core.Path.{_≡_, refl, sym, _∙_, ap}
 use mathlib.Core.Bool.{Bool, true, false}
 use mathlib.Core.List.{List}
 use lib.ListN.{length, getD, set, length-set}
@@ -78,7 +78,8 @@ module _ (table : List ℕ) (s e : ℕ) (old : List ℕ) (may : MayMark s old) w
             let same : w ≡ v = eqb-true w v q in
             let put : getD (set new v 1) w 0 ≡ 1 = rw same (getD-set-same new v 1 0 (omega (arith, g .long))) in
             let one-more = last w true (eq-eqb v w (sym same)) in
-            rw (put, more) (sym (lt-ltb 0 (getD old w 0 + (standing table w s e (i - s) + oneIf (eqb (entryAt table (s + (i - s)) e) w))) (omega (arith, one-more))))
+            rw (put, more) (sym (lt-ltb 0 (getD old w 0 + (standing table w s e (i - s) + oneIf (eqb (entryAt table (s + (i - s)) e) w)))
+            (omega (arith, one-more))))
         is w l false q =
             let other : w ≡ v → ⊥ = eqb-false w v q in
             let none-more = last w false (ne-eqb v w (λ same. other (sym same))) in
@@ -120,7 +121,8 @@ module _ (seconds : List ℕ) (e : ℕ) (old : List ℕ) where
           long = length-set new (m + 1) 1 ∙ g .long;
           is = below-more (λ j. ltb 0 (getD (set new (m + 1) 1) (j + 1) 0) ≡ ltb 0 (getD old (j + 1) 0 + secondIn seconds e j)) m
               (λ j l. ap (ltb 0) (other j (λ q. omega arith)) ∙ g .is j l)
-              (ap (ltb 0) (getD-set-same new (m + 1) 1 0 (omega (arith, g .long))) ∙ sym (lt-ltb 0 (getD old (m + 1) 0 + secondIn seconds e m) (omega (arith, z))));
+              (ap (ltb 0) (getD-set-same new (m + 1) 1 0 (omega (arith, g .long))) ∙
+              sym (lt-ltb 0 (getD old (m + 1) 0 + secondIn seconds e m) (omega (arith, z))));
           rest = λ j l. other j (λ q. omega arith) ∙ g .rest j (omega arith);
         }
       where
@@ -137,6 +139,8 @@ bared-by-both fragile seconds s e old mid new a b =
     record {
       long = b .long;
       is = λ m l.
-          let sum : getD old (m + 1) 0 + entryHits fragile m s e + secondIn seconds e m ≡ getD old (m + 1) 0 + stripHits fragile seconds m s e = omega arith in
-          b .is m l ∙ same-some (getD mid (m + 1) 0) (getD old (m + 1) 0 + entryHits fragile m s e) (secondIn seconds e m) (a .is m l) ∙ ap (ltb 0) sum;
+          let sum : getD old (m + 1) 0 + entryHits fragile m s e + secondIn seconds e m ≡ getD old (m + 1) 0 + stripHits fragile seconds m s e =
+          omega arith in
+          b .is m l ∙ same-some (getD mid (m + 1) 0) (getD old (m + 1) 0 + entryHits fragile m s e) (secondIn seconds e m) (a .is m l) ∙
+          ap (ltb 0) sum;
     }

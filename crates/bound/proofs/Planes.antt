@@ -15,7 +15,8 @@ use Rattle.scope.specs.Limits.{mostSlots, mostLinks, mostMessages, tableSize, w
 use Rattle.table.specs.Table.{indexOf}
 use Rattle.bound.specs.Sums.{sumOf}
 use Rattle.bound.specs.Seconds.{secondIn, onLink}
-use Rattle.bound.specs.Weights.{entriesFrom, below, mostOnLink, ForLinks, OnLinks, Weighs, WeighsStrips, MayAdd, Added, WeighsAll, Tops, TopsAll}
+use Rattle.bound.specs.Weights.{entriesFrom, below, mostOnLink, ForLinks, OnLinks, Weighs, WeighsStrips, MayAdd, Added, WeighsAll, Tops}
+use Rattle.bound.specs.Weights.{TopsAll}
 use Rattle.bound.specs.Bounds.{weightIn, topIn}
 use Rattle.bound.proofs.Weights.{below-small}
 
@@ -83,14 +84,16 @@ module _ (old : List ℕ) (may : MayAdd old) where
     pub adding-small : k < tableSize → getD new k 0 + getD new (tableSize + k) 0 < 65536
     adding-small h = omega (arith, may .few k h, g .same k (omega arith), g .same (tableSize + k) (omega arith))
 
-    pub adding-more : (v : ℕ) → k < tableSize → v ≡ getD new k 0 + getD new (tableSize + k) 0 → Adding old (set new (2 * tableSize + k) v) (k + 1)
+    pub adding-more : (v : ℕ) → k < tableSize → v ≡ getD new k 0 + getD new (tableSize + k) 0 →
+        Adding old (set new (2 * tableSize + k) v) (k + 1)
     adding-more v h is =
         record {
           long = length-set new (2 * tableSize + k) v ∙ g .long;
           same = λ j l. getD-set-other new (2 * tableSize + k) j v 0 (λ q. omega arith) ∙ g .same j l;
           sum = below-more (λ j. getD (set new (2 * tableSize + k) v) (2 * tableSize + j) 0 ≡ getD old j 0 + getD old (tableSize + j) 0) k
               (λ j l. getD-set-other new (2 * tableSize + k) (2 * tableSize + j) v 0 (λ q. omega arith) ∙ g .sum j l)
-              (getD-set-same new (2 * tableSize + k) v 0 (omega (arith, g .long)) ∙ is ∙ ap₂ _+_ (g .same k (omega arith)) (g .same (tableSize + k) (omega arith)));
+              (getD-set-same new (2 * tableSize + k) v 0 (omega (arith, g .long)) ∙ is ∙
+              ap₂ _+_ (g .same k (omega arith)) (g .same (tableSize + k) (omega arith)));
         }
 
     pub adding-done : tableSize ≤ k → Added old new
@@ -108,7 +111,8 @@ module _ (a k : ℕ) (xs : List ℕ) where
     pub put-in : (i : ℕ) → i < k → getD (putMid a k xs ys) (a + i) 0 ≡ getD ys i 0
     put-in i h =
         let at : a + i ≡ length (take a xs) + i = omega (arith, front) in
-        ap (λ (n : ℕ). getD (putMid a k xs ys) n 0) at ∙ getD-append-add (take a xs) (ys ++ postOf a k xs) i 0 ∙ List·getD-append ys (postOf a k xs) 0 i (omega arith)
+        ap (λ (n : ℕ). getD (putMid a k xs ys) n 0) at ∙ getD-append-add (take a xs) (ys ++ postOf a k xs) i 0 ∙
+        List·getD-append ys (postOf a k xs) 0 i (omega arith)
 
     pub put-before : (i : ℕ) → i < a → getD (putMid a k xs ys) i 0 ≡ getD xs i 0
     put-before i h = List·getD-append (take a xs) (ys ++ postOf a k xs) 0 i (omega (arith, front)) ∙ getD-take a xs i 0 h
@@ -118,14 +122,16 @@ module _ (a k : ℕ) (xs : List ℕ) where
         let d = i - (a + k) in
         let at : i ≡ length (take a xs) + (length ys + d) = omega (arith, front) in
         let back : a + (k + d) ≡ i = omega arith in
-        ap (λ (n : ℕ). getD (putMid a k xs ys) n 0) at ∙ getD-append-add (take a xs) (ys ++ postOf a k xs) (length ys + d) 0 ∙ getD-append-add ys (postOf a k xs) d 0 ∙
+        ap (λ (n : ℕ). getD (putMid a k xs ys) n 0) at ∙ getD-append-add (take a xs) (ys ++ postOf a k xs) (length ys + d) 0 ∙
+        getD-append-add ys (postOf a k xs) d 0 ∙
         getD-drop k (drop a xs) d 0 ∙ getD-drop a xs (k + d) 0 ∙ ap (λ (n : ℕ). getD xs n 0) back
 
     pub put-long : length (putMid a k xs ys) ≡ length xs
     put-long = same-len-mid a k xs ys (long ∙ sym (length-take-le k (drop a xs) (omega (arith, length-drop a xs))))
 
 pub put-front : (k : ℕ) (xs ys : List ℕ) → k ≤ length xs → length ys ≡ k → (i : ℕ) → i < k → getD (putMid 0 k xs ys) i 0 ≡ getD ys i 0
-put-front k xs ys there long i h = let at : i ≡ 0 + i = omega arith in ap (λ (n : ℕ). getD (putMid 0 k xs ys) n 0) at ∙ put-in 0 k xs ys (omega arith) long i h
+put-front k xs ys there long i h =
+    let at : i ≡ 0 + i = omega arith in ap (λ (n : ℕ). getD (putMid 0 k xs ys) n 0) at ∙ put-in 0 k xs ys (omega arith) long i h
 
 -- the first j of the three have their numbers
 pub record Topped (weights most : List ℕ) (j : ℕ) : Type 0 where
@@ -141,8 +147,16 @@ module _ (weights most : List ℕ) (size : length weights ≡ weightsSize) where
   topped-more j k l tops g h ek el t =
       record {
         long = put-long (j * mostSlots) l most tops (omega (arith, g .long)) (t .long ∙ sym el) ∙ g .long;
-        later = λ p s i e b. below-more (λ p. (s i e : ℕ) → s ≤ i → i < mostSlots → e < mostLinks → weightIn weights p i e ≤ topIn (putMid (j * mostSlots) l most tops) p s) j
-            (λ p b s i e a c d. omega (arith, g .later p s i e b a c d, put-before (j * mostSlots) l most tops (omega (arith, g .long)) (t .long ∙ sym el) (p * mostSlots + s) (omega arith)))
+        later =
+            λ p s i e b. below-more
+            (λ p. (s i e : ℕ) → s ≤ i → i < mostSlots → e < mostLinks → weightIn weights p i e ≤ topIn (putMid (j * mostSlots) l most tops) p s)
+            j
+            (λ p b s i e a c d. omega (
+              arith,
+              g .later p s i e b a c d,
+              put-before (j * mostSlots) l most tops (omega (arith, g .long)) (t .long ∙ sym el)
+                  (p * mostSlots + s) (omega arith),
+            ))
             (λ s i e a c d. omega (
               arith,
               t .later s i e a c d,
@@ -155,7 +169,8 @@ module _ (weights most : List ℕ) (size : length weights ≡ weightsSize) where
   topped-done j g h = record { long = g .long; later = λ p s i e l. g .later p s i e (omega arith) }
 
 -- the three weights, one after another
-pub weighs-all : (table fragile seconds old one two new : List ℕ) → length old ≡ weightsSize → Weighs table one → WeighsStrips fragile seconds two →
+pub weighs-all : (table fragile seconds old one two new : List ℕ) → length old ≡ weightsSize → Weighs table one →
+    WeighsStrips fragile seconds two →
     Added (putMid tableSize tableSize (putMid 0 tableSize old one) two) new → WeighsAll table fragile seconds new
 weighs-all table fragile seconds old one two new size a b c =
     record { long = c .long; touches = λ s e hs he. touch s e hs he ∙ from s e hs he table; strips = strip; both = both }
@@ -176,7 +191,8 @@ weighs-all table fragile seconds old one two new size a b c =
     touch s e hs he =
         let k = indexOf s e in
         let i : 0 * tableSize + k ≡ k = omega arith in
-        ap (λ (n : ℕ). getD new n 0) i ∙ c .same k (omega arith) ∙ put-before tableSize tableSize first two (omega (arith, long)) (b .long) k (omega arith) ∙
+        ap (λ (n : ℕ). getD new n 0) i ∙ c .same k (omega arith) ∙
+        put-before tableSize tableSize first two (omega (arith, long)) (b .long) k (omega arith) ∙
         put-front tableSize old one (omega arith) (a .long) k (omega arith) ∙ a .is k (omega arith)
 
     second : (s e : ℕ) → s < mostSlots → e < mostLinks → weightIn new 1 s e ≡ getD two (indexOf s e) 0
@@ -194,7 +210,8 @@ weighs-all table fragile seconds old one two new size a b c =
     both s e hs he =
         let k = indexOf s e in
         let i : 0 * tableSize + k ≡ k = omega arith in
-        c .sum k (omega arith) ∙ ap₂ _+_ (sym (c .same k (omega arith)) ∙ ap (λ (n : ℕ). getD new n 0) (sym i)) (sym (c .same (tableSize + k) (omega arith)))
+        c .sum k (omega arith) ∙ ap₂ _+_ (sym (c .same k (omega arith)) ∙ ap (λ (n : ℕ). getD new n 0) (sym i))
+        (sym (c .same (tableSize + k) (omega arith)))
 
 -- and they may be added
 pub may-add : (table fragile seconds old one two : List ℕ) → length old ≡ weightsSize → Weighs table one → WeighsStrips fragile seconds two →

@@ -1,7 +1,7 @@
 -- The loops that fill the tables from their ends: from index k on they are done.
 use Prim.Native.Nat.{ℕ, zero, suc, _+_, _-_, _*_, _/_, _%_, _≤_, _<_}
 use native.Mathlib.Omega.{arith}
-use mathlib.Core.Path.{_≡_, refl, sym, _∙_, ap, ap₂}
+use mathlib.Core.Path.{_≡_, refl, _∙_, ap, ap₂}
 use mathlib.Core.Bool.{Bool, true, false, cond}
 use mathlib.Core.List.{List}
 use lib.ListN.{length, getD, set, replicate, length-set, length-replicate, getD-replicate, List·getD-eq-default}
@@ -53,7 +53,8 @@ pub below-small : (table : List ℕ) (k : ℕ) → below table k ≤ mostSlots
 below-small table k =
     let s = k / mostLinks in
     let e = k % mostLinks in
-    let less = sum-le (λ i. oneIf (ltb 0 (entryAt table (s + i) e))) (λ i. 1) (mostSlots - s) (λ i l. at-most-one (ltb 0 (entryAt table (s + i) e))) in
+    let less = sum-le (λ i. oneIf (ltb 0 (entryAt table (s + i) e))) (λ i. 1) (mostSlots - s)
+    (λ i l. at-most-one (ltb 0 (entryAt table (s + i) e))) in
     omega (arith, less, sum-ones (mostSlots - s))
 
 -- what the weight at an index is
@@ -77,7 +78,8 @@ module _ (table links : List ℕ) (numbers : ForLinks links) where
     later-is h = by (ltb (k - 1 + mostLinks) tableSize) refl
       where
         by : (b : Bool) → ltb (k - 1 + mostLinks) tableSize ≡ b →
-            cond b (getD weights (k - 1 + mostLinks) 0) (getD links ((k - 1) % mostLinks) 0) ≡ below table (k - 1 + mostLinks) + getD links ((k - 1) % mostLinks) 0
+            cond b (getD weights (k - 1 + mostLinks) 0) (getD links ((k - 1) % mostLinks) 0) ≡ below table (k - 1 + mostLinks) +
+            getD links ((k - 1) % mostLinks) 0
         by true t =
             let link : (k - 1 + mostLinks) % mostLinks ≡ (k - 1) % mostLinks = omega arith in
             g .is (k - 1 + mostLinks) (omega arith) (ltb-true (k - 1 + mostLinks) tableSize t) ∙
@@ -87,7 +89,8 @@ module _ (table links : List ℕ) (numbers : ForLinks links) where
     pub weighing-small : 0 < k → laterIn weights links (k - 1) ≤ mostSlots + mostOnLink
     weighing-small h = omega (arith, later-is h, below-small table (k - 1 + mostLinks), numbers .few ((k - 1) % mostLinks))
 
-    put : (v : ℕ) → 0 < k → v ≡ oneIf (ltb 0 (entryAt table ((k - 1) / mostLinks) ((k - 1) % mostLinks))) + laterIn weights links (k - 1) → Weighing table links (set weights (k - 1) v) (k - 1)
+    put : (v : ℕ) → 0 < k → v ≡ oneIf (ltb 0 (entryAt table ((k - 1) / mostLinks) ((k - 1) % mostLinks))) + laterIn weights links (k - 1) →
+        Weighing table links (set weights (k - 1) v) (k - 1)
     put v h e =
         record {
           few = omega (arith, g .few);
@@ -106,10 +109,12 @@ module _ (table links : List ℕ) (numbers : ForLinks links) where
             let other : j ≡ k - 1 → ⊥ = eqb-false j (k - 1) b in
             getD-set-other weights (k - 1) j v 0 other ∙ g .is j (omega (arith, other)) m
 
-    pub weighing-zero : (v : ℕ) → 0 < k → entryAt table ((k - 1) / mostLinks) ((k - 1) % mostLinks) ≡ 0 → v ≡ laterIn weights links (k - 1) → Weighing table links (set weights (k - 1) v) (k - 1)
+    pub weighing-zero : (v : ℕ) → 0 < k → entryAt table ((k - 1) / mostLinks) ((k - 1) % mostLinks) ≡ 0 → v ≡ laterIn weights links (k - 1) →
+        Weighing table links (set weights (k - 1) v) (k - 1)
     weighing-zero v h e f = put v h (rw e (omega arith))
 
-    pub weighing-one : (v : ℕ) → 0 < k → (entryAt table ((k - 1) / mostLinks) ((k - 1) % mostLinks) ≡ 0 → ⊥) → v ≡ laterIn weights links (k - 1) → Weighing table links (set weights (k - 1) (v + 1)) (k - 1)
+    pub weighing-one : (v : ℕ) → 0 < k → (entryAt table ((k - 1) / mostLinks) ((k - 1) % mostLinks) ≡ 0 → ⊥) → v ≡
+        laterIn weights links (k - 1) → Weighing table links (set weights (k - 1) (v + 1)) (k - 1)
     weighing-one v h e f =
         let some : 0 < entryAt table ((k - 1) / mostLinks) ((k - 1) % mostLinks) = omega (arith, e) in
         put (v + 1) h (rw (lt-ltb 0 (entryAt table ((k - 1) / mostLinks) ((k - 1) % mostLinks)) some) (omega arith))
@@ -123,7 +128,8 @@ none-of links z e = ap (λ (l : List ℕ). getD l e 0) z ∙ by (ltb e mostLinks
   where
     by : (b : Bool) → ltb e mostLinks ≡ b → _≡_ {A = ℕ} (getD (replicate mostLinks 0) e 0) 0
     by true h = getD-replicate mostLinks e 0 0 (ltb-true e mostLinks h)
-    by false h = List·getD-eq-default (replicate mostLinks 0) 0 {n = e} (omega (arith, ltb-false e mostLinks h, length-replicate {A = ℕ} mostLinks 0))
+    by false h =
+        List·getD-eq-default (replicate mostLinks 0) 0 {n = e} (omega (arith, ltb-false e mostLinks h, length-replicate {A = ℕ} mostLinks 0))
 
 pub no-links : (links : List ℕ) → links ≡ replicate mostLinks 0 → ForLinks links
 no-links links e = record { long = ap length e ∙ length-replicate {A = ℕ} mostLinks 0; few = λ l. omega (arith, none-of links e l) }
@@ -131,7 +137,8 @@ no-links links e = record { long = ap length e ∙ length-replicate {A = ℕ} mo
 pub weighs-alone : (table links weights : List ℕ) → links ≡ replicate mostLinks 0 → WeighsFrom table links weights → Weighs table weights
 weighs-alone table links weights e w = record { long = w .long; is = λ k l. omega (arith, w .is k l, none-of links e (k % mostLinks)) }
 
-pub weighs-strips : (fragile seconds links weights : List ℕ) → OnLinks seconds links → WeighsFrom fragile links weights → WeighsStrips fragile seconds weights
+pub weighs-strips : (fragile seconds links weights : List ℕ) → OnLinks seconds links → WeighsFrom fragile links weights →
+    WeighsStrips fragile seconds weights
 weighs-strips fragile seconds links weights o w =
     record {
       long = w .long;
@@ -171,7 +178,8 @@ module _ (weights most : List ℕ) (top k : ℕ) (g : Topping weights most top k
       all j l true e = rw (eqb-true j (k - 1) e) b
       all j l false e = omega (arith, eqb-false j (k - 1) e, g .all j (omega (arith, eqb-false j (k - 1) e)))
 
-      by : (s j : ℕ) → k - 1 ≤ s * mostLinks → s * mostLinks ≤ j → (t : Bool) → eqb s ((k - 1) / mostLinks) ≡ t → getD weights j 0 ≤ getD (set most ((k - 1) / mostLinks) v) s 0
+      by : (s j : ℕ) → k - 1 ≤ s * mostLinks → s * mostLinks ≤ j → (t : Bool) → eqb s ((k - 1) / mostLinks) ≡ t → getD weights j 0 ≤
+          getD (set most ((k - 1) / mostLinks) v) s 0
       by s j l i true e =
           let same : s ≡ (k - 1) / mostLinks = eqb-true s ((k - 1) / mostLinks) e in
           rw (same, getD-set-same most ((k - 1) / mostLinks) v 0 (omega (arith, g .few, g .long))) (all j (omega arith) (eqb j (k - 1)) refl)

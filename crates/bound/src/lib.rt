@@ -11,7 +11,8 @@ ghost use Prim.Native.Nat.{_+_, _-_, _≤_, _<_};
 ghost use lib.ListN.{length};
 ghost use Rattle.scope.specs.Limits.{mostSlots, mostLinks, tableSize, secondsSize, weightsSize, topsSize};
 ghost use Rattle.bound.specs.Seconds.{secondIn, onLink};
-ghost use Rattle.bound.specs.Weights.{mostOnLink, laterIn, ForLinks, OnLinks, WeighsFrom, Weighs, WeighsStrips, MayAdd, Added, MayWeigh, WeighsAll, Tops, TopsAll};
+ghost use Rattle.bound.specs.Weights.{mostOnLink, laterIn, ForLinks, OnLinks, WeighsFrom, Weighs, WeighsStrips, MayAdd, Added};
+ghost use Rattle.bound.specs.Weights.{MayWeigh, WeighsAll, Tops, TopsAll};
 ghost use Rattle.bound.specs.Marks.{entryHits, stripHits, MayMark, MayBare, Marked};
 
 // The weight a slot later, or a link's number where there is none.

@@ -1,7 +1,7 @@
 -- D of a second path from the numbers of its links, and which place is robust.
 use Prim.Native.Nat.{ℕ, zero, suc, _+_, _-_, _*_, _≤_, _<_}
 use native.Mathlib.Omega.{arith}
-use mathlib.Core.Path.{_≡_, refl, sym, _∙_, ap}
+use mathlib.Core.Path.{_≡_, refl, _∙_, ap}
 use mathlib.Core.Bool.{Bool, true, false, cond, not, _&&_, _||_, and-eq-true-iff}
 use mathlib.Core.List.{List, [], _∷_}
 use native.Mathlib.Numerals.{add-one}
@@ -10,14 +10,13 @@ use lib.Dec.{ltb, leb, eqb}
 use borrow.Author.Tests.{ltb-true, lt-ltb, le-ltb, not-false}
 use Rattle.scope.specs.Limits.{mostLinks}
 use Rattle.scope.specs.Outcome.{gives}
-use Rattle.scope.specs.Plan.{Plan, Place, at, flagged, secondAt, secondStart, secondCount, numbersAt, placeAt, timeoutOf, planOf, pathOf, linkOf}
+use Rattle.scope.specs.Plan.{Plan, Place, at, flagged, secondAt, secondStart, secondCount, numbersAt, placeAt, pathOf, linkOf}
 use Rattle.scope.specs.Good.{rules, has, areLinks, joins, different, visited, isPathFrom, endOf, headOf, linksOf, goodPlace, goodSeconds}
 use Rattle.scope.specs.Cycle.{byNumber, orderOf}
-use Rattle.scope.specs.Spare.{entries, hasSecondThrough, lowerThrough, delay, noSecond}
+use Rattle.scope.specs.Spare.{hasSecondThrough, lowerThrough, delay, noSecond}
 use Rattle.laws.proofs.Good.{keeps-rules, there-or-not}
 use Rattle.rows.specs.View.{Is, IsPlace}
 use Rattle.rows.specs.declared.RowPlace.{RowPlace}
-use Rattle.rows.proofs.Parts.{timeout-is}
 use Rattle.spare.proofs.Loops.{numbers-more, numbers-none}
 use Rattle.bound.specs.Sums.{oneIf}
 use Rattle.bound.specs.Strips.{isRobust, cutsOneOf}
@@ -41,7 +40,8 @@ module _ (row counts : List ℕ) (i n : ℕ) where
     unfolding costOf
     delaying-more e v h is cost small =
         let a : i + (k + 1) ≡ i + k + 1 = omega arith in
-        let now : sum + (1 + getD counts (at row (i + k)) 0 + costOf counts (numbersAt row (i + k + 1) (n - (k + 1)))) ≡ costOf counts (numbersAt row i n) =
+        let now : sum + (1 + getD counts (at row (i + k)) 0 + costOf counts (numbersAt row (i + k + 1) (n - (k + 1)))) ≡
+        costOf counts (numbersAt row i n) =
         rw (numbers-more row (i + k) n k h) at (g .left) in
         record { left = rw (cost, is, a) (omega arith); few = omega (arith, g .few); most = omega arith }
 
@@ -67,7 +67,8 @@ module _ (row counts : List ℕ) (t i : ℕ) (r : RowPlace) (p : IsPlace row i r
       by true h = let c : r .count ≡ secondCount row i = p .count ∙ ap (λ (x : Bool). cond x (secondCount row i) 0) h in absurd (omega arith)
       by false h = rw h
 
-  pub robust-some : (d : ℕ) → (r .count ≡ 0 → ⊥) → d ≡ costOf counts (numbersAt row (r .second) (r .count)) → inTime counts t (placeAt row i) ≡ leb (r .slot + d) t
+  pub robust-some : (d : ℕ) → (r .count ≡ 0 → ⊥) → d ≡ costOf counts (numbersAt row (r .second) (r .count)) → inTime counts t (placeAt row i) ≡
+      leb (r .slot + d) t
   robust-some d z is = by (flagged row i) refl
     where
       by : (b : Bool) → flagged row i ≡ b → inTime counts t (placeAt row i) ≡ leb (r .slot + d) t
@@ -95,7 +96,8 @@ lower-next m e paths h = rw (zero-left m) at (from 0 m paths h)
     from j d [] l = absurd (omega arith)
     from j zero (q ∷ qs) l =
         let a : j + 0 ≡ j = omega arith in
-        rw (a, lt-ltb j (j + 1) (omega arith), le-ltb j j (omega arith), none (j + 1) (j + 1) (omega arith) qs, none j (j + 1) (omega arith) qs) (omega arith)
+        rw (a, lt-ltb j (j + 1) (omega arith), le-ltb j j (omega arith), none (j + 1) (j + 1) (omega arith) qs, none j (j + 1) (omega arith) qs)
+        (omega arith)
     from j (suc d) (q ∷ qs) l =
         let a : j + suc d ≡ j + 1 + d = omega arith in
         rw (a, lt-ltb j (j + 1 + d + 1) (omega arith), lt-ltb j (j + 1 + d) (omega arith)) (omega (arith, from (j + 1) d qs (omega arith)))

@@ -1,5 +1,5 @@
 -- What a search is lent of a plan is what its bounds ask for: the weights and the hits of the filled tables are no less than the plan's own.
-use Prim.Native.Nat.{ℕ, zero, suc, _+_, _-_, _*_, _≤_, _<_}
+use Prim.Native.Nat.{ℕ, zero, suc, _+_, _-_, _≤_, _<_}
 use native.Mathlib.Omega.{arith}
 use mathlib.Core.Path.{_≡_, sym, ap}
 use mathlib.Core.Bool.{Bool}
@@ -13,14 +13,13 @@ use Rattle.scope.specs.Good.{rules}
 use Rattle.scope.specs.Cycle.{tableOf}
 use Rattle.table.specs.Table.{Table, entryAt}
 use Rattle.bound.specs.Sums.{sumOf, oneIf}
-use Rattle.bound.specs.Touch.{touchedIn, touches}
-use Rattle.bound.specs.Harmed.{hers}
+use Rattle.bound.specs.Touch.{touches}
 use Rattle.bound.specs.Strips.{fragilePlan, throughRobust, strips, bares}
 use Rattle.bound.specs.Seconds.{secondIn, onLink}
 use Rattle.bound.specs.Weights.{entriesFrom, WeighsAll, TopsAll}
-use Rattle.bound.specs.Marks.{entryHits, stripHits}
+use Rattle.bound.specs.Marks.{stripHits}
 use Rattle.bound.specs.Bound.{Fails}
-use Rattle.bound.specs.Bounds.{weightIn, topIn, Bounds}
+use Rattle.bound.specs.Bounds.{weightIn, Bounds}
 use Rattle.bound.proofs.Sums.{sum-same, sum-fewer}
 use Rattle.bound.proofs.OneLink.{hers-most, touches-most}
 use Rattle.bound.proofs.Weights.{entries-fall}
@@ -40,12 +39,14 @@ entries-most test owner table t n s e hn he =
 fewer : (table : List ℕ) (s i e : ℕ) → s ≤ i → i < mostSlots → entriesFrom table i e ≤ entriesFrom table s e
 fewer table s i e l h = let d : s + (i - s) ≡ i = omega arith in rw d at (entries-fall table s e (i - s) (omega arith))
 
-module _ (plan : Plan) (time : plan .timeout ≤ mostSlots) (links : length (plan .links) ≤ mostLinks) (messages : length (plan .messages) ≤ mostMessages) where
+module _ (plan : Plan) (time : plan .timeout ≤ mostSlots) (links : length (plan .links) ≤ mostLinks)
+    (messages : length (plan .messages) ≤ mostMessages) where
   module _ (fragile seconds : List ℕ) (f : Filled plan fragile seconds) where
     -- the pair strips message m no more often than it hits it in the tables
     pub strip-hits : (m s e : ℕ) → m < length (plan .messages) → e < length (plan .links) → strips plan m s e ≤ stripHits fragile seconds m s e
     strip-hits m s e hm he =
-        let fragile-hits = entries-most (λ x. eqb x (m + 1)) (tableOf (fragilePlan plan)) fragile (f .table) (plan .timeout) s e time (omega arith) in
+        let fragile-hits = entries-most (λ x. eqb x (m + 1)) (tableOf (fragilePlan plan)) fragile (f .table) (plan .timeout) s e time
+        (omega arith) in
         omega (arith, hers-most (fragilePlan plan) m s e, fragile-hits, f .bytes .is m e (omega arith) (omega arith))
 
     -- and all messages no more often than the tables count

@@ -1,7 +1,7 @@
 -- Bytes of links and messages, and numbers of links: put one after another, and by a loop over links or messages.
-use Prim.Native.Nat.{ℕ, _+_, _-_, _*_, _≤_, _<_}
+use Prim.Native.Nat.{ℕ, _+_, _*_, _≤_, _<_}
 use native.Mathlib.Omega.{arith}
-use mathlib.Core.Path.{_≡_, refl, sym, _∙_, ap, ap₂}
+use mathlib.Core.Path.{_≡_, refl, sym, _∙_, ap}
 use mathlib.Core.Bool.{Bool, true, false, cond, _&&_, _||_, and-false}
 use mathlib.Core.List.{List}
 use lib.ListN.{length, getD, set, replicate, length-set, length-replicate, getD-replicate, List·getD-eq-default}
@@ -27,7 +27,11 @@ module _ (m : ℕ) where
   -- one after the other
   pub put-then : (t u : ℕ → Bool) (old mid new : List ℕ) → Put m t old mid → Put m u mid new → Put m (λ e. t e || u e) old new
   put-then t u old mid new p q =
-      record { long = q .long; is = λ e j a b. q .is e j a b ∙ ap (λ (x : ℕ). cond (eqb j m && u e) 1 x) (p .is e j a b) ∙ by (eqb j m) (t e) (u e) (secondIn old e j) }
+      record {
+        long = q .long;
+        is = λ e j a b. q .is e j a b ∙ ap (λ (x : ℕ). cond (eqb j m && u e) 1 x) (p .is e j a b) ∙
+            by (eqb j m) (t e) (u e) (secondIn old e j);
+      }
     where
       by : (b x y : Bool) (v : ℕ) → cond (b && y) 1 (cond (b && x) 1 v) ≡ cond (b && (x || y)) 1 v
       by true true true v = refl
@@ -37,7 +41,8 @@ module _ (m : ℕ) where
       by false x y v = refl
 
   -- one link
-  pub put-one : (v : ℕ) (old : List ℕ) → v < mostLinks → m < mostMessages → length old ≡ secondsSize → Put m (λ e. eqb e v) old (set old (v * mostMessages + m) 1)
+  pub put-one : (v : ℕ) (old : List ℕ) → v < mostLinks → m < mostMessages → length old ≡ secondsSize →
+      Put m (λ e. eqb e v) old (set old (v * mostMessages + m) 1)
   put-one v old h l long =
       record { long = length-set old (v * mostMessages + m) 1 ∙ long; is = λ e j a b. by e j a b (eqb j m) refl (eqb e v) refl }
     where
@@ -63,9 +68,14 @@ module _ (test : ℕ → ℕ → Bool) where
   pub upto-none : (bytes : List ℕ) → length bytes ≡ secondsSize → ((k : ℕ) → getD bytes k 0 ≡ 0) → Upto test 0 bytes
   upto-none bytes l none = record { long = l; is = λ e j a b. rw (le-ltb j 0 (omega arith)) (none (e * mostMessages + j)) }
 
-  pub upto-next : (m : ℕ) (u : ℕ → Bool) (old new : List ℕ) → ((e : ℕ) → u e ≡ test m e) → Upto test m old → Put m u old new → Upto test (m + 1) new
+  pub upto-next : (m : ℕ) (u : ℕ → Bool) (old new : List ℕ) → ((e : ℕ) → u e ≡ test m e) → Upto test m old → Put m u old new →
+      Upto test (m + 1) new
   upto-next m u old new same g p =
-      record { long = p .long; is = λ e j a b. p .is e j a b ∙ ap (λ (x : ℕ). cond (eqb j m && u e) 1 x) (g .is e j a b) ∙ by e j (eqb j m) refl }
+      record {
+        long = p .long;
+        is = λ e j a b. p .is e j a b ∙ ap (λ (x : ℕ). cond (eqb j m && u e) 1 x) (g .is e j a b) ∙
+            by e j (eqb j m) refl;
+      }
     where
       by : (e j : ℕ) (s : Bool) → eqb j m ≡ s → cond (s && u e) 1 (oneIf (ltb j m && test j e)) ≡ oneIf (ltb j (m + 1) && test j e)
       by e j true q =

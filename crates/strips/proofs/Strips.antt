@@ -4,15 +4,15 @@ use native.Mathlib.Omega.{arith}
 use mathlib.Core.Path.{_≡_, refl, sym, _∙_, ap}
 use mathlib.Core.Bool.{Bool, true, false, cond, _&&_, _||_}
 use mathlib.Core.List.{List, [], _∷_}
-use lib.ListN.{length, getD, List·getD-eq-default}
-use lib.Dec.{ltb, eqb}
+use lib.ListN.{length, List·getD-eq-default}
 use Rattle.scope.specs.Limits.{mostSlots, mostLinks, mostMessages, tableSize, secondsSize}
 use Rattle.scope.specs.Lowest.{seek}
-use Rattle.scope.specs.Plan.{Plan, Place, at, secondAt, numbersAt, placeAt, placeSize, placesAt, afterPlaces, placeCount, messageAt, afterMessage, afterMessages, messageCount, firstMessage, timeoutOf, planOf, pathOf}
+use Rattle.scope.specs.Plan.{Plan, Place, at, secondAt, numbersAt, placeAt, placeSize, placesAt, afterPlaces, placeCount, messageAt}
+use Rattle.scope.specs.Plan.{afterMessage, messageCount, firstMessage, timeoutOf, planOf, pathOf}
 use Rattle.scope.specs.SecondPath.{messageIndex}
 use Rattle.scope.specs.Good.{has, holds}
-use Rattle.scope.specs.Cycle.{byNumber, orderOf, entryOf, tableOf}
-use Rattle.scope.specs.Spare.{entries, hasSecondThrough, lowerThrough}
+use Rattle.scope.specs.Cycle.{tableOf}
+use Rattle.scope.specs.Spare.{hasSecondThrough}
 use Rattle.table.specs.Table.{Table, entryAt, marked, entered, ownerBelow}
 use Rattle.table.proofs.Laws.{enter-place, enter-none, entry-next}
 use Rattle.rows.specs.View.{Is, IsPlace}
@@ -27,7 +27,8 @@ use Rattle.bound.specs.Sums.{oneIf}
 use Rattle.bound.specs.Seconds.{secondIn}
 use Rattle.bound.specs.Strips.{isRobust, fragileOf, fragilePlan, cutsOneOf, throughRobust}
 use Rattle.bound.proofs.Fragile.{fragile-long, fragile-path}
-use Rattle.strips.specs.Filled.{Filled, Put, More, MayMore, Ways, Costs, CountedAll, inTime, SecondsAreLinks, MayStrip, Stripped, StrippedPlace, StrippedMessage, MayStripAll}
+use Rattle.strips.specs.Filled.{Filled, Put, More, MayMore, Ways, Costs, inTime, SecondsAreLinks, MayStrip, Stripped, StrippedPlace}
+use Rattle.strips.specs.Filled.{StrippedMessage, MayStripAll}
 use Rattle.strips.proofs.Puts.{put-none, put-same, put-then, Upto, upto-none, upto-next, upto-all}
 use Rattle.strips.proofs.Paths.{second-of}
 use Rattle.strips.proofs.Costs.{robust-is, lower-next, cuts-has, good-links}
@@ -38,17 +39,21 @@ module _ (plan : Plan) (m : ℕ) where
   table-stays old l = record { long = l; is = λ s e a b. sym (enter-none (m + 1) s e (entryAt old s e)) }
 
   -- no place, a robust one, a fragile one
-  pub stripped-none : (table bytes : List ℕ) → length table ≡ tableSize → length bytes ≡ secondsSize → Stripped plan m [] table table bytes bytes
+  pub stripped-none : (table bytes : List ℕ) → length table ≡ tableSize → length bytes ≡ secondsSize →
+      Stripped plan m [] table table bytes bytes
   unfolding fragileOf throughRobust
   stripped-none table bytes a b = record { table = table-stays table a; bytes = put-none m bytes b }
 
-  pub stripped-robust : (p : Place) (table bytes new : List ℕ) → isRobust plan m p ≡ true → length table ≡ tableSize → Put m (λ e. has e (p .second)) bytes new →
+  pub stripped-robust : (p : Place) (table bytes new : List ℕ) → isRobust plan m p ≡ true → length table ≡ tableSize →
+      Put m (λ e. has e (p .second)) bytes new →
       Stripped plan m (p ∷ []) table table bytes new
   unfolding fragileOf throughRobust
   stripped-robust p table bytes new h a put =
       record {
         table = rw h (table-stays table a);
-        bytes = put-same m (λ e. has e (p .second)) (λ e. (isRobust plan m p && cutsOneOf plan e (p .second)) || false) bytes new (λ e l. rw (h, cuts-has plan e (p .second)) (or-none (has e (p .second)))) put;
+        bytes =
+            put-same m (λ e. has e (p .second)) (λ e. (isRobust plan m p && cutsOneOf plan e (p .second)) || false) bytes new
+            (λ e l. rw (h, cuts-has plan e (p .second)) (or-none (has e (p .second)))) put;
       }
     where
       or-none : (x : Bool) → x ≡ (x || false)
@@ -69,19 +74,24 @@ module _ (plan : Plan) (m : ℕ) where
       }
 
   -- one place and then the others
-  pub stripped-then : (p : Place) (ps : List Place) (a b c a' b' c' : List ℕ) → Stripped plan m (p ∷ []) a b a' b' → Stripped plan m ps b c b' c' → Stripped plan m (p ∷ ps) a c a' c'
+  pub stripped-then : (p : Place) (ps : List Place) (a b c a' b' c' : List ℕ) → Stripped plan m (p ∷ []) a b a' b' →
+      Stripped plan m ps b c b' c' → Stripped plan m (p ∷ ps) a c a' c'
   unfolding fragileOf throughRobust
   stripped-then p ps a b c a' b' c' x y =
       record {
         table =
             record {
               long = y .table .long;
-              is = λ s e h l. y .table .is s e h l ∙ ap (entered (m + 1) (fragileOf plan m ps) s e) (x .table .is s e h l) ∙ both s e (entryAt a s e) (isRobust plan m p);
+              is =
+                  λ s e h l. y .table .is s e h l ∙ ap (entered (m + 1) (fragileOf plan m ps) s e) (x .table .is s e h l) ∙
+                  both s e (entryAt a s e) (isRobust plan m p);
             };
         bytes =
-            put-same m (λ e. ((isRobust plan m p && cutsOneOf plan e (p .second)) || false) || throughRobust plan m e ps) (λ e. (isRobust plan m p && cutsOneOf plan e (p .second)) || throughRobust plan m e ps) a' c'
+            put-same m (λ e. ((isRobust plan m p && cutsOneOf plan e (p .second)) || false) || throughRobust plan m e ps)
+            (λ e. (isRobust plan m p && cutsOneOf plan e (p .second)) || throughRobust plan m e ps) a' c'
             (λ e l. three (isRobust plan m p && cutsOneOf plan e (p .second)) (throughRobust plan m e ps))
-            (put-then m (λ e. (isRobust plan m p && cutsOneOf plan e (p .second)) || false) (λ e. throughRobust plan m e ps) a' b' c' (x .bytes) (y .bytes));
+            (put-then m (λ e. (isRobust plan m p && cutsOneOf plan e (p .second)) || false) (λ e. throughRobust plan m e ps) a' b' c' (x .bytes)
+            (y .bytes));
       }
     where
       three : (u v : Bool) → ((u || false) || v) ≡ (u || v)
@@ -89,7 +99,8 @@ module _ (plan : Plan) (m : ℕ) where
       three false v = refl
 
       both : (s e old : ℕ) (r : Bool) →
-          entered (m + 1) (fragileOf plan m ps) s e (entered (m + 1) (cond r [] (p ∷ [])) s e old) ≡ entered (m + 1) (cond r (fragileOf plan m ps) (p ∷ fragileOf plan m ps)) s e old
+          entered (m + 1) (fragileOf plan m ps) s e (entered (m + 1) (cond r [] (p ∷ [])) s e old) ≡
+          entered (m + 1) (cond r (fragileOf plan m ps) (p ∷ fragileOf plan m ps)) s e old
       both s e old true = ap (entered (m + 1) (fragileOf plan m ps) s e) (enter-none (m + 1) s e old)
       both s e old false =
           ap (entered (m + 1) (fragileOf plan m ps) s e)
@@ -97,18 +108,24 @@ module _ (plan : Plan) (m : ℕ) where
           enter-place (m + 1) p (fragileOf plan m ps) s e old (omega arith)
 
 -- the place at index i, as it is read
-module _ (row : List ℕ) (i m : ℕ) (counts fragile seconds : List ℕ) (may : MayStrip (planOf row) m (placeAt row i ∷ []) counts fragile seconds) (r : RowPlace) (p : IsPlace row i r) where
+module _ (row : List ℕ) (i m : ℕ) (counts fragile seconds : List ℕ) (may : MayStrip (planOf row) m (placeAt row i ∷ []) counts fragile seconds)
+    (r : RowPlace) (p : IsPlace row i r) where
   is-robust : (b : Bool) → b ≡ inTime counts (timeoutOf row) (placeAt row i) → isRobust (planOf row) m (placeAt row i) ≡ b
   is-robust b h =
-      sym (robust-is (planOf row) m counts (may .numbers) (may .few) (placeAt row i) (may .links .0)) ∙ ap (λ (t : ℕ). inTime counts t (placeAt row i)) (timeout-is row) ∙ sym h
+      sym (robust-is (planOf row) m counts (may .numbers) (may .few) (placeAt row i) (may .links .0)) ∙
+      ap (λ (t : ℕ). inTime counts t (placeAt row i)) (timeout-is row) ∙ sym h
 
-  pub place-robust : (b : Bool) → b ≡ inTime counts (timeoutOf row) (placeAt row i) → b ≡ true → (new : List ℕ) → Put m (λ e. has e (numbersAt row (r .second) (r .count))) seconds new →
+  pub place-robust : (b : Bool) → b ≡ inTime counts (timeoutOf row) (placeAt row i) → b ≡ true → (new : List ℕ) →
+      Put m (λ e. has e (numbersAt row (r .second) (r .count))) seconds new →
       StrippedPlace row i m fragile fragile seconds new (r .next)
   place-robust b h t new put =
       record {
         next = p .next;
         near = p .near;
-        stripped = stripped-robust (planOf row) m (placeAt row i) fragile seconds new (is-robust b h ∙ t) (may .long) (put-same m (λ e. has e (numbersAt row (r .second) (r .count))) (λ e. has e (secondAt row i)) seconds new (λ e l. ap (has e) (second-of row i r p)) put);
+        stripped =
+            stripped-robust (planOf row) m (placeAt row i) fragile seconds new (is-robust b h ∙ t) (may .long)
+            (put-same m (λ e. has e (numbersAt row (r .second) (r .count))) (λ e. has e (secondAt row i)) seconds new
+            (λ e l. ap (has e) (second-of row i r p)) put);
       }
 
   pub place-fragile : (b : Bool) → b ≡ inTime counts (timeoutOf row) (placeAt row i) → b ≡ false → (w : ℕ) → w ≡ m + 1 → (new : List ℕ) →
@@ -117,7 +134,9 @@ module _ (row : List ℕ) (i m : ℕ) (counts fragile seconds : List ℕ) (may :
       record {
         next = p .next;
         near = p .near;
-        stripped = stripped-fragile (planOf row) m (placeAt row i) fragile seconds new (is-robust b h ∙ t) (may .bytes) (rw (is, p .link, p .slot) at table);
+        stripped =
+            stripped-fragile (planOf row) m (placeAt row i) fragile seconds new (is-robust b h ∙ t) (may .bytes)
+            (rw (is, p .link, p .slot) at table);
       }
 
 -- a loop over the places of the message at index i, at place k of n, which stands at index j
@@ -128,7 +147,8 @@ pub record Stripping (row : List ℕ) (i m : ℕ) (old old' : List ℕ) (n j k :
   pub long : length fragile ≡ tableSize
   pub bytes : length seconds ≡ secondsSize
   pub links : SecondsAreLinks (planOf row) (placesAt row j (n - k))
-  pub left : (fin fin' : List ℕ) → Stripped (planOf row) m (placesAt row j (n - k)) fragile fin seconds fin' → Stripped (planOf row) m (messageAt row i) old fin old' fin'
+  pub left : (fin fin' : List ℕ) → Stripped (planOf row) m (placesAt row j (n - k)) fragile fin seconds fin' →
+      Stripped (planOf row) m (messageAt row i) old fin old' fin'
 
 module _ (row : List ℕ) (i m : ℕ) (counts old old' : List ℕ) (may : MayStrip (planOf row) m (messageAt row i) counts old old') (n : ℕ) where
   pub stripping-none : n ≡ placeCount row i → Stripping row i m old old' n (i + 1) 0 old old'
@@ -152,7 +172,8 @@ module _ (row : List ℕ) (i m : ℕ) (counts old old' : List ℕ) (may : MayStr
     stripping-may =
         record { few = may .few; message = may .message; links = (links-now .0, tt); numbers = may .numbers; long = g .long; bytes = g .bytes }
 
-    pub stripping-more : (r : ℕ) (fragile' seconds' : List ℕ) → StrippedPlace row j m fragile fragile' seconds seconds' r → Stripping row i m old old' n r (k + 1) fragile' seconds'
+    pub stripping-more : (r : ℕ) (fragile' seconds' : List ℕ) → StrippedPlace row j m fragile fragile' seconds seconds' r →
+        Stripping row i m old old' n r (k + 1) fragile' seconds'
     stripping-more r fragile' seconds' s =
         record {
           next = places-go row j n k r h (s .next) ∙ g .next;
@@ -161,10 +182,15 @@ module _ (row : List ℕ) (i m : ℕ) (counts old old' : List ℕ) (may : MayStr
           long = s .stripped .table .long;
           bytes = s .stripped .bytes .long;
           links = rw (s .next) (links-now .1);
-          left = λ fin fin' t. g .left fin fin' (rw (places-more row j n k h) (stripped-then (planOf row) m (placeAt row j) (placesAt row (j + placeSize row j) (n - (k + 1))) fragile fragile' fin seconds seconds' fin' (s .stripped) (rw (s .next) at t)));
+          left =
+              λ fin fin' t. g .left fin fin'
+              (rw (places-more row j n k h)
+              (stripped-then (planOf row) m (placeAt row j) (placesAt row (j + placeSize row j) (n - (k + 1))) fragile fragile' fin seconds
+              seconds' fin' (s .stripped) (rw (s .next) at t)));
         }
 
-  pub stripping-done : (j k : ℕ) (fragile seconds : List ℕ) → Stripping row i m old old' n j k fragile seconds → n ≤ k → n ≤ 65536 → StrippedMessage row i m old fragile old' seconds j
+  pub stripping-done : (j k : ℕ) (fragile seconds : List ℕ) → Stripping row i m old old' n j k fragile seconds → n ≤ k → n ≤ 65536 →
+      StrippedMessage row i m old fragile old' seconds j
   stripping-done j k fragile seconds g h hn =
       record {
         next = sym (places-done row j n k h) ∙ g .next;
@@ -189,7 +215,8 @@ module _ (row bytes : List ℕ) (good : GoodRow row) (ways : Ways (planOf row) b
   few-messages : n ≤ mostMessages
   few-messages = omega (arith, walked row (good .form) .messages)
 
-  pub stripping-all-none : (j : ℕ) (counts fragile seconds : List ℕ) → Is (messageIndex row 0) (131077 + 0 * 4295229441) j → MayStripAll row bytes counts fragile seconds → StrippingAll row n j 0 counts fragile seconds
+  pub stripping-all-none : (j : ℕ) (counts fragile seconds : List ℕ) → Is (messageIndex row 0) (131077 + 0 * 4295229441) j →
+      MayStripAll row bytes counts fragile seconds → StrippingAll row n j 0 counts fragile seconds
   unfolding seek
   stripping-all-none j counts fragile seconds i may =
       record {
@@ -253,24 +280,38 @@ module _ (row bytes : List ℕ) (good : GoodRow row) (ways : Ways (planOf row) b
           numbers =
               record {
                 long = c .long;
-                is = λ e l. omega (arith, c .is e l, g .numbers .is e l, way-is e l, lower-next m e (planOf row .messages) (omega (arith, message-count row)));
+                is =
+                    λ e l. omega (
+                      arith,
+                      c .is e l,
+                      g .numbers .is e l,
+                      way-is e l,
+                      lower-next m e (planOf row .messages) (omega (arith, message-count row)),
+                    );
               };
           table = record { long = s .stripped .table .long; is = λ i e a b. s .stripped .table .is i e a b ∙ step i e a b };
-          upto = upto-next (robustWays row) m (λ e. throughRobust (planOf row) m e (messageAt row j)) seconds seconds' (λ e. ap (throughRobust (planOf row) m e) path-is) (g .upto) (s .stripped .bytes);
+          upto =
+              upto-next (robustWays row) m (λ e. throughRobust (planOf row) m e (messageAt row j)) seconds seconds'
+              (λ e. ap (throughRobust (planOf row) m e) path-is) (g .upto) (s .stripped .bytes);
         }
       where
         step : (i e : ℕ) → i < mostSlots → e < mostLinks →
-            entered (m + 1) (fragileOf (planOf row) m (messageAt row j)) i e (entryAt fragile i e) ≡ ownerBelow (fragilePlan (planOf row)) (m + 1) i e
+            entered (m + 1) (fragileOf (planOf row) m (messageAt row j)) i e (entryAt fragile i e) ≡
+            ownerBelow (fragilePlan (planOf row)) (m + 1) i e
         step i e a b =
-            rw (g .table .is i e a b, path-is, ← fragile-path (planOf row) m) (entry-next (λ k. holds e i (pathOf (fragilePlan (planOf row)) k)) m)
+            rw (g .table .is i e a b, path-is, ← fragile-path (planOf row) m)
+            (entry-next (λ k. holds e i (pathOf (fragilePlan (planOf row)) k)) m)
 
-  pub stripping-all-done : (j m : ℕ) (counts fragile seconds : List ℕ) → StrippingAll row n j m counts fragile seconds → n ≤ m → Filled (planOf row) fragile seconds
+  pub stripping-all-done : (j m : ℕ) (counts fragile seconds : List ℕ) → StrippingAll row n j m counts fragile seconds → n ≤ m →
+      Filled (planOf row) fragile seconds
   unfolding tableOf throughRobust
   stripping-all-done j m counts fragile seconds g h =
       let all : m ≡ length (fragilePlan (planOf row) .messages) = omega (arith, g .most, fragile-long (planOf row), message-count row) in
       record {
-        table = record { long = g .table .long; is = λ i e a b. g .table .is i e a b ∙ ap (λ k. ownerBelow (fragilePlan (planOf row)) k i e) all };
+        table =
+            record { long = g .table .long; is = λ i e a b. g .table .is i e a b ∙ ap (λ k. ownerBelow (fragilePlan (planOf row)) k i e) all };
         bytes =
             upto-all (robustWays row) m seconds
-            (λ k e past. ap (throughRobust (planOf row) k e) (List·getD-eq-default (planOf row .messages) [] (omega (arith, message-count row)))) (g .upto);
+            (λ k e past. ap (throughRobust (planOf row) k e)
+            (List·getD-eq-default (planOf row .messages) [] (omega (arith, message-count row)))) (g .upto);
       }

@@ -11,13 +11,14 @@ ghost use Prim.Native.Nat.{_*_, _<_, _≤_, _^_};
 ghost use mathlib.Core.List.{[], _∷_};
 ghost use lib.ListN.{length};
 ghost use lib.Dec.{eqb};
-ghost use Rattle.scope.specs.Limits.{mostLinks, mostMessages, secondsSize};
+ghost use Rattle.scope.specs.Limits.{mostMessages, secondsSize};
 ghost use Rattle.scope.specs.Plan.{planOf, numbersAt, placeAt, messageAt, timeoutOf};
 ghost use Rattle.scope.specs.Good.{has};
 ghost use Rattle.rows.specs.View.{Is};
 ghost use Rattle.bound.specs.Seconds.{secondIn};
 ghost use Rattle.bound.specs.Sums.{oneIf};
-ghost use Rattle.strips.specs.Filled.{MayFill, Filled, Put, More, MayMore, MayCount, Counted, MayCountAll, CountedAll, costOf, inTime, MayStrip, StrippedPlace, StrippedMessage, MayStripAll};
+ghost use Rattle.strips.specs.Filled.{MayFill, Filled, Put, More, MayMore, MayCount, Counted, MayCountAll, CountedAll, costOf, inTime};
+ghost use Rattle.strips.specs.Filled.{MayStrip, StrippedPlace, StrippedMessage, MayStripAll};
 
 // Marks message m on each of so many links from an index on.
 fn mark_path(row: &[u16], i: usize, n: usize, m: usize, ways: &mut [u8])
@@ -113,7 +114,8 @@ fn strip_place(
     seconds: &mut [u8],
 ) -> usize
     requires { ⌜ (i < 2 ^ 61) × MayStrip (planOf (now row)) m (placeAt (now row) i ∷ []) (now counts) (now fragile) (now seconds) ⌝ }
-    ensures { λ r. ⌜ StrippedPlace (now (row .entry)) i m (now (fragile .entry)) (now (fragile .exit)) (now (seconds .entry)) (now (seconds .exit)) r ⌝ }
+    ensures { λ r. ⌜ StrippedPlace (now (row .entry)) i m (now (fragile .entry)) (now (fragile .exit))
+        (now (seconds .entry)) (now (seconds .exit)) r ⌝ }
 {
     let here = rows::place_at(row, i);
     if robust(row, i, counts) {
@@ -135,7 +137,8 @@ fn strip_message(
     seconds: &mut [u8],
 ) -> usize
     requires { ⌜ (i < 2 ^ 60) × MayStrip (planOf (now row)) m (messageAt (now row) i) (now counts) (now fragile) (now seconds) ⌝ }
-    ensures { λ r. ⌜ StrippedMessage (now (row .entry)) i m (now (fragile .entry)) (now (fragile .exit)) (now (seconds .entry)) (now (seconds .exit)) r ⌝ }
+    ensures { λ r. ⌜ StrippedMessage (now (row .entry)) i m (now (fragile .entry)) (now (fragile .exit))
+        (now (seconds .entry)) (now (seconds .exit)) r ⌝ }
 {
     let n = rows::place_count(row, i);
     let mut at = i + 1;

@@ -8,13 +8,22 @@ mark-requires : tie.Need-mark-requires
 mark-requires c κs = record { slot = c .before .before .before .before .pre .0; long = c .before .before .before .before .pre .1 .long }
 
 mark-seconds-requires : tie.Need-mark-seconds-requires
-mark-seconds-requires c κs = record { link = c .before .before .before .before .before .before .before .before .pre .1 .link; bytes = c .before .before .before .before .before .before .before .before .pre .1 .bytes; long = c .before .before .before .mark .ensures .long }
+mark-seconds-requires c κs =
+    record {
+      link = c .before .before .before .before .before .before .before .before .pre .1 .link;
+      bytes =
+          c .before .before .before .before .before .before .before .before .pre .1 .bytes;
+      long = c .before .before .before .mark .ensures .long;
+    }
 
 same-length : tie.Need-same-length
 same-length c = search needs
 
 returns : tie.Need-returns
-returns c = bared-by-both (c .before .before .before .before .before .before .before .before .before .before .before .args .fragile .now) (c .before .before .before .before .before .before .before .before .before .before .before .args .seconds .now) _ _ _ _ _ (c .before .before .before .before .before .before .mark .ensures) (c .before .before .mark-seconds .ensures)
+returns c =
+    bared-by-both (c .before .before .before .before .before .before .before .before .before .before .before .args .fragile .now)
+    (c .before .before .before .before .before .before .before .before .before .before .before .args .seconds .now) _ _ _ _ _
+    (c .before .before .before .before .before .before .mark .ensures) (c .before .before .mark-seconds .ensures)
 
 pub bare-spec : {M : Type 1} → statement M
 bare-spec = tie.close (tie.spec mark-requires mark-seconds-requires same-length returns)

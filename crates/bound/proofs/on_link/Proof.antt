@@ -31,7 +31,13 @@ cast-sum : tie.Need-cast-sum Inv-loop μ-loop
 cast-sum c = omega (arith, c .shared-slice-known .given (c .before .before .before .args .e * mostMessages + c .before .before .loop .m))
 
 add-sum-2 : tie.Need-add-sum-2 Inv-loop μ-loop
-add-sum-2 c = omega (arith, c .before .before .loop .inv .few, c .shared-slice-known .given (c .before .before .before .args .e * mostMessages + c .before .before .loop .m))
+add-sum-2 c =
+    omega (
+      arith,
+      c .before .before .loop .inv .few,
+      c .shared-slice-known .given
+          (c .before .before .before .args .e * mostMessages + c .before .before .loop .m),
+    )
 
 add-m : tie.Need-add-m Inv-loop μ-loop
 add-m c = search needs
@@ -40,7 +46,9 @@ loop-less : tie.Need-loop-less Inv-loop μ-loop
 loop-less c = search needs
 
 loop-again : tie.Need-loop-again Inv-loop μ-loop
-loop-again c = summing-more _ _ _ _ (c .before .before .loop .inv) _ (c .before .loop-test .taken) (omega (arith, c .shared-slice-known .given (c .before .before .before .args .e * mostMessages + c .before .before .loop .m))) refl
+loop-again c =
+    summing-more _ _ _ _ (c .before .before .loop .inv) _ (c .before .loop-test .taken)
+    (omega (arith, c .shared-slice-known .given (c .before .before .before .args .e * mostMessages + c .before .before .loop .m))) refl
 
 returns : tie.Need-returns Inv-loop μ-loop
 returns c = summing-done _ _ _ _ (c .before .loop .inv) (c .loop-test .left)

@@ -32,7 +32,8 @@ loop-less : tie.Need-loop-less Inv-loop μ-loop
 loop-less c = search needs
 
 loop-again : tie.Need-loop-again Inv-loop μ-loop
-loop-again c = counting-more _ _ _ (c .before .before .loop .inv) _ (c .before .loop-test .taken) (c .on-link .ensures .0) (c .on-link .ensures .1)
+loop-again c =
+    counting-more _ _ _ (c .before .before .loop .inv) _ (c .before .loop-test .taken) (c .on-link .ensures .0) (c .on-link .ensures .1)
 
 same-length : tie.Need-same-length Inv-loop μ-loop
 same-length c = search needs

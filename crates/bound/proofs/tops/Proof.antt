@@ -34,7 +34,10 @@ loop-less : tie.Need-loop-less Inv-loop μ-loop
 loop-less c = search needs
 
 loop-again : tie.Need-loop-again Inv-loop μ-loop
-loop-again c = ⊎-elim (λ w. topping-more _ _ _ _ (c .before .before .before .loop .inv) _ (c .before .before .loop-test .taken) (omega arith) (omega arith)) (λ w. topping-more _ _ _ _ (c .before .before .before .loop .inv) _ (c .before .before .loop-test .taken) (omega arith) (omega arith)) (c .if1 .came)
+loop-again c =
+    ⊎-elim (λ w. topping-more _ _ _ _ (c .before .before .before .loop .inv) _ (c .before .before .loop-test .taken) (omega arith)
+    (omega arith)) (λ w. topping-more _ _ _ _ (c .before .before .before .loop .inv) _ (c .before .before .loop-test .taken) (omega arith)
+    (omega arith)) (c .if1 .came)
 
 same-length : tie.Need-same-length Inv-loop μ-loop
 same-length c = search needs

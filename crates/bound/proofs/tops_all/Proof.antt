@@ -68,7 +68,11 @@ loop-less : tie.Need-loop-less Inv-loop μ-loop
 loop-less c = search needs
 
 loop-again : tie.Need-loop-again Inv-loop μ-loop
-loop-again c = let j = c .before .before .before .before .before .before .loop .j in topped-more _ _ (c .before .before .before .before .before .before .before .before .before .pre .0) j ((j + 1) * tableSize - j * tableSize) ((j + 1) * mostSlots - j * mostSlots) _ (c .before .before .before .before .before .before .loop .inv) (c .before .before .before .before .before .loop-test .taken) (omega arith) (omega arith) (c .before .before .tops .ensures)
+loop-again c =
+    let j = c .before .before .before .before .before .before .loop .j in
+    topped-more _ _ (c .before .before .before .before .before .before .before .before .before .pre .0) j ((j + 1) * tableSize - j * tableSize)
+    ((j + 1) * mostSlots - j * mostSlots) _ (c .before .before .before .before .before .before .loop .inv)
+    (c .before .before .before .before .before .loop-test .taken) (omega arith) (omega arith) (c .before .before .tops .ensures)
 
 same-length : tie.Need-same-length Inv-loop μ-loop
 same-length c = search needs

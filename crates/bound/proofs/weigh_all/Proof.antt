@@ -32,13 +32,20 @@ weigh-strips-requires : tie.Need-weigh-strips-requires
 weigh-strips-requires c κs = search needs
 
 weigh-both-requires : tie.Need-weigh-both-requires
-weigh-both-requires c κs = may-add _ _ _ (c .before .before .before .before .before .before .before .before .before .before .before .before .before .args .weights .now) _ _ (c .before .before .before .before .before .before .before .before .before .before .before .before .before .pre .long) (c .before .before .before .before .before .before .before .weigh .ensures) (c .before .before .before .weigh-strips .ensures)
+weigh-both-requires c κs =
+    let d = c .before .before .before .before .before .before .before in
+    let s = d .before .before .before .before .before .before in
+    may-add _ _ _ (s .args .weights .now) _ _ (s .pre .long) (d .weigh .ensures) (c .before .before .before .weigh-strips .ensures)
 
 same-length : tie.Need-same-length
 same-length c = search needs
 
 returns : tie.Need-returns
-returns c = weighs-all _ _ _ (c .before .before .before .before .before .before .before .before .before .before .before .before .before .before .before .before .args .weights .now) _ _ _ (c .before .before .before .before .before .before .before .before .before .before .before .before .before .before .before .before .pre .long) (c .before .before .before .before .before .before .before .before .before .before .weigh .ensures) (c .before .before .before .before .before .before .weigh-strips .ensures) (c .before .before .weigh-both .ensures)
+returns c =
+    let d = c .before .before .before .before .before .before .before .before .before .before in
+    let s = d .before .before .before .before .before .before in
+    weighs-all _ _ _ (s .args .weights .now) _ _ _ (s .pre .long) (d .weigh .ensures)
+    (c .before .before .before .before .before .before .weigh-strips .ensures) (c .before .before .weigh-both .ensures)
 
 pub weigh-all-spec : {M : Type 1} → statement M
 weigh-all-spec =

@@ -34,7 +34,12 @@ slice-read-weights-2 : tie.Need-slice-read-weights-2 Inv-loop μ-loop
 slice-read-weights-2 c = search needs
 
 add-weights-2 : tie.Need-add-weights-2 Inv-loop μ-loop
-add-weights-2 c = omega (arith, adding-small _ (c .before .before .before .before .pre) _ _ (c .before .before .before .loop .inv) (c .before .before .loop-test .taken))
+add-weights-2 c =
+    omega (
+      arith,
+      adding-small _ (c .before .before .before .before .pre) _ _ (c .before .before .before .loop .inv)
+          (c .before .before .loop-test .taken),
+    )
 
 mul-weights-3 : tie.Need-mul-weights-3 Inv-loop μ-loop
 mul-weights-3 c = search needs
@@ -55,7 +60,9 @@ loop-less : tie.Need-loop-less Inv-loop μ-loop
 loop-less c = search needs
 
 loop-again : tie.Need-loop-again Inv-loop μ-loop
-loop-again c = adding-more _ (c .before .before .before .before .pre) _ _ (c .before .before .before .loop .inv) _ (c .before .before .loop-test .taken) refl
+loop-again c =
+    adding-more _ (c .before .before .before .before .pre) _ _ (c .before .before .before .loop .inv) _ (c .before .before .loop-test .taken)
+    refl
 
 same-length : tie.Need-same-length Inv-loop μ-loop
 same-length c = search needs

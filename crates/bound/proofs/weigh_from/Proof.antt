@@ -35,13 +35,18 @@ loop-less c = search needs
 
 loop-again : tie.Need-loop-again Inv-loop μ-loop
 loop-again c =
-    weighing-zero _ _ (c .before .before .before .before .before .before .before .before .before .pre .1) _ _ (c .before .before .before .before .before .loop .inv) _ (c .before .before .before .before .loop-test .taken)
+    weighing-zero _ _ (c .before .before .before .before .before .before .before .before .before .pre .1) _ _
+    (c .before .before .before .before .before .loop .inv) _ (c .before .before .before .before .loop-test .taken)
     (sym (c .before .entry .ensures) ∙ c .if1 .taken) (c .before .before .later .ensures)
 
 add-weights : tie.Need-add-weights Inv-loop μ-loop
 add-weights c =
-    omega
-    (arith, weighing-small _ _ (c .before .before .before .before .before .before .before .before .before .pre .1) _ _ (c .before .before .before .before .before .loop .inv) (c .before .before .before .before .loop-test .taken), c .before .before .later .ensures)
+    omega (
+      arith,
+      weighing-small _ _ (c .before .before .before .before .before .before .before .before .before .pre .1) _ _
+          (c .before .before .before .before .before .loop .inv) (c .before .before .before .before .loop-test .taken),
+      c .before .before .later .ensures,
+    )
 
 mul-weights-2 : tie.Need-mul-weights-2 Inv-loop μ-loop
 mul-weights-2 c = search needs
@@ -54,7 +59,8 @@ loop-less-2 c = search needs
 
 loop-again-2 : tie.Need-loop-again-2 Inv-loop μ-loop
 loop-again-2 c =
-    weighing-one _ _ (c .before .before .before .before .before .before .before .before .before .pre .1) _ _ (c .before .before .before .before .before .loop .inv) _ (c .before .before .before .before .loop-test .taken)
+    weighing-one _ _ (c .before .before .before .before .before .before .before .before .before .pre .1) _ _
+    (c .before .before .before .before .before .loop .inv) _ (c .before .before .before .before .loop-test .taken)
     (λ z. c .if1 .left (c .before .entry .ensures ∙ z)) (c .before .before .later .ensures)
 
 same-length : tie.Need-same-length Inv-loop μ-loop

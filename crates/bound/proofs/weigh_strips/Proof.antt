@@ -15,13 +15,15 @@ slice-aggregate-weigh-from : tie.Need-slice-aggregate-weigh-from
 slice-aggregate-weigh-from c = search needs
 
 weigh-from-requires : tie.Need-weigh-from-requires
-weigh-from-requires c κs = (c .before .before .before .before .before .before .before .before .pre .1, c .before .before .before .on-links .ensures .numbers)
+weigh-from-requires c κs =
+    (c .before .before .before .before .before .before .before .before .pre .1, c .before .before .before .on-links .ensures .numbers)
 
 same-length : tie.Need-same-length
 same-length c = search needs
 
 returns : tie.Need-returns
-returns c = weighs-strips _ _ _ _ (c .before .before .before .before .before .before .on-links .ensures) (c .before .before .weigh-from .ensures)
+returns c =
+    weighs-strips _ _ _ _ (c .before .before .before .before .before .before .on-links .ensures) (c .before .before .weigh-from .ensures)
 
 pub weigh-strips-spec : {M : Type 1} → statement M
 weigh-strips-spec =

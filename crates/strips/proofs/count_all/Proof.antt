@@ -1,6 +1,5 @@
 -- `strips::count_all` meets its contract: the messages below message m are counted. Assumes nothing.
 use Prim.Native.Nat.{_-_}
-use native.Mathlib.Omega.{arith}
 use borrow.Author.Needs.{needs}
 use Rattle.strips.proofs.Paths.{CountingAll, counting-all-none, may-count, counting-all-more, counting-all-done}
 use Rattle.strips.proofs.count_all.Statement.{statement}
@@ -19,10 +18,15 @@ message-index-requires : tie.Need-message-index-requires Inv-loop μ-loop
 message-index-requires c κs = search needs
 
 loop-holds : tie.Need-loop-holds Inv-loop μ-loop
-loop-holds c = counting-all-none _ (c .before .before .before .before .before .pre .good) _ (c .before .messages .ensures .is) _ _ _ (c .message-index .ensures) (c .before .before .before .before .before .pre)
+loop-holds c =
+    counting-all-none _ (c .before .before .before .before .before .pre .good) _ (c .before .messages .ensures .is) _ _ _
+    (c .message-index .ensures) (c .before .before .before .before .before .pre)
 
 count-message-requires : tie.Need-count-message-requires Inv-loop μ-loop
-count-message-requires c κs = may-count _ (c .before .before .before .before .before .before .before .before .before .pre .good) _ (c .before .before .before .before .before .messages .ensures .is) _ _ _ _ (c .before .before .before .loop .inv) (c .before .before .loop-test .taken)
+count-message-requires c κs =
+    may-count _ (c .before .before .before .before .before .before .before .before .before .pre .good) _
+    (c .before .before .before .before .before .messages .ensures .is) _ _ _ _ (c .before .before .before .loop .inv)
+    (c .before .before .loop-test .taken)
 
 add-m : tie.Need-add-m Inv-loop μ-loop
 add-m c = search needs
@@ -31,7 +35,12 @@ loop-less : tie.Need-loop-less Inv-loop μ-loop
 loop-less c = search needs
 
 loop-again : tie.Need-loop-again Inv-loop μ-loop
-loop-again c = counting-all-more _ (c .before .before .before .before .before .before .before .before .before .before .before .before .before .before .pre .good) _ (c .before .before .before .before .before .before .before .before .before .before .messages .ensures .is) _ _ _ _ (c .before .before .before .before .before .before .before .before .loop .inv) (c .before .before .before .before .before .before .before .loop-test .taken) _ _ _ (c .before .before .before .before .count-message .ensures)
+loop-again c =
+    let l = c .before .before .before .before .before .before .before .before in
+    let s = l .before .before .before .before .before .before in
+    counting-all-more _ (s .pre .good) _ (l .before .before .messages .ensures .is) _ _ _ _ (l .loop .inv)
+    (c .before .before .before .before .before .before .before .loop-test .taken) _ _ _
+    (c .before .before .before .before .count-message .ensures)
 
 same-length : tie.Need-same-length Inv-loop μ-loop
 same-length c = search needs
@@ -40,7 +49,9 @@ same-length-2 : tie.Need-same-length-2 Inv-loop μ-loop
 same-length-2 c = search needs
 
 returns : tie.Need-returns Inv-loop μ-loop
-returns c = counting-all-done _ (c .before .before .before .before .before .before .before .pre .good) _ (c .before .before .before .messages .ensures .is) _ _ _ _ (c .before .loop .inv) (c .loop-test .left)
+returns c =
+    counting-all-done _ (c .before .before .before .before .before .before .before .pre .good) _
+    (c .before .before .before .messages .ensures .is) _ _ _ _ (c .before .loop .inv) (c .loop-test .left)
 
 pub count-all-spec : {M : Type 1} → statement M
 count-all-spec =

@@ -22,13 +22,34 @@ loop-holds : tie.Need-loop-holds Inv-loop μ-loop
 loop-holds c = counting-none _ _ _ _ _ (c .before .before .before .before .pre) _ (c .place-count .ensures .is)
 
 place-at-requires : tie.Need-place-at-requires Inv-loop μ-loop
-place-at-requires c κs = omega (arith, c .before .loop .inv .small, c .loop-test .taken, c .before .before .place-count .ensures .small, c .before .before .before .before .before .before .pre .near)
+place-at-requires c κs =
+    omega (
+      arith,
+      c .before .loop .inv .small,
+      c .loop-test .taken,
+      c .before .before .place-count .ensures .small,
+      c .before .before .before .before .before .before .pre .near,
+    )
 
 count-requires : tie.Need-count-requires Inv-loop μ-loop
-count-requires c κs = counting-may _ _ _ _ _ (c .before .before .before .before .before .before .before .before .pre) _ _ _ _ _ (c .before .before .before .loop .inv) (c .before .before .loop-test .taken) _ (c .before .place-at .ensures)
+count-requires c κs =
+    counting-may _ _ _ _ _ (c .before .before .before .before .before .before .before .before .pre) _ _ _ _ _
+    (c .before .before .before .loop .inv) (c .before .before .loop-test .taken) _ (c .before .place-at .ensures)
 
 mark-path-requires : tie.Need-mark-path-requires Inv-loop μ-loop
-mark-path-requires c κs = (omega (arith, c .before .before .before .before .before .place-at .ensures .second, c .before .before .before .before .before .before .before .loop .inv .small, c .before .before .before .before .before .before .loop-test .taken, c .before .before .before .before .before .before .before .before .place-count .ensures .small, c .before .before .before .before .before .before .before .before .before .before .before .before .pre .near), second-few _ _ _ (c .before .before .before .before .before .place-at .ensures), c .before .before .before .before .before .before .before .before .before .before .before .before .pre .message, c .before .before .before .before .before .before .before .loop .inv .bytes)
+mark-path-requires c κs = (
+  omega (
+    arith,
+    c .before .before .before .before .before .place-at .ensures .second,
+    c .before .before .before .before .before .before .before .loop .inv .small,
+    c .before .before .before .before .before .before .loop-test .taken,
+    c .before .before .before .before .before .before .before .before .place-count .ensures .small,
+    c .before .before .before .before .before .before .before .before .before .before .before .before .pre .near,
+  ),
+  second-few _ _ _ (c .before .before .before .before .before .place-at .ensures),
+  c .before .before .before .before .before .before .before .before .before .before .before .before .pre .message,
+  c .before .before .before .before .before .before .before .loop .inv .bytes,
+)
 
 add-k : tie.Need-add-k Inv-loop μ-loop
 add-k c = search needs
@@ -37,7 +58,13 @@ loop-less : tie.Need-loop-less Inv-loop μ-loop
 loop-less c = search needs
 
 loop-again : tie.Need-loop-again Inv-loop μ-loop
-loop-again c = counting-more _ _ _ _ _ (c .before .before .before .before .before .before .before .before .before .before .before .before .before .before .before .pre) _ _ _ _ _ (c .before .before .before .before .before .before .before .before .before .before .loop .inv) (c .before .before .before .before .before .before .before .before .before .loop-test .taken) _ (c .before .before .before .before .before .before .before .before .place-at .ensures) _ _ (c .before .before .before .before .before .before .count .ensures) (c .before .before .mark-path .ensures)
+loop-again c =
+    counting-more _ _ _ _ _
+    (c .before .before .before .before .before .before .before .before .before .before .before .before .before .before .before .pre) _ _ _ _ _
+    (c .before .before .before .before .before .before .before .before .before .before .loop .inv)
+    (c .before .before .before .before .before .before .before .before .before .loop-test .taken) _
+    (c .before .before .before .before .before .before .before .before .place-at .ensures) _ _
+    (c .before .before .before .before .before .before .count .ensures) (c .before .before .mark-path .ensures)
 
 same-length : tie.Need-same-length Inv-loop μ-loop
 same-length c = search needs
@@ -46,7 +73,9 @@ same-length-2 : tie.Need-same-length-2 Inv-loop μ-loop
 same-length-2 c = search needs
 
 returns : tie.Need-returns Inv-loop μ-loop
-returns c = counting-done _ _ _ _ _ (c .before .before .before .before .before .before .pre) _ _ _ _ _ (c .before .loop .inv) (c .loop-test .left) (c .before .before .place-count .ensures .small)
+returns c =
+    counting-done _ _ _ _ _ (c .before .before .before .before .before .before .pre) _ _ _ _ _ (c .before .loop .inv) (c .loop-test .left)
+    (c .before .before .place-count .ensures .small)
 
 pub count-message-spec : {M : Type 1} → statement M
 count-message-spec =

@@ -28,7 +28,14 @@ number-requires-2 : tie.Need-number-requires-2 Inv-loop μ-loop
 number-requires-2 c κs = search needs
 
 add-sum-2 : tie.Need-add-sum-2 Inv-loop μ-loop
-add-sum-2 c = omega (arith, c .before .before .before .loop .inv .few, c .before .before .before .loop .inv .most, c .number2 .ensures .small, c .before .before .before .before .before .before .pre .1)
+add-sum-2 c =
+    omega (
+      arith,
+      c .before .before .before .loop .inv .few,
+      c .before .before .before .loop .inv .most,
+      c .number2 .ensures .small,
+      c .before .before .before .before .before .before .pre .1,
+    )
 
 add-k : tie.Need-add-k Inv-loop μ-loop
 add-k c = search needs
@@ -37,7 +44,9 @@ loop-less : tie.Need-loop-less Inv-loop μ-loop
 loop-less c = search needs
 
 loop-again : tie.Need-loop-again Inv-loop μ-loop
-loop-again c = delaying-more _ _ _ _ _ _ (c .before .before .before .loop .inv) _ _ (c .before .before .loop-test .taken) (c .before .number .ensures .is) (c .number2 .ensures .is) (c .number2 .ensures .small)
+loop-again c =
+    delaying-more _ _ _ _ _ _ (c .before .before .before .loop .inv) _ _ (c .before .before .loop-test .taken) (c .before .number .ensures .is)
+    (c .number2 .ensures .is) (c .number2 .ensures .small)
 
 returns : tie.Need-returns Inv-loop μ-loop
 returns c = delaying-done _ _ _ _ _ _ (c .before .loop .inv) (c .loop-test .left)

@@ -14,7 +14,15 @@ slice-aggregate-count-all-2 : tie.Need-slice-aggregate-count-all-2
 slice-aggregate-count-all-2 c = search needs
 
 count-all-requires : tie.Need-count-all-requires
-count-all-requires c κs = record { good = c .before .before .before .before .before .pre .good; numbers = length-replicate {A = ℕ} mostLinks 0; zero = zeros mostLinks; bytes = length-replicate {A = ℕ} secondsSize 0; none = zeros secondsSize }
+count-all-requires c κs =
+    record {
+      good = c .before .before .before .before .before .pre .good;
+      numbers = length-replicate {A = ℕ} mostLinks 0;
+      zero =
+          zeros mostLinks;
+      bytes = length-replicate {A = ℕ} secondsSize 0;
+      none = zeros secondsSize;
+    }
 
 clear-requires : tie.Need-clear-requires
 clear-requires c κs = c .before .before .before .before .before .before .before .before .before .pre .long
@@ -26,7 +34,16 @@ slice-aggregate-strip-all-2 : tie.Need-slice-aggregate-strip-all-2
 slice-aggregate-strip-all-2 c = search needs
 
 strip-all-requires : tie.Need-strip-all-requires
-strip-all-requires c κs = record { good = c .before .before .before .before .before .before .before .before .before .before .before .before .before .before .before .before .pre .good; counted = c .before .before .before .before .before .before .before .before .before .before .count-all .ensures; table = c .before .before .before .before .before .before .clear .ensures; bytes = c .before .before .before .before .before .before .before .before .before .before .before .before .before .before .before .before .pre .bytes; none = c .before .before .before .before .before .before .before .before .before .before .before .before .before .before .before .before .pre .none }
+strip-all-requires c κs =
+    let d = c .before .before .before .before .before .before .before .before .before .before in
+    let s = d .before .before .before .before .before .before in
+    record {
+      good = s .pre .good;
+      counted = d .count-all .ensures;
+      table = c .before .before .before .before .before .before .clear .ensures;
+      bytes = s .pre .bytes;
+      none = s .pre .none;
+    }
 
 same-length : tie.Need-same-length
 same-length c = search needs

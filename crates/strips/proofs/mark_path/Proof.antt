@@ -32,19 +32,24 @@ add-ways : tie.Need-add-ways Inv-loop μ-loop
 add-ways c = omega (arith, c .if1 .taken, c .before .before .before .before .before .before .pre .2)
 
 slice-write-ways : tie.Need-slice-write-ways Inv-loop μ-loop
-slice-write-ways c = omega (arith, c .if1 .taken, c .before .before .before .before .before .before .pre .2, c .before .before .before .loop .inv .long)
+slice-write-ways c =
+    omega (arith, c .if1 .taken, c .before .before .before .before .before .before .pre .2, c .before .before .before .loop .inv .long)
 
 loop-less : tie.Need-loop-less Inv-loop μ-loop
 loop-less c = search needs
 
 loop-again : tie.Need-loop-again Inv-loop μ-loop
-loop-again c = marking-more _ _ _ _ _ _ _ (c .before .before .before .loop .inv) _ _ (c .before .before .loop-test .taken) (c .before .number .ensures .is) (put-one _ _ _ (c .if1 .taken) (c .before .before .before .before .before .before .pre .2) (c .before .before .before .loop .inv .long))
+loop-again c =
+    marking-more _ _ _ _ _ _ _ (c .before .before .before .loop .inv) _ _ (c .before .before .loop-test .taken) (c .before .number .ensures .is)
+    (put-one _ _ _ (c .if1 .taken) (c .before .before .before .before .before .before .pre .2) (c .before .before .before .loop .inv .long))
 
 loop-less-2 : tie.Need-loop-less-2 Inv-loop μ-loop
 loop-less-2 c = search needs
 
 loop-again-2 : tie.Need-loop-again-2 Inv-loop μ-loop
-loop-again-2 c = marking-more _ _ _ _ _ _ _ (c .before .before .before .loop .inv) _ _ (c .before .before .loop-test .taken) (c .before .number .ensures .is) (put-past _ _ _ (c .if1 .left) (c .before .before .before .loop .inv .long))
+loop-again-2 c =
+    marking-more _ _ _ _ _ _ _ (c .before .before .before .loop .inv) _ _ (c .before .before .loop-test .taken) (c .before .number .ensures .is)
+    (put-past _ _ _ (c .if1 .left) (c .before .before .before .loop .inv .long))
 
 same-length : tie.Need-same-length Inv-loop μ-loop
 same-length c = search needs

@@ -34,10 +34,16 @@ shared-slice-read-counts : tie.Need-shared-slice-read-counts Inv-loop μ-loop
 shared-slice-read-counts c = search needs
 
 cast-counts : tie.Need-cast-counts Inv-loop μ-loop
-cast-counts c = omega (arith, c .shared-slice-known .given (c .before .before .before .loop .e * mostMessages + c .before .before .before .before .args .m))
+cast-counts c =
+    omega (arith, c .shared-slice-known .given (c .before .before .before .loop .e * mostMessages + c .before .before .before .before .args .m))
 
 add-counts-2 : tie.Need-add-counts-2 Inv-loop μ-loop
-add-counts-2 c = omega (arith, passing-small _ _ (c .before .before .before .before .pre .2) _ _ (c .before .before .before .loop .inv) (c .before .before .loop-test .taken))
+add-counts-2 c =
+    omega (
+      arith,
+      passing-small _ _ (c .before .before .before .before .pre .2) _ _ (c .before .before .before .loop .inv)
+          (c .before .before .loop-test .taken),
+    )
 
 mul-counts-3 : tie.Need-mul-counts-3 Inv-loop μ-loop
 mul-counts-3 c = search needs
@@ -52,7 +58,9 @@ loop-less : tie.Need-loop-less Inv-loop μ-loop
 loop-less c = search needs
 
 loop-again : tie.Need-loop-again Inv-loop μ-loop
-loop-again c = passing-more _ _ (c .before .before .before .before .pre .2) _ _ (c .before .before .before .loop .inv) _ (c .before .before .loop-test .taken) refl
+loop-again c =
+    passing-more _ _ (c .before .before .before .before .pre .2) _ _ (c .before .before .before .loop .inv) _
+    (c .before .before .loop-test .taken) refl
 
 same-length : tie.Need-same-length Inv-loop μ-loop
 same-length c = search needs

@@ -1,6 +1,5 @@
 -- `strips::strip_all` meets its contract: the messages below message m are done. Assumes nothing.
 use Prim.Native.Nat.{_-_}
-use native.Mathlib.Omega.{arith}
 use borrow.Author.Needs.{needs}
 use Rattle.strips.proofs.Strips.{StrippingAll, stripping-all-none, near, may-strip, may-pass, stripping-all-more, stripping-all-done}
 use Rattle.strips.proofs.strip_all.Statement.{statement}
@@ -19,13 +18,31 @@ message-index-requires : tie.Need-message-index-requires Inv-loop μ-loop
 message-index-requires c κs = search needs
 
 loop-holds : tie.Need-loop-holds Inv-loop μ-loop
-loop-holds c = stripping-all-none _ _ (c .before .before .before .before .before .before .before .pre .good) (c .before .before .before .before .before .before .before .pre .counted .bytes) _ (c .before .messages .ensures .is) _ _ _ _ (c .message-index .ensures) (c .before .before .before .before .before .before .before .pre)
+loop-holds c =
+    stripping-all-none _ _ (c .before .before .before .before .before .before .before .pre .good)
+    (c .before .before .before .before .before .before .before .pre .counted .bytes) _ (c .before .messages .ensures .is) _ _ _ _
+    (c .message-index .ensures) (c .before .before .before .before .before .before .before .pre)
 
 strip-message-requires : tie.Need-strip-message-requires Inv-loop μ-loop
-strip-message-requires c κs = (near _ _ (c .before .before .before .before .before .before .before .before .before .before .before .before .pre .good) (c .before .before .before .before .before .before .before .before .before .before .before .before .pre .counted .bytes) _ (c .before .before .before .before .before .before .messages .ensures .is) _ _ _ _ _ (c .before .before .before .before .loop .inv) (c .before .before .before .loop-test .taken), may-strip _ _ (c .before .before .before .before .before .before .before .before .before .before .before .before .pre .good) (c .before .before .before .before .before .before .before .before .before .before .before .before .pre .counted .bytes) _ (c .before .before .before .before .before .before .messages .ensures .is) _ _ _ _ _ (c .before .before .before .before .loop .inv) (c .before .before .before .loop-test .taken))
+strip-message-requires c κs =
+    let l = c .before .before .before .before in
+    let s = l .before .before .before .before .before .before .before .before in (
+      near _ _ (s .pre .good) (s .pre .counted .bytes) _ (l .before .before .messages .ensures .is) _ _ _ _ _ (l .loop .inv)
+          (c .before .before .before .loop-test .taken),
+      may-strip _ _ (s .pre .good) (s .pre .counted .bytes) _
+          (l .before .before .messages .ensures .is) _ _ _ _ _ (l .loop .inv) (c .before .before .before .loop-test .taken),
+    )
 
 pass-requires : tie.Need-pass-requires Inv-loop μ-loop
-pass-requires c κs = (c .before .before .before .before .before .before .before .before .before .before .before .before .before .before .before .before .before .before .pre .counted .bytes .long, may-strip _ _ (c .before .before .before .before .before .before .before .before .before .before .before .before .before .before .before .before .before .before .pre .good) (c .before .before .before .before .before .before .before .before .before .before .before .before .before .before .before .before .before .before .pre .counted .bytes) _ (c .before .before .before .before .before .before .before .before .before .before .before .before .messages .ensures .is) _ _ _ _ _ (c .before .before .before .before .before .before .before .before .before .before .loop .inv) (c .before .before .before .before .before .before .before .before .before .loop-test .taken) .message, may-pass _ _ (c .before .before .before .before .before .before .before .before .before .before .before .before .before .before .before .before .before .before .pre .good) (c .before .before .before .before .before .before .before .before .before .before .before .before .before .before .before .before .before .before .pre .counted .bytes) _ (c .before .before .before .before .before .before .before .before .before .before .before .before .messages .ensures .is) _ _ _ _ _ (c .before .before .before .before .before .before .before .before .before .before .loop .inv) (c .before .before .before .before .before .before .before .before .before .loop-test .taken))
+pass-requires c κs =
+    let l = c .before .before .before .before .before .before .before .before .before .before in
+    let s = l .before .before .before .before .before .before .before .before in (
+      s .pre .counted .bytes .long,
+      may-strip _ _ (s .pre .good) (s .pre .counted .bytes) _ (l .before .before .messages .ensures .is) _ _ _ _ _
+          (l .loop .inv) (c .before .before .before .before .before .before .before .before .before .loop-test .taken) .message,
+      may-pass _ _ (s .pre .good) (s .pre .counted .bytes) _ (l .before .before .messages .ensures .is) _ _ _ _ _ (l .loop .inv)
+          (c .before .before .before .before .before .before .before .before .before .loop-test .taken),
+    )
 
 add-m : tie.Need-add-m Inv-loop μ-loop
 add-m c = search needs
@@ -34,7 +51,12 @@ loop-less : tie.Need-loop-less Inv-loop μ-loop
 loop-less c = search needs
 
 loop-again : tie.Need-loop-again Inv-loop μ-loop
-loop-again c = stripping-all-more _ _ (c .before .before .before .before .before .before .before .before .before .before .before .before .before .before .before .before .before .before .before .before .before .pre .good) (c .before .before .before .before .before .before .before .before .before .before .before .before .before .before .before .before .before .before .before .before .before .pre .counted .bytes) _ (c .before .before .before .before .before .before .before .before .before .before .before .before .before .before .before .messages .ensures .is) _ _ _ _ _ (c .before .before .before .before .before .before .before .before .before .before .before .before .before .loop .inv) (c .before .before .before .before .before .before .before .before .before .before .before .before .loop-test .taken) _ _ _ _ (c .before .before .before .before .before .before .before .before .strip-message .ensures) (c .before .before .pass .ensures)
+loop-again c =
+    let l = c .before .before .before .before .before .before .before .before .before .before .before .before .before in
+    let s = l .before .before .before .before .before .before .before .before in
+    stripping-all-more _ _ (s .pre .good) (s .pre .counted .bytes) _ (l .before .before .messages .ensures .is) _ _ _ _ _ (l .loop .inv)
+    (c .before .before .before .before .before .before .before .before .before .before .before .before .loop-test .taken) _ _ _ _
+    (c .before .before .before .before .before .before .before .before .strip-message .ensures) (c .before .before .pass .ensures)
 
 same-length : tie.Need-same-length Inv-loop μ-loop
 same-length c = search needs
@@ -46,7 +68,10 @@ same-length-3 : tie.Need-same-length-3 Inv-loop μ-loop
 same-length-3 c = search needs
 
 returns : tie.Need-returns Inv-loop μ-loop
-returns c = stripping-all-done _ _ (c .before .before .before .before .before .before .before .before .before .pre .good) (c .before .before .before .before .before .before .before .before .before .pre .counted .bytes) _ (c .before .before .before .messages .ensures .is) _ _ _ _ _ (c .before .loop .inv) (c .loop-test .left)
+returns c =
+    stripping-all-done _ _ (c .before .before .before .before .before .before .before .before .before .pre .good)
+    (c .before .before .before .before .before .before .before .before .before .pre .counted .bytes) _
+    (c .before .before .before .messages .ensures .is) _ _ _ _ _ (c .before .loop .inv) (c .loop-test .left)
 
 pub strip-all-spec : {M : Type 1} → statement M
 strip-all-spec =

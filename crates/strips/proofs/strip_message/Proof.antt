@@ -22,7 +22,17 @@ loop-holds : tie.Need-loop-holds Inv-loop μ-loop
 loop-holds c = stripping-none _ _ _ _ _ _ (c .before .before .before .before .before .pre .1) _ (c .place-count .ensures .is)
 
 strip-place-requires : tie.Need-strip-place-requires Inv-loop μ-loop
-strip-place-requires c κs = (omega (arith, c .before .before .before .loop .inv .small, c .before .before .loop-test .taken, c .before .before .before .before .place-count .ensures .small, c .before .before .before .before .before .before .before .before .before .pre .0), stripping-may _ _ _ _ _ _ (c .before .before .before .before .before .before .before .before .before .pre .1) _ _ _ _ _ (c .before .before .before .loop .inv) (c .before .before .loop-test .taken))
+strip-place-requires c κs = (
+  omega (
+    arith,
+    c .before .before .before .loop .inv .small,
+    c .before .before .loop-test .taken,
+    c .before .before .before .before .place-count .ensures .small,
+    c .before .before .before .before .before .before .before .before .before .pre .0,
+  ),
+  stripping-may _ _ _ _ _ _ (c .before .before .before .before .before .before .before .before .before .pre .1) _ _ _ _ _
+      (c .before .before .before .loop .inv) (c .before .before .loop-test .taken),
+)
 
 add-k : tie.Need-add-k Inv-loop μ-loop
 add-k c = search needs
@@ -31,7 +41,12 @@ loop-less : tie.Need-loop-less Inv-loop μ-loop
 loop-less c = search needs
 
 loop-again : tie.Need-loop-again Inv-loop μ-loop
-loop-again c = stripping-more _ _ _ _ _ _ (c .before .before .before .before .before .before .before .before .before .before .before .before .before .before .pre .1) _ _ _ _ _ (c .before .before .before .before .before .before .before .before .loop .inv) (c .before .before .before .before .before .before .before .loop-test .taken) _ _ _ (c .before .before .before .before .strip-place .ensures)
+loop-again c =
+    stripping-more _ _ _ _ _ _
+    (c .before .before .before .before .before .before .before .before .before .before .before .before .before .before .pre .1) _ _ _ _ _
+    (c .before .before .before .before .before .before .before .before .loop .inv)
+    (c .before .before .before .before .before .before .before .loop-test .taken) _ _ _
+    (c .before .before .before .before .strip-place .ensures)
 
 same-length : tie.Need-same-length Inv-loop μ-loop
 same-length c = search needs
@@ -40,7 +55,9 @@ same-length-2 : tie.Need-same-length-2 Inv-loop μ-loop
 same-length-2 c = search needs
 
 returns : tie.Need-returns Inv-loop μ-loop
-returns c = stripping-done _ _ _ _ _ _ (c .before .before .before .before .before .before .before .pre .1) _ _ _ _ _ (c .before .loop .inv) (c .loop-test .left) (c .before .before .place-count .ensures .small)
+returns c =
+    stripping-done _ _ _ _ _ _ (c .before .before .before .before .before .before .before .pre .1) _ _ _ _ _ (c .before .loop .inv)
+    (c .loop-test .left) (c .before .before .place-count .ensures .small)
 
 pub strip-message-spec : {M : Type 1} → statement M
 strip-message-spec =

@@ -14,13 +14,25 @@ robust-requires : tie.Need-robust-requires
 robust-requires c κs = search needs
 
 mark-path-requires : tie.Need-mark-path-requires
-mark-path-requires c κs = (omega (arith, c .before .before .before .place-at .ensures .second, c .before .before .before .before .before .before .before .before .pre .0), second-few _ _ _ (c .before .before .before .place-at .ensures), c .before .before .before .before .before .before .before .before .pre .1 .message, c .before .before .before .before .before .before .before .before .pre .1 .bytes)
+mark-path-requires c κs = (
+  omega (
+    arith,
+    c .before .before .before .place-at .ensures .second,
+    c .before .before .before .before .before .before .before .before .pre .0,
+  ),
+  second-few _ _ _ (c .before .before .before .place-at .ensures),
+  c .before .before .before .before .before .before .before .before .pre .1 .message,
+  c .before .before .before .before .before .before .before .before .pre .1 .bytes,
+)
 
 same-length : tie.Need-same-length
 same-length c = search needs
 
 returns : tie.Need-returns
-returns c = place-robust _ _ _ _ _ _ (c .before .before .before .before .before .before .before .before .before .before .before .pre .1) _ (c .before .before .before .before .before .before .place-at .ensures) _ (c .before .before .before .before .before .robust .ensures) (c .before .before .before .before .if1 .taken) _ (c .before .before .mark-path .ensures)
+returns c =
+    place-robust _ _ _ _ _ _ (c .before .before .before .before .before .before .before .before .before .before .before .pre .1) _
+    (c .before .before .before .before .before .before .place-at .ensures) _ (c .before .before .before .before .before .robust .ensures)
+    (c .before .before .before .before .if1 .taken) _ (c .before .before .mark-path .ensures)
 
 add-w : tie.Need-add-w
 add-w c = omega (arith, c .before .before .before .before .before .before .before .pre .1 .message)
@@ -35,7 +47,10 @@ same-length-2 : tie.Need-same-length-2
 same-length-2 c = search needs
 
 returns-2 : tie.Need-returns-2
-returns-2 c = place-fragile _ _ _ _ _ _ (c .before .before .before .before .before .before .before .before .before .before .before .pre .1) _ (c .before .before .before .before .before .before .place-at .ensures) _ (c .before .before .before .before .before .robust .ensures) (c .before .before .before .before .if1 .left) _ refl _ (c .before .before .mark .ensures)
+returns-2 c =
+    place-fragile _ _ _ _ _ _ (c .before .before .before .before .before .before .before .before .before .before .before .pre .1) _
+    (c .before .before .before .before .before .before .place-at .ensures) _ (c .before .before .before .before .before .robust .ensures)
+    (c .before .before .before .before .if1 .left) _ refl _ (c .before .before .mark .ensures)
 
 pub strip-place-spec : {M : Type 1} → statement M
 strip-place-spec =
