@@ -45,7 +45,7 @@ fn weigh_from(table: &[u8], links: &[u16], weights: &mut [u16])
 }
 
 // Of entries alone.
-pub fn weigh(table: &[u8], weights: &mut [u16])
+fn weigh(table: &[u8], weights: &mut [u16])
     requires { ⌜ length (now weights) ≡ tableSize ⌝ }
     ensures { λ _. ⌜ Weighs (now (table .entry)) (now (weights .exit)) ⌝ }
 {
