@@ -1,13 +1,13 @@
 -- Laws of the second path of a message from a place: as a part of the row, and as the plan has it.
 use Prim.Native.Nat.{ℕ, _+_, _-_, _≤_, _<_}
 use mathlib.Core.Path.{_≡_, refl, sym, _∙_, ap}
-use mathlib.Core.Bool.{Bool, true, false}
+use mathlib.Core.Bool.{Bool, true, false, cond}
 use mathlib.Core.List.{List, []}
 use native.Mathlib.Omega.{arith}
 use borrow.Author.Tests.{lt-ltb, le-ltb, ltb-true, ltb-false}
 use lib.ListN.{length, getD, take, drop, List·getD-eq-default}
 use lib.Dec.{ltb}
-use Rattle.scope.specs.Plan.{Place, flagged, secondStart, secondCount, secondAt, placeAt, placeCount, messageAt, messageCount, planOf, pathOf}
+use Rattle.scope.specs.Plan.{Place, numbersAt, flagged, secondStart, secondCount, secondAt, placeAt, placeCount, messageAt, messageCount, planOf, pathOf}
 use Rattle.scope.specs.Spare.{placeOf}
 use Rattle.scope.specs.SecondPath.{messageIndex, placeIndex, hasSecond}
 use Rattle.rows.specs.View.{IsPlace, IsSpan, secondPart, secondIndex, secondEnd}
@@ -41,6 +41,15 @@ module _ (row : List ℕ) (i : ℕ) (r : RowPlace) (here : IsPlace row i r) wher
 
   pub links-next : flagged row i ≡ true → r .next ≡ i + (4 + secondCount row i)
   links-next f = here .next ∙ rw f
+
+  -- and its links, none where there is no second path
+  pub links-are : numbersAt row (r .second) (r .count) ≡ secondAt row i
+  unfolding numbersAt
+  links-are = rw (here .second, here .count) (by (flagged row i))
+    where
+      by : (t : Bool) → numbersAt row (secondStart i) (cond t (secondCount row i) 0) ≡ cond t (numbersAt row (secondStart i) (secondCount row i)) []
+      by true = refl
+      by false = refl
 
 module _ (row : List ℕ) (m p : ℕ) where
   -- there is no such message, no such place; or the flag says whether there is a second path

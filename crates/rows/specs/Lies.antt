@@ -5,7 +5,8 @@ use mathlib.Core.Path.{_≡_}
 use mathlib.Core.Bool.{true}
 use mathlib.Core.List.{List}
 use lib.ListN.{length}
-use Rattle.scope.specs.Plan.{at, flagged, secondStart, secondCount, placeSize, afterPlaces, placeCount, afterMessage, vertexCount, linkCount, messageCount, timeoutOf}
+use Rattle.scope.specs.Plan.{at, slotAt, flagAt, flagged, secondStart, secondCount, placeSize, afterPlaces, placeCount, afterMessage}
+use Rattle.scope.specs.Plan.{vertexCount, linkCount, messageCount, timeoutOf}
 use Rattle.scope.specs.SecondPath.{messageIndex}
 
 -- the second path of the place at index i
@@ -17,8 +18,8 @@ pub record SecondLies (row : List ℕ) (i : ℕ) : Type 0 where
 -- the place at index i
 pub record PlaceLies (row : List ℕ) (i : ℕ) : Type 0 where
   pub link : at row i < 64
-  pub slot : at row (i + 1) < 64
-  pub flag : at row (i + 2) < 2
+  pub slot : slotAt row i < 64
+  pub flag : flagAt row i < 2
   pub second : flagged row i ≡ true → SecondLies row i
   pub lies : i + placeSize row i ≤ length row
 

@@ -4,7 +4,7 @@ use mathlib.Core.Path.{_≡_}
 use mathlib.Core.Bool.{cond}
 use mathlib.Core.List.{List, []}
 use lib.ListN.{take, drop}
-use Rattle.scope.specs.Plan.{at, flagged, secondStart, secondCount, placeSize}
+use Rattle.scope.specs.Plan.{at, slotAt, flagged, secondStart, secondCount, placeSize}
 use Rattle.scope.specs.SecondPath.{placeIndex, hasSecond}
 use Rattle.rows.specs.declared.RowPlace.{RowPlace}
 use Rattle.rows.specs.declared.Span.{Span}
@@ -23,10 +23,11 @@ pub record Is (value most r : ℕ) : Type 0 where
 pub record IsPlace (row : List ℕ) (i : ℕ) (r : RowPlace) : Type 0 where
   pub link : r .link ≡ at row i
   pub link-small : r .link < 65536
-  pub slot : r .slot ≡ at row (i + 1)
+  pub slot : r .slot ≡ slotAt row i
   pub slot-small : r .slot < 65536
   pub second : r .second ≡ secondStart i
   pub count : r .count ≡ cond (flagged row i) (secondCount row i) 0
+  pub few : r .count ≤ 65536
   pub next : r .next ≡ i + placeSize row i
   pub near : r .next ≤ i + 65540
 

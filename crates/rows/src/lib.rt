@@ -8,7 +8,7 @@ ghost use Prim.Native.Nat.{_+_, _-_, _*_, _<_, _≤_, _^_};
 ghost use lib.ListN.{length, take, drop};
 ghost use Rattle.scope.specs.Outcome.{gives};
 ghost use Rattle.scope.specs.Row.{walkRow};
-ghost use Rattle.scope.specs.Plan.{placeSize, afterPlaces, afterMessage, vertexCount, linkCount, messageCount, timeoutOf, placeCount};
+ghost use Rattle.scope.specs.Plan.{slotAt, afterPlaces, afterMessage, vertexCount, linkCount, messageCount, timeoutOf, placeCount};
 ghost use Rattle.scope.specs.SecondPath.{messageIndex, placeIndex};
 ghost use Rattle.rows.specs.View.{Number, Is, IsPlace, IsSpan, PartAt, secondPart, secondIndex, secondEnd};
 
@@ -51,8 +51,16 @@ pub fn place_count(row: &[u16], i: usize) -> usize
     number(row, i) + 1
 }
 
+// The slot of the place at an index, for whoever asks for no more.
+pub fn place_slot(row: &[u16], i: usize) -> usize
+    requires { ⌜ i < 2 ^ 62 ⌝ }
+    ensures { λ r. ⌜ Is (slotAt (now (row .entry)) i) 65535 r ⌝ }
+{
+    number(row, i + 1)
+}
+
 // A place as the row has it: its link and slot, where its second path begins and how many links that has, 0 where there is none, and
-// where the next place stands. What a place's numbers are is known here alone.
+// where the next place stands. What a place's numbers are is known to these two alone.
 pub struct RowPlace {
     pub link: usize,
     pub slot: usize,
@@ -66,7 +74,7 @@ pub fn place_at(row: &[u16], i: usize) -> RowPlace
     ensures { λ r. ⌜ IsPlace (now (row .entry)) i r ⌝ }
 {
     let link = number(row, i);
-    let slot = number(row, i + 1);
+    let slot = place_slot(row, i);
     let second = i + 4;
     if number(row, i + 2) == 1 {
         let count = number(row, i + 3) + 1;
@@ -85,15 +93,6 @@ pub fn place_at(row: &[u16], i: usize) -> RowPlace
         count: 0,
         next: i + 3,
     }
-}
-
-// How many numbers the place at an index takes.
-pub fn place_size(row: &[u16], i: usize) -> usize
-    requires { ⌜ i < 2 ^ 62 ⌝ }
-    ensures { λ r. ⌜ Is (placeSize (now (row .entry)) i) 65540 r ⌝ }
-{
-    let here = place_at(row, i);
-    here.next - i
 }
 
 // The index after so many places.

@@ -52,6 +52,10 @@ longestBits = 58779
 abbrev pub longestEvents : ℕ
 longestEvents = 4096
 
+-- who has tried which link in a slot: how many have, then a link and a message for each
+abbrev pub triesSize : ℕ
+triesSize = 65
+
 -- "k (0 to 3)"
 abbrev pub mostCuts : ℕ
 mostCuts = 3

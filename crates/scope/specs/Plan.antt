@@ -35,9 +35,15 @@ unfoldable pub linksAt : List ℕ → ℕ → ℕ → List Link
 linksAt row i zero = []
 linksAt row i (suc n) = record { from = at row i; to = at row (i + 1) } ∷ linksAt row (i + 2) n
 
--- the flag of the place at index i
+-- the slot and the flag of the place at index i, whose link stands there
+abbrev pub slotAt : List ℕ → ℕ → ℕ
+slotAt row i = at row (i + 1)
+
+abbrev pub flagAt : List ℕ → ℕ → ℕ
+flagAt row i = at row (i + 2)
+
 abbrev pub flagged : List ℕ → ℕ → Bool
-flagged row i = eqb (at row (i + 2)) 1
+flagged row i = eqb (flagAt row i) 1
 
 -- where the links of the second path from the place at index i stand, and how many there are
 abbrev pub secondStart : ℕ → ℕ
@@ -50,7 +56,7 @@ abbrev pub secondAt : List ℕ → ℕ → List ℕ
 secondAt row i = cond (flagged row i) (numbersAt row (secondStart i) (secondCount row i)) []
 
 abbrev pub placeAt : List ℕ → ℕ → Place
-placeAt row i = record { link = at row i; slot = at row (i + 1); second = secondAt row i }
+placeAt row i = record { link = at row i; slot = slotAt row i; second = secondAt row i }
 
 -- how many numbers the place at index i takes
 abbrev pub placeSize : List ℕ → ℕ → ℕ

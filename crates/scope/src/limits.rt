@@ -32,6 +32,9 @@ pub const ROW: usize = 10405;
 
 pub const EVENTS: usize = 2 * SLOTS * MESSAGES;
 
+// Who has tried which link in a slot: how many have, then a link and a message for each.
+pub const TRIES: usize = 2 * MESSAGES + 1;
+
 // The most cuts that a verdict tries, and the numbers of their pairs.
 pub const CUTS: usize = 3;
 

@@ -1,6 +1,6 @@
 -- What each loop of this crate has left to look at, one law for each way that a turn can go.
 use Prim.Native.Nat.{ℕ, zero, suc, _+_, _-_, _≤_, _<_}
-use mathlib.Core.Path.{_≡_, refl, sym, _∙_}
+use mathlib.Core.Path.{_≡_, refl, sym, _∙_, ap}
 use mathlib.Core.Bool.{Bool, true, false, cond, _&&_}
 use mathlib.Core.List.{List, [], _∷_}
 use native.Mathlib.Omega.{arith}
@@ -11,6 +11,9 @@ use Rattle.scope.specs.SecondPath.{messageIndex}
 use Rattle.scope.specs.Good.{has}
 use Rattle.scope.specs.Cycle.{byNumber, orderOf}
 use Rattle.scope.specs.Spare.{entriesOf, entries, hasSecondThrough, lowerThrough, delay}
+use Rattle.rows.specs.View.{IsPlace}
+use Rattle.rows.specs.declared.RowPlace.{RowPlace}
+use Rattle.rows.proofs.Second.{links-are}
 use Rattle.rows.proofs.Parts.{places-all, places-more, places-none}
 
 module _ (row : List ℕ) where
@@ -30,21 +33,8 @@ module _ (row : List ℕ) where
   unfolding messagesAt
   messages-none i n k h = let f : n - k ≡ zero = omega arith in rw f
 
-  -- the second path of the place at an index, from its flag and its count
-  pub second-there : (i x v : ℕ) → x ≡ at row (i + 2) → x ≡ 1 → v ≡ at row (i + 3) → secondAt row i ≡ numbersAt row (i + 4) (v + 1)
-  second-there i x v flag one count =
-      let f : at row (i + 2) ≡ 1 = omega arith in
-      rw (eq-eqb (at row (i + 2)) 1 f, count)
-
-  pub second-none : (i x : ℕ) → x ≡ at row (i + 2) → (x ≡ 1 → ⊥) → secondAt row i ≡ []
-  second-none i x flag other = rw (ne-eqb (at row (i + 2)) 1 (λ f. other (omega arith)))
-
   module _ (e : ℕ) where
     -- link e among numbers
-    pub has-in-none : has e [] ≡ false
-    unfolding has
-    has-in-none = refl
-
     pub has-all : (i n : ℕ) → has e (numbersAt row (i + 0) (n - 0)) ≡ has e (numbersAt row i n)
     has-all i n = let a : i + 0 ≡ i = omega arith in let b : n - 0 ≡ n = omega arith in rw (a, b)
 
@@ -67,14 +57,27 @@ module _ (row : List ℕ) where
     pub through-all : (i n : ℕ) → hasSecondThrough e (placesAt row i (n - 0)) ≡ hasSecondThrough e (placesAt row i n)
     through-all i n = rw (places-all row i n)
 
-    pub through-here : (i n k : ℕ) → k < n → has e (secondAt row i) ≡ true → hasSecondThrough e (placesAt row i (n - k)) ≡ true
-    unfolding hasSecondThrough
-    through-here i n k h t = rw (places-more row i n k h, t)
+    module _ (i n k : ℕ) (h : k < n) (here : RowPlace) (is : IsPlace row i here) where
+      second : {b : Bool} → has e (numbersAt row (here .second) (here .count)) ≡ b → has e (secondAt row i) ≡ b
+      second t = sym (ap (has e) (links-are row i here is)) ∙ t
 
-    pub through-on : (i n k s : ℕ) → k < n → has e (secondAt row i) ≡ false → s ≡ placeSize row i →
-        hasSecondThrough e (placesAt row (i + s) (n - (k + 1))) ≡ hasSecondThrough e (placesAt row i (n - k))
-    unfolding hasSecondThrough
-    through-on i n k s h t is = rw (places-more row i n k h, t, is)
+      pub through-here : has e (numbersAt row (here .second) (here .count)) ≡ true → hasSecondThrough e (placesAt row i (n - k)) ≡ true
+      unfolding hasSecondThrough
+      through-here t = rw (places-more row i n k h, second t)
+
+      pub through-on : has e (numbersAt row (here .second) (here .count)) ≡ false →
+          hasSecondThrough e (placesAt row (here .next) (n - (k + 1))) ≡ hasSecondThrough e (placesAt row i (n - k))
+      unfolding hasSecondThrough
+      through-on t = rw (places-more row i n k h, second t, is .next)
+
+      -- entries on link e among places, one more
+      pub entries-of-on : (v sum all : ℕ) → v ≡ cond (eqb (here .link) e) 1 0 → sum + entriesOf e (placesAt row i (n - k)) ≡ all →
+          sum + v + entriesOf e (placesAt row (here .next) (n - (k + 1))) ≡ all
+      unfolding entriesOf
+      entries-of-on v sum all f inv =
+          let rest = entriesOf e (placesAt row (i + placeSize row i) (n - (k + 1))) in
+          let now : sum + (cond (eqb (at row i) e) 1 0 + rest) ≡ all = rw (places-more row i n k h) at inv in
+          rw (f, is .link, is .next) (omega arith)
 
     pub through-none : (i n k : ℕ) → n ≤ k → hasSecondThrough e (placesAt row i (n - k)) ≡ false
     unfolding hasSecondThrough
@@ -88,13 +91,6 @@ module _ (row : List ℕ) where
     -- entries on link e among places
     pub entries-of-all : (i n : ℕ) → 0 + entriesOf e (placesAt row i (n - 0)) ≡ entriesOf e (placesAt row i n)
     entries-of-all i n = rw (places-all row i n) (omega arith)
-
-    pub entries-of-on : (i n k v s sum all : ℕ) → k < n → v ≡ cond (eqb (at row i) e) 1 0 → s ≡ placeSize row i →
-        sum + entriesOf e (placesAt row i (n - k)) ≡ all → sum + v + entriesOf e (placesAt row (i + s) (n - (k + 1))) ≡ all
-    unfolding entriesOf
-    entries-of-on i n k v s sum all h is size inv =
-        let now : sum + (cond (eqb (at row i) e) 1 0 + entriesOf e (placesAt row (i + placeSize row i) (n - (k + 1)))) ≡ all = rw (places-more row i n k h) at inv in
-        rw (is, size) (omega arith)
 
     pub entries-of-none : (i n k sum all : ℕ) → n ≤ k → sum + entriesOf e (placesAt row i (n - k)) ≡ all → sum ≡ all
     unfolding entriesOf
@@ -113,7 +109,8 @@ module _ (row : List ℕ) where
         sum + entries e (messagesAt row i (n - k)) ≡ all → sum + v + entries e (messagesAt row j (n - (k + 1))) ≡ all
     unfolding entries
     entries-on i n k v j sum all h is next inv =
-        let now : sum + (entriesOf e (messageAt row i) + entries e (messagesAt row (afterMessage row i) (n - (k + 1)))) ≡ all = rw (messages-more i n k h) at inv in
+        let rest = entries e (messagesAt row (afterMessage row i) (n - (k + 1))) in
+        let now : sum + (entriesOf e (messageAt row i) + rest) ≡ all = rw (messages-more i n k h) at inv in
         rw (is, next) (omega arith)
 
     pub entries-none : (i n k sum all : ℕ) → n ≤ k → sum + entries e (messagesAt row i (n - k)) ≡ all → sum ≡ all
@@ -135,10 +132,10 @@ module _ (row : List ℕ) where
         sum + v + lowerThrough byNumber m e (j + 1) (messagesAt row a (messageCount row - (j + 1))) ≡ all
     unfolding lowerThrough
     lower-on m i j v a sum all h le is next inv =
-        let now : sum + (cond (ltb j m && hasSecondThrough e (messageAt row i)) 1 0 + lowerThrough byNumber m e (j + 1) (messagesAt row (afterMessage row i) (messageCount row - (j + 1)))) ≡ all =
+        let rest = lowerThrough byNumber m e (j + 1) (messagesAt row (afterMessage row i) (messageCount row - (j + 1))) in
+        let now : sum + (cond (ltb j m && hasSecondThrough e (messageAt row i)) 1 0 + rest) ≡ all =
         rw (messages-more i (messageCount row) j (omega arith)) at inv in
-        let one : sum + (cond (hasSecondThrough e (messageAt row i)) 1 0 + lowerThrough byNumber m e (j + 1) (messagesAt row (afterMessage row i) (messageCount row - (j + 1)))) ≡ all =
-        rw (lt-ltb j m h) at now in
+        let one : sum + (cond (hasSecondThrough e (messageAt row i)) 1 0 + rest) ≡ all = rw (lt-ltb j m h) at now in
         rw (is, next) (omega arith)
 
     -- messages from m on are not lower than m

@@ -48,9 +48,6 @@ module _ (row : List ℕ) (m p : ℕ) where
       ap (λ q. noSecond (q .second)) (place-is g h) ∙ none-there
 
   -- what is there
-  pub slot-is : There row m p → placeOf (planOf row) m p .slot ≡ at row (placeIndex row m p + 1)
-  slot-is t = ap (λ q. q .slot) (place-is (t .message) (t .place))
-
   pub second-is : There row m p →
       placeOf (planOf row) m p .second ≡ numbersAt row (secondStart (placeIndex row m p)) (secondCount row (placeIndex row m p))
   second-is t =

@@ -2,27 +2,29 @@
 use Prim.Native.Nat.{ℕ, _+_, _≤_, _<_, _^_}
 use native.Mathlib.Omega.{arith}
 use mathlib.Core.Path.{_≡_, sym, _∙_, ap, ap₂}
-use mathlib.Core.Bool.{true, false}
+use mathlib.Core.Bool.{Bool, true, false}
 use mathlib.Core.List.{List}
 use lib.ListN.{length}
 use lib.IntN.{ℤ, subℕ}
 use mir.Syntax.{w32}
 use mir.Val.{toZ, ofZ}
-use borrow.Author.Tests.{eq-eqb, ne-eqb}
 use Rattle.scope.specs.declared.Refusal.{Refusal}
 use Rattle.scope.proofs.Outcomes.{not-both}
 use Rattle.scope.specs.Outcome.{Outcome, gives, refused, refusalAt, refuse}
-use Rattle.scope.specs.Plan.{at, numbersAt, secondStart, secondCount, afterPlaces, placeCount, messageCount, timeoutOf, planOf}
+use Rattle.scope.specs.Plan.{numbersAt, flagged, secondAt, afterPlaces, placeCount, messageCount, timeoutOf, planOf}
 use Rattle.scope.specs.SecondPath.{messageIndex, placeIndex}
 use Rattle.scope.specs.Cycle.{orderOf}
 use Rattle.scope.specs.Spare.{delay, placeOf, noSecond}
 use Rattle.scope.specs.Questions.{judge, maySpare, slack}
+use Rattle.rows.specs.View.{IsPlace}
+use Rattle.rows.specs.declared.RowPlace.{RowPlace}
 use Rattle.rows.proofs.Parts.{timeout-is}
+use Rattle.rows.proofs.Second.{no-links, some-links, links-are}
 use Rattle.plan.specs.Answers.{GoodRow}
 use Rattle.spare.specs.declared.Spare.{Spare}
 use Rattle.spare.specs.declared.Spare.the-variants.{Slots, Refused}
 use Rattle.spare.specs.Slack.{Slacks, said, value, unlessRefused}
-use Rattle.spare.proofs.There.{There, no-message, no-place, no-second, has-second, slot-is, second-is}
+use Rattle.spare.proofs.There.{There, no-message, no-place, no-second, has-second, place-is}
 use Rattle.spare.proofs.Signed.{sub-back}
 use Rattle.spare.proofs.Bounds.{small}
 
@@ -82,26 +84,33 @@ module _ (row : List ℕ) (m p : ℕ) where
       pub out-place : (r : Refusal) → k ≤ p → r ≡ refusalAt 11 0 → Slacks row m p (Refused r)
       out-place r h is = no-slack r is (no-place row m p message (omega (arith, many)))
 
-      -- place p stands at index a and has the flag x
-      module _ (a x : ℕ) (below : p < k) (stands : a ≡ afterPlaces row (i + 1) p) (flag : x ≡ at row (a + 2)) where
+      -- place p stands at index a
+      module _ (a : ℕ) (spot : RowPlace) (below : p < k) (stands : a ≡ afterPlaces row (i + 1) p) (is-spot : IsPlace row a spot) where
         place : p < placeCount row (messageIndex row m)
         place = omega (arith, many)
 
-        flag-at : x ≡ at row (placeIndex row m p + 2)
-        flag-at = flag ∙ ap (λ (j : ℕ). at row (j + 2)) (place-at index stands)
+        flag : {b : Bool} → flagged row a ≡ b → flagged row (placeIndex row m p) ≡ b
+        flag e = ap (flagged row) (sym (place-at index stands)) ∙ e
 
-        pub out-second : (r : Refusal) → (x ≡ 1 → ⊥) → r ≡ refusalAt 11 0 → Slacks row m p (Refused r)
-        out-second r other is =
-            no-slack r is (no-second row m p message place (ne-eqb (at row (placeIndex row m p + 2)) 1 (λ same. other (flag-at ∙ same))))
+        pub out-second : (r : Refusal) → spot .count ≡ 0 → r ≡ refusalAt 11 0 → Slacks row m p (Refused r)
+        out-second r none is = no-slack r is (no-second row m p message place (flag (no-links row a spot is-spot none)))
 
-        pub found : x ≡ 1 → There row m p
-        found one = record { message = message; place = place; second = eq-eqb (at row (placeIndex row m p + 2)) 1 (sym flag-at ∙ one) }
+        pub found : (spot .count ≡ 0 → ⊥) → There row m p
+        found some = record { message = message; place = place; second = flag (some-links row a spot is-spot some) }
 
-    -- a second path is there, at index a, and of the timeout t so much is used
-    module _ (there : There row m p) (a t u : ℕ) (stands : a ≡ placeIndex row m p) (time : t ≡ timeoutOf row)
-        (uses : u ≡ at row (a + 1) + delay (orderOf (planOf row)) (planOf row .messages) m (numbersAt row (secondStart a) (secondCount row a))) where
-      used-is : u ≡ placeOf (planOf row) m p .slot + delay (orderOf (planOf row)) (planOf row .messages) m (placeOf (planOf row) m p .second)
-      used-is = rw (slot-is row m p there, second-is row m p there, ← stands) uses
+    abbrev D : List ℕ → ℕ
+    D es = delay (orderOf (planOf row)) (planOf row .messages) m es
+
+    -- a second path is there, at index a, and d of the timeout t is its delay
+    module _ (there : There row m p) (a t d : ℕ) (spot : RowPlace) (stands : a ≡ placeIndex row m p) (is-spot : IsPlace row a spot)
+        (time : t ≡ timeoutOf row) (waits : d ≡ D (numbersAt row (spot .second) (spot .count))) where
+      abbrev u : ℕ
+      u = spot .slot + d
+
+      used-is : u ≡ placeOf (planOf row) m p .slot + D (placeOf (planOf row) m p .second)
+      used-is =
+          let e : d ≡ D (secondAt row a) = waits ∙ ap D (links-are row a spot is-spot) in
+          rw (place-is row m p (there .message) (there .place), ← stands, is-spot .slot, e)
 
       pub fits : (t < 2 ^ 30) × (u < 2 ^ 30)
       fits =

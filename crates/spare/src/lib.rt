@@ -9,7 +9,7 @@ ghost use Prim.Native.Nat.{_+_, _*_, _<_, _≤_, _^_};
 ghost use mathlib.Core.Bool.{cond};
 ghost use lib.Dec.{eqb};
 ghost use lib.IntN.{subℕ};
-ghost use Rattle.scope.specs.Plan.{at, numbersAt, placesAt, secondAt, secondStart, secondCount, messageAt, messageCount, planOf};
+ghost use Rattle.scope.specs.Plan.{numbersAt, placesAt, messageAt, messageCount, planOf};
 ghost use Rattle.scope.specs.Good.{has};
 ghost use Rattle.scope.specs.Cycle.{orderOf};
 ghost use Rattle.scope.specs.Spare.{entriesOf, entries, hasSecondThrough, lowerThrough, delay};
@@ -38,18 +38,6 @@ fn has(row: &[u16], e: usize, i: usize, n: usize) -> bool
     false
 }
 
-// Whether the place at an index has a second path through link e.
-fn place_through(row: &[u16], e: usize, i: usize) -> bool
-    requires { ⌜ i < 2 ^ 61 ⌝ }
-    ensures { λ r. ⌜ r ≡ has e (secondAt (now (row .entry)) i) ⌝ }
-{
-    if rows::number(row, i + 2) == 1 {
-        has(row, e, i + 4, rows::number(row, i + 3) + 1)
-    } else {
-        false
-    }
-}
-
 // Whether one of so many places from an index on has a second path through link e.
 fn through(row: &[u16], e: usize, i: usize, n: usize) -> bool
     requires { ⌜ (i < 2 ^ 60) × (n ≤ 65536) ⌝ }
@@ -58,20 +46,21 @@ fn through(row: &[u16], e: usize, i: usize, n: usize) -> bool
     let mut at = i;
     let mut k = 0;
     while k < n {
-        if place_through(row, e, at) {
+        let here = rows::place_at(row, at);
+        if has(row, e, here.second, here.count) {
             return true;
         }
-        at = at + rows::place_size(row, at);
+        at = here.next;
         k += 1;
     }
     false
 }
 
-// 1 if the place at an index is on link e, 0 if it is not.
-fn on_link(row: &[u16], e: usize, i: usize) -> usize
-    ensures { λ r. ⌜ Is (cond (eqb (at (now (row .entry)) i) e) 1 0) 1 r ⌝ }
+// 1 if a link is link e, 0 if it is not.
+fn on_link(link: usize, e: usize) -> usize
+    ensures { λ r. ⌜ Is (cond (eqb link e) 1 0) 1 r ⌝ }
 {
-    if rows::number(row, i) == e { 1 } else { 0 }
+    if link == e { 1 } else { 0 }
 }
 
 // How many of so many places from an index on are on link e.
@@ -83,8 +72,9 @@ fn entries_of(row: &[u16], e: usize, i: usize, n: usize) -> usize
     let mut at = i;
     let mut k = 0;
     while k < n {
-        sum = sum + on_link(row, e, at);
-        at = at + rows::place_size(row, at);
+        let here = rows::place_at(row, at);
+        sum = sum + on_link(here.link, e);
+        at = here.next;
         k += 1;
     }
     sum
@@ -137,7 +127,9 @@ fn lower_through(row: &[u16], m: usize, e: usize) -> usize
 // D: the sum, over the links of a second path at an index, of 1 + a(e) + b(m, e).
 fn delay(row: &[u16], m: usize, i: usize, n: usize) -> usize
     requires { ⌜ (i < 2 ^ 60) × ((n ≤ 65536) × (m ≤ messageCount (now row))) ⌝ }
-    ensures { λ r. ⌜ Is (delay (orderOf (planOf (now (row .entry)))) (planOf (now (row .entry)) .messages) m (numbersAt (now (row .entry)) i n)) (n * 4295032833) r ⌝ }
+    ensures { λ r.
+        ⌜ Is (delay (orderOf (planOf (now (row .entry)))) (planOf (now (row .entry)) .messages) m (numbersAt (now (row .entry)) i n))
+        (n * 4295032833) r ⌝ }
 {
     let mut sum: usize = 0;
     let mut k = 0;
@@ -157,14 +149,6 @@ fn less(t: usize, used: usize) -> i32
     (t as i32) - (used as i32)
 }
 
-// The slot of the place at an index, and D of its second path for message m: what of the timeout is used.
-fn used(row: &[u16], m: usize, i: usize) -> usize
-    requires { ⌜ (i < 2 ^ 59) × (m ≤ messageCount (now row)) ⌝ }
-    ensures { λ r. ⌜ r ≡ at (now (row .entry)) (i + 1) + delay (orderOf (planOf (now (row .entry)))) (planOf (now (row .entry)) .messages) m (numbersAt (now (row .entry)) (secondStart i) (secondCount (now (row .entry)) i)) ⌝ }
-{
-    rows::number(row, i + 1) + delay(row, m, i + 4, rows::number(row, i + 3) + 1)
-}
-
 // The slack of the second path of message m from place p, of a row that is known to be good.
 pub fn slack_of_good(row: &[u16], m: usize, p: usize) -> Spare
     requires { ⌜ GoodRow (now row) ⌝ }
@@ -178,10 +162,12 @@ pub fn slack_of_good(row: &[u16], m: usize, p: usize) -> Spare
         return Spare::Refused(refusal_at(11, 0));
     }
     let at = rows::after_places(row, i + 1, p);
-    if rows::number(row, at + 2) != 1 {
+    let here = rows::place_at(row, at);
+    if here.count == 0 {
         return Spare::Refused(refusal_at(11, 0));
     }
-    Spare::Slots(less(rows::timeout(row), used(row, m, at)))
+    let used = here.slot + delay(row, m, here.second, here.count);
+    Spare::Slots(less(rows::timeout(row), used))
 }
 
 // The slack of the second path of message m from place p: timeout less slot less D, or refusal 1 to 10, 11.

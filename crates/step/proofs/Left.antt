@@ -4,7 +4,6 @@ use mathlib.Core.Path.{_≡_, ap}
 use mathlib.Core.Bool.{Bool, true, false, cond}
 use mathlib.Core.List.{List, [], _∷_}
 use native.Mathlib.Omega.{arith}
-use borrow.Author.Tests.{eq-eqb}
 use Rattle.scope.specs.Plan.{at, numbersAt, flagged, placeAt, placeSize, placesAt, afterPlaces, secondCount}
 
 module _ (row : List ℕ) where
@@ -49,6 +48,3 @@ module _ (row : List ℕ) where
 
   pub after-size : (i n : ℕ) → 0 < n → i + placeSize row i + (n - 1) ≤ afterPlaces row i n
   after-size i n h = rw (after-next i n h) (after-least (i + placeSize row i) (n - 1))
-
-  pub size-second : (i : ℕ) → at row (i + 2) ≡ 1 → placeSize row i ≡ 5 + at row (i + 3)
-  size-second i h = rw (eq-eqb (at row (i + 2)) 1 h) (omega arith)

@@ -11,3 +11,4 @@ pub mod Passing
 pub mod Telling
 pub mod Moving
 pub mod Again
+pub mod Walking

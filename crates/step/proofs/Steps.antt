@@ -6,9 +6,13 @@ use mathlib.Core.List.{List}
 use native.Mathlib.Omega.{arith}
 use lib.Dec.{eqb}
 use borrow.Author.Tests.{eq-eqb, ne-eqb, lt-ltb, le-ltb, eqb-true, eqb-false}
-use Rattle.scope.specs.Plan.{at, numbersAt, placesAt, placeAt, placeSize}
-use Rattle.scope.specs.Slot.{Position, onFirst, onSecond, moved, atTarget, turn, tries, onFirstPath, onSecondPath, act}
-use Rattle.step.specs.Where.{leftAt, endAt}
+use Rattle.scope.specs.Plan.{at, slotAt, placesAt}
+use Rattle.scope.specs.Slot as S
+use Rattle.scope.specs.Slot.{moved, atTarget, turn, tries, act}
+use Rattle.rows.specs.View.{IsPlace}
+use Rattle.rows.specs.declared.RowPlace.{RowPlace}
+use Rattle.step.specs.declared.Position.{Position}
+use Rattle.step.specs.Where.{leftAt, positionOf, endAt, endOf, placesAfter, linksAfter, doesFirst, doesSecond}
 use Rattle.step.proofs.Left.{numbers-none, numbers-next, places-none, places-next, after-next, after-size}
 
 some : (n : ℕ) → (n ≡ 0 → ⊥) → 0 < n
@@ -30,59 +34,6 @@ module _ (row : List ℕ) (i n : ℕ) where
       by b true e = yes b (eqb-true n 0 e)
       by b false e = no b (eqb-false n 0 e)
 
-  -- on the first path
-  module _ (b : Bool) (f : b ≡ false) (l : 0 < n) where
-    pub past-within : (s : ℕ) → s ≡ placeSize row i → endAt row false (i + s) (n - 1) ≤ endAt row b i n
-    past-within s e = rw (f, e, after-next row i n l) (omega arith)
-
-    pub past-fits : (s : ℕ) → s ≡ placeSize row i → i + s + (n - 1) ≤ endAt row b i n
-    past-fits s e = rw (f, e) (after-size row i n l)
-
-    module _ (slot e : ℕ) (p : e ≡ at row i) (d : Bool) where
-      pub first-stays : d ≡ true → moved (leftAt row b i n) 6 e ≡ onFirstPath d slot (placeAt row i) (placesAt row (i + placeSize row i) (n - 1))
-      first-stays h = rw (f, places-next row i n l, h, p)
-
-      pub first-waits : d ≡ false → (s : ℕ) → s ≡ at row (i + 1) → (s ≡ slot → ⊥) →
-          moved (leftAt row b i n) 1 e ≡ onFirstPath d slot (placeAt row i) (placesAt row (i + placeSize row i) (n - 1))
-      first-waits h s q z = rw (f, places-next row i n l, h, p, ne-eqb (at row (i + 1)) slot (λ y. z (q ∙ y)))
-
-      pub first-crosses : d ≡ false → (s : ℕ) → s ≡ at row (i + 1) → s ≡ slot → (next : Position) →
-          next ≡ onFirst (placesAt row (i + placeSize row i) (n - 1)) →
-          moved next 2 e ≡ onFirstPath d slot (placeAt row i) (placesAt row (i + placeSize row i) (n - 1))
-      first-crosses h s q z next g = rw (h, p, g, eq-eqb (at row (i + 1)) slot (sym q ∙ z))
-
-  -- on the second path
-  module _ (b : Bool) (f : b ≡ true) (l : 0 < n) where
-    pub second-within : endAt row true (i + 1) (n - 1) ≤ endAt row b i n
-    second-within = rw f (omega arith)
-
-    module _ (entry first m e : ℕ) (p : e ≡ at row i) (d : Bool) where
-      pub second-stays : d ≡ true → moved (leftAt row b i n) 7 e ≡ onSecondPath d entry (not (eqb first m)) first (at row i) (numbersAt row (i + 1) (n - 1))
-      second-stays h = rw (f, numbers-next row i n l, h, p)
-
-      pub second-table : d ≡ false → 0 < entry →
-          moved (leftAt row b i n) 4 (entry - 1) ≡ onSecondPath d entry (not (eqb first m)) first (at row i) (numbersAt row (i + 1) (n - 1))
-      second-table h g = rw (f, numbers-next row i n l, h, lt-ltb 0 entry g)
-
-      pub second-held : d ≡ false → entry ≤ 0 → (first ≡ m → ⊥) →
-          moved (leftAt row b i n) 5 first ≡ onSecondPath d entry (not (eqb first m)) first (at row i) (numbersAt row (i + 1) (n - 1))
-      second-held h g k = rw (f, numbers-next row i n l, h, le-ltb 0 entry g, ne-eqb first m k)
-
-      pub second-crosses : d ≡ false → entry ≤ 0 → first ≡ m →
-          moved (onSecond (numbersAt row (i + 1) (n - 1))) 3 e ≡ onSecondPath d entry (not (eqb first m)) first (at row i) (numbersAt row (i + 1) (n - 1))
-      second-crosses h g k = rw (h, le-ltb 0 entry g, eq-eqb first m k, p)
-
-  -- what it does, by where it stands
-  module _ (down : ℕ → Bool) (slot entry : ℕ) (held : Bool) (first : ℕ) where
-    module _ (b : Bool) (l : n ≡ 0 → ⊥) (e : ℕ) (p : e ≡ at row i) (d : Bool) (q : d ≡ down e) where
-      pub act-first : b ≡ false →
-          onFirstPath d slot (placeAt row i) (placesAt row (i + placeSize row i) (n - 1)) ≡ act down slot entry held first (leftAt row b i n)
-      act-first f = rw (f, places-next row i n (some n l), q, p)
-
-      pub act-second : b ≡ true →
-          onSecondPath d entry held first (at row i) (numbersAt row (i + 1) (n - 1)) ≡ act down slot entry held first (leftAt row b i n)
-      act-second f = rw (f, numbers-next row i n (some n l), q, p)
-
   -- at its target: it turns, tries and does nothing
   module _ (b : Bool) (h : n ≡ 0) (down : ℕ → Bool) where
     pub home-tries : 0 ≡ tries down (turn down (leftAt row b i n))
@@ -98,3 +49,59 @@ module _ (row : List ℕ) (i n : ℕ) where
         by : (b : Bool) → moved (leftAt row b i n) 0 0 ≡ act down slot entry held first (turn down (leftAt row b i n))
         by true = rw (numbers-none row i n h)
         by false = rw (places-none row i n h)
+
+module _ (row : List ℕ) (p : Position) (l : 0 < p .left) where
+  -- on the first path
+  module _ (f : p .turned ≡ false) where
+    module _ (here : RowPlace) (is : IsPlace row (p .at) here) where
+      pub past-is : S.onFirst (placesAt row (here .next) (p .left - 1)) ≡ S.onFirst (placesAfter row p)
+      past-is = rw (is .next)
+
+      pub past-within : endAt row false (here .next) (p .left - 1) ≤ endOf row p
+      past-within = rw (f, is .next, after-next row (p .at) (p .left) l) (omega arith)
+
+      pub past-fits : here .next + (p .left - 1) ≤ endOf row p
+      past-fits = rw (f, is .next) (after-size row (p .at) (p .left) l)
+
+    module _ (slot e : ℕ) (q : e ≡ at row (p .at)) (d : Bool) where
+      pub first-stays : d ≡ true → S.moved (positionOf row p) 6 e ≡ doesFirst row p d slot
+      first-stays h = rw (f, places-next row (p .at) (p .left) l, h, q)
+
+      module _ (h : d ≡ false) (s : ℕ) (g : s ≡ slotAt row (p .at)) where
+        pub first-waits : (s ≡ slot → ⊥) → S.moved (positionOf row p) 1 e ≡ doesFirst row p d slot
+        first-waits z = rw (f, places-next row (p .at) (p .left) l, h, q, ne-eqb (slotAt row (p .at)) slot (λ y. z (g ∙ y)))
+
+        pub first-crosses : s ≡ slot → (next : S.Position) → next ≡ S.onFirst (placesAfter row p) → S.moved next 2 e ≡ doesFirst row p d slot
+        first-crosses z next n = rw (h, q, n, eq-eqb (slotAt row (p .at)) slot (sym g ∙ z))
+
+  -- on the second path
+  module _ (f : p .turned ≡ true) where
+    pub second-within : endAt row true (p .at + 1) (p .left - 1) ≤ endOf row p
+    second-within = rw f (omega arith)
+
+    module _ (entry first m e : ℕ) (q : e ≡ at row (p .at)) (d : Bool) where
+      abbrev Does : S.Moved → Type 0
+      Does r = r ≡ doesSecond row p d entry (not (eqb first m)) first
+
+      pub second-stays : d ≡ true → Does (S.moved (positionOf row p) 7 e)
+      second-stays h = rw (f, numbers-next row (p .at) (p .left) l, h, q)
+
+      pub second-table : d ≡ false → 0 < entry → Does (S.moved (positionOf row p) 4 (entry - 1))
+      second-table h g = rw (f, numbers-next row (p .at) (p .left) l, h, lt-ltb 0 entry g)
+
+      pub second-held : d ≡ false → entry ≤ 0 → (first ≡ m → ⊥) → Does (S.moved (positionOf row p) 5 first)
+      second-held h g k = rw (f, numbers-next row (p .at) (p .left) l, h, le-ltb 0 entry g, ne-eqb first m k)
+
+      pub second-crosses : d ≡ false → entry ≤ 0 → first ≡ m → Does (S.moved (S.onSecond (linksAfter row p)) 3 e)
+      second-crosses h g k = rw (h, le-ltb 0 entry g, eq-eqb first m k, q)
+
+  -- what it does, by where it stands
+  module _ (down : ℕ → Bool) (slot entry : ℕ) (held : Bool) (first : ℕ) (e : ℕ) (q : e ≡ at row (p .at)) (d : Bool) (c : d ≡ down e) where
+    abbrev Is : S.Moved → Type 0
+    Is does = does ≡ S.act down slot entry held first (positionOf row p)
+
+    pub act-first : p .turned ≡ false → Is (doesFirst row p d slot)
+    act-first f = rw (f, places-next row (p .at) (p .left) l, c, q)
+
+    pub act-second : p .turned ≡ true → Is (doesSecond row p d entry held first)
+    act-second f = rw (f, numbers-next row (p .at) (p .left) l, c, q)

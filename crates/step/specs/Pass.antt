@@ -7,7 +7,7 @@ use mathlib.Core.List.{List, [], _∷_}
 use lib.ListN.{length, getD, drop, set}
 use lib.Dec.{ltb, eqb}
 use Rattle.scope.specs.Lowest.{lowest}
-use Rattle.scope.specs.Limits.{mostMessages}
+use Rattle.scope.specs.Limits.{mostMessages, triesSize}
 use Rattle.scope.specs.Plan.{planOf}
 use Rattle.scope.specs.Slot as S
 use Rattle.scope.specs.Cycle.{orderOf, slot, nexts}
@@ -40,7 +40,7 @@ noted tried e m = set (set (set tried (2 * triers tried + 1) e) (2 * triers trie
 -- there is room to note message m and those after it, and whoever has been noted is lower
 pub record Noting (tried : List ℕ) (m : ℕ) : Type 0 where
   pub low : m < mostMessages
-  pub room : 65 ≤ length tried
+  pub room : triesSize ≤ length tried
   pub few : triers tried ≤ m
   pub below : (j : ℕ) → j < triers tried → triedBy tried j < m
 
@@ -86,7 +86,7 @@ pub record MayMoveAll (row : List ℕ) (ps : List Position) (n i : ℕ) (tried :
   pub stand : Stand row n ps
   pub long : n ≤ length ps
   pub early : i < 65536
-  pub room : 65 ≤ length tried
+  pub room : triesSize ≤ length tried
   pub none : triers tried ≡ 0
 
 -- they have moved: the first n records are the next positions of the slot, the records past them are as they were, and the list has who

@@ -10,6 +10,7 @@ use Rattle.scope.specs.Slot as S
 use Rattle.scope.specs.Cycle.{orderOf, slot}
 use Rattle.table.specs.Table.{entryAt}
 use Rattle.cuts.specs.Down.{isDown}
+use Rattle.step.specs.declared.Position.{Position}
 use Rattle.step.specs.declared.Standing.{Standing}
 use Rattle.step.specs.Stand.{positionsOf, Stand, Moves}
 
@@ -21,6 +22,10 @@ downNow down i = isDown down
 abbrev pub inSlot : List ℕ → List ℕ → List ℕ → ℕ → List S.Position → List S.Moved
 inSlot row table down i ps = slot (orderOf (planOf row)) (downNow down) (entryAt table) i ps
 
+-- what the first n of these positions do
+abbrev pub allIn : List ℕ → List ℕ → List ℕ → ℕ → ℕ → List Position → List S.Moved
+allIn row table down i n ps = inSlot row table down i (positionsOf row n ps)
+
 -- n messages that stand at a time may go through slot i, which begins at that time
 pub record MayGo (row : List ℕ) (n : ℕ) (s : Standing) (i : ℕ) : Type 0 where
   pub stand : Stand row n (s .positions)
@@ -31,7 +36,7 @@ pub record MayGo (row : List ℕ) (n : ℕ) (s : Standing) (i : ℕ) : Type 0 wh
 pub record GoesOn (row table down : List ℕ) (n i : ℕ) (s r : Standing) : Type 0 where
   pub time : r .time .0 ≡ i + 1
   pub long : length (r .positions) ≡ mostMessages
-  pub moves : Moves row n (inSlot row table down i (positionsOf row n (s .positions))) (s .positions) (r .positions)
+  pub moves : Moves row n (allIn row table down i n (s .positions)) (s .positions) (r .positions)
 
 -- their events may be told, with room for two numbers each
 pub record MayTell (row : List ℕ) (n : ℕ) (s : Standing) (i room : ℕ) : Type 0 where

@@ -1,9 +1,9 @@
 -- What a position in a row says: the places or links that are left to it, and where they end.
-use Prim.Native.Nat.{ℕ, _+_, _≤_, _<_}
+use Prim.Native.Nat.{ℕ, _+_, _-_, _≤_, _<_}
 use mathlib.Core.Path.{_≡_}
 use mathlib.Core.Bool.{Bool, cond}
 use mathlib.Core.List.{List}
-use Rattle.scope.specs.Plan.{at, numbersAt, placesAt, afterPlaces}
+use Rattle.scope.specs.Plan.{Place, at, numbersAt, placeAt, placeSize, placesAt, afterPlaces}
 use Rattle.scope.specs.Slot as S
 use Rattle.step.specs.declared.Position.{Position}
 use Rattle.step.specs.declared.Met.{Met}
@@ -27,6 +27,20 @@ endAt row turned i n = cond turned (i + n) (afterPlaces row i n)
 abbrev pub endOf : List ℕ → Position → ℕ
 endOf row p = endAt row (p .turned) (p .at) (p .left)
 
+-- what is left after the next place, and after the next link
+abbrev pub placesAfter : List ℕ → Position → List Place
+placesAfter row p = placesAt row (p .at + placeSize row (p .at)) (p .left - 1)
+
+abbrev pub linksAfter : List ℕ → Position → List ℕ
+linksAfter row p = numbersAt row (p .at + 1) (p .left - 1)
+
+-- what a message at p does on its first path, and on its second path, with its next link cut or whole
+abbrev pub doesFirst : List ℕ → Position → Bool → ℕ → S.Moved
+doesFirst row p cut slot = S.onFirstPath cut slot (placeAt row (p .at)) (placesAfter row p)
+
+abbrev pub doesSecond : List ℕ → Position → Bool → ℕ → Bool → ℕ → S.Moved
+doesSecond row p cut entry held first = S.onSecondPath cut entry held first (at row (p .at)) (linksAfter row p)
+
 -- r is the position `next`, and does not go beyond p's end
 pub record Leads (row : List ℕ) (p : Position) (next : S.Position) (r : Position) : Type 0 where
   pub is : positionOf row r ≡ next
@@ -49,3 +63,9 @@ pub record Meets (row : List ℕ) (down : ℕ → Bool) (p : Position) (r : Met)
   pub left : 0 < r .position .left
   pub link : r .link ≡ at row (r .position .at)
   pub cut : r .down ≡ down (r .link)
+
+-- r is what a message does that meets this, whatever else is down
+abbrev pub MetActs : List ℕ → ℕ → ℕ → Bool → ℕ → Met → Moved → Type 0
+MetActs row slot entry held first met r =
+    (down : ℕ → Bool) → met .down ≡ down (met .link) →
+    Acts row (met .position) (S.act down slot entry held first (positionOf row (met .position))) r

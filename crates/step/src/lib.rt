@@ -6,22 +6,25 @@
 // and their proofs are walks by hand.
 use cuts::is_down;
 use rows::number;
+use rows::place_at;
+use rows::place_slot;
 use scope::limits::MESSAGES;
-ghost use Prim.Native.Nat.{ℕ, _+_, _-_, _*_, _<_, _≤_};
+use scope::limits::TRIES;
+ghost use Prim.Native.Nat.{_+_, _*_, _<_, _≤_};
 ghost use mathlib.Core.Path.{_≡_};
-ghost use mathlib.Core.Bool.{Bool, true, false, not};
+ghost use mathlib.Core.Bool.{true, false, not};
 ghost use mathlib.Core.List.{_++_};
 ghost use lib.ListN.{length, drop, set};
 ghost use lib.Dec.{eqb};
-ghost use Rattle.scope.specs.Plan.{at, numbersAt, placeAt, placeSize, placesAt};
-ghost use Rattle.scope.specs.Slot.{onFirst, onFirstPath, onSecondPath, act};
+ghost use Rattle.scope.specs.Plan.{at};
+ghost use Rattle.scope.specs.Slot.{onFirst};
 ghost use Rattle.scope.specs.Cycle.{numbers};
 ghost use Rattle.cuts.specs.Down.{isDown};
 ghost use Rattle.table.specs.Table.{entryAt};
 ghost use Rattle.step.specs.Events.{eventOf};
-ghost use Rattle.step.specs.Where.{positionOf, endOf, Leads, Acts, Faces, Meets};
-ghost use Rattle.step.specs.Stand.{positionsOf, Stand, Moves, MayTellAll};
-ghost use Rattle.step.specs.Slot.{downNow, inSlot, MayGo, GoesOn, MayTell};
+ghost use Rattle.step.specs.Where.{endOf, placesAfter, doesFirst, doesSecond, Leads, Acts, Faces, Meets, MetActs};
+ghost use Rattle.step.specs.Stand.{Stand, Moves, MayTellAll};
+ghost use Rattle.step.specs.Slot.{downNow, allIn, MayGo, GoesOn, MayTell};
 ghost use Rattle.step.specs.Pass.{firstTrier, noted, Noting, MayAct, ActsIn, MovesIn, MayMoveAll, MovesAll};
 
 // "Slot numbers run from 0 to t − 1; times run from 0 to t. What happens in slot i leads from time i to time i + 1." A time is made
@@ -158,11 +161,11 @@ impl Position {
             return here;
         }
         if here.down {
-            let at = self.at as usize;
-            if number(row, at + 2) == 1 {
+            let place = place_at(row, self.at as usize);
+            if place.count != 0 {
                 let turned = Position {
-                    at: (at + 4) as u16,
-                    left: (number(row, at + 3) + 1) as u16,
+                    at: place.second as u16,
+                    left: place.count as u16,
                     turned: true,
                 };
                 turned.faces(row, down)
@@ -177,11 +180,11 @@ impl Position {
     // On its first path, past the next place.
     fn past_place(self, row: &[u16]) -> Position
         requires { ⌜ (self .turned ≡ false) × (0 < self .left) × (endOf (now row) self < 65536) ⌝ }
-        ensures { λ r. ⌜ Leads (now (row .entry)) self (onFirst (placesAt (now (row .entry)) (self .at + placeSize (now (row .entry)) (self .at)) (self .left - 1))) r ⌝ }
+        ensures { λ r. ⌜ Leads (now (row .entry)) self (onFirst (placesAfter (now (row .entry)) self)) r ⌝ }
     {
-        let at = self.at as usize;
+        let here = place_at(row, self.at as usize);
         Position {
-            at: (at + rows::place_size(row, at)) as u16,
+            at: here.next as u16,
             left: self.left - 1,
             turned: false,
         }
@@ -190,13 +193,12 @@ impl Position {
     // What it does on its first path, with its next link cut or whole: kinds 6, 2 and 1.
     fn act_first(self, row: &[u16], slot: Slot, link: u16, down: bool) -> Moved
         requires { ⌜ (self .turned ≡ false) × (0 < self .left) × (endOf (now row) self < 65536) × (link ≡ at (now row) (self .at)) ⌝ }
-        ensures { λ r. ⌜ Acts (now (row .entry)) self (onFirstPath down (slot .0) (placeAt (now (row .entry)) (self .at)) (placesAt (now (row .entry)) (self .at + placeSize (now (row .entry)) (self .at)) (self .left - 1))) r ⌝ }
+        ensures { λ r. ⌜ Acts (now (row .entry)) self (doesFirst (now (row .entry)) self down (slot .0)) r ⌝ }
     {
-        let at = self.at as usize;
         if down {
             let event = Event::Stays(link);
             Moved { next: self, event }
-        } else if number(row, at + 1) == slot.0 {
+        } else if place_slot(row, self.at as usize) == slot.0 {
             let next = self.past_place(row);
             let event = Event::Crosses(link);
             Moved { next, event }
@@ -210,7 +212,7 @@ impl Position {
     // table has for that link and slot, `first` who goes first of those that try the link, and `m` this message.
     fn act_second(self, row: &[u16], link: u16, down: bool, entry: u8, first: u16, m: u16) -> Moved
         requires { ⌜ (self .turned ≡ true) × (0 < self .left) × (endOf (now row) self < 65536) × (link ≡ at (now row) (self .at)) ⌝ }
-        ensures { λ r. ⌜ Acts (now (row .entry)) self (onSecondPath down entry (not (eqb first m)) first (at (now (row .entry)) (self .at)) (numbersAt (now (row .entry)) (self .at + 1) (self .left - 1))) r ⌝ }
+        ensures { λ r. ⌜ Acts (now (row .entry)) self (doesSecond (now (row .entry)) self down entry (not (eqb first m)) first) r ⌝ }
     {
         if down {
             let event = Event::StaysSecond(link);
@@ -238,7 +240,7 @@ impl Met {
     // it, and `first` who goes first of those that try that link, m itself where nobody is before it.
     pub fn acts(self, row: &[u16], slot: Slot, entry: u8, first: u16, m: u16) -> Moved
         requires { ⌜ (0 < self .position .left) × (endOf (now row) (self .position) < 65536) × (self .link ≡ at (now row) (self .position .at)) ⌝ }
-        ensures { λ r. ⌜ ((down : ℕ → Bool) → self .down ≡ down (self .link) → Acts (now (row .entry)) (self .position) (act down (slot .0) entry (not (eqb first m)) first (positionOf (now (row .entry)) (self .position))) r) ⌝ }
+        ensures { λ r. ⌜ MetActs (now (row .entry)) (slot .0) entry (not (eqb first m)) first self r ⌝ }
     {
         let p = self.position;
         if p.turned {
@@ -288,7 +290,9 @@ fn act_one(
     tried: &mut [u16],
 ) -> Moved
     requires { ⌜ MayAct (now row) p m (slot .0) (now tried) ⌝ }
-    ensures { λ r. ⌜ ActsIn (now (row .entry)) (isDown (now (down .entry))) (entryAt (now (table .entry)) (slot .0)) (slot .0) p m (now (tried .entry)) (now (tried .exit)) r ⌝ }
+    ensures { λ r.
+        ⌜ ActsIn (now (row .entry)) (isDown (now (down .entry))) (entryAt (now (table .entry)) (slot .0)) (slot .0) p m
+        (now (tried .entry)) (now (tried .exit)) r ⌝ }
 {
     if p.is_home() {
         let event = Event::Arrived;
@@ -316,7 +320,9 @@ fn move_one(
     tried: &mut [u16],
 ) -> Position
     requires { ⌜ MayAct (now row) p m (slot .0) (now tried) ⌝ }
-    ensures { λ r. ⌜ MovesIn (now (row .entry)) (isDown (now (down .entry))) (entryAt (now (table .entry)) (slot .0)) (slot .0) p m (now (tried .entry)) (now (tried .exit)) r ⌝ }
+    ensures { λ r.
+        ⌜ MovesIn (now (row .entry)) (isDown (now (down .entry))) (entryAt (now (table .entry)) (slot .0)) (slot .0) p m
+        (now (tried .entry)) (now (tried .exit)) r ⌝ }
 {
     let moved = act_one(p, m, row, table, down, slot, tried);
     moved.next
@@ -333,7 +339,9 @@ fn move_all(
     tried: &mut [u16],
 )
     requires { ⌜ MayMoveAll (now row) (now ps) n (i .0) (now tried) ⌝ }
-    ensures { λ _. ⌜ MovesAll (now (row .entry)) n (downNow (now (down .entry))) (entryAt (now (table .entry))) (i .0) (now (ps .entry)) (now (ps .exit)) (now (tried .entry)) (now (tried .exit)) ⌝ }
+    ensures { λ _.
+        ⌜ MovesAll (now (row .entry)) n (downNow (now (down .entry))) (entryAt (now (table .entry))) (i .0)
+        (now (ps .entry)) (now (ps .exit)) (now (tried .entry)) (now (tried .exit)) ⌝ }
 {
     let mut m = 0;
     while m < n {
@@ -357,7 +365,9 @@ fn lend(
     tried: &mut [u16],
 ) -> [Position; MESSAGES]
     requires { ⌜ MayMoveAll (now row) ps n (i .0) (now tried) ⌝ }
-    ensures { λ r. ⌜ MovesAll (now (row .entry)) n (downNow (now (down .entry))) (entryAt (now (table .entry))) (i .0) ps r (now (tried .entry)) (now (tried .exit)) ⌝ }
+    ensures { λ r.
+        ⌜ MovesAll (now (row .entry)) n (downNow (now (down .entry))) (entryAt (now (table .entry))) (i .0)
+        ps r (now (tried .entry)) (now (tried .exit)) ⌝ }
 {
     let mut qs = ps;
     move_all(&mut qs, n, row, table, down, i, tried);
@@ -374,9 +384,10 @@ fn after_slot(
     i: Slot,
 ) -> [Position; MESSAGES]
     requires { ⌜ Stand (now row) n ps × (i .0 < 65536) ⌝ }
-    ensures { λ r. ⌜ Moves (now (row .entry)) n (inSlot (now (row .entry)) (now (table .entry)) (now (down .entry)) (i .0) (positionsOf (now (row .entry)) n ps)) ps r ⌝ }
+    ensures { λ r.
+        ⌜ Moves (now (row .entry)) n (allIn (now (row .entry)) (now (table .entry)) (now (down .entry)) (i .0) n ps) ps r ⌝ }
 {
-    let mut tried = [0u16; 65];
+    let mut tried = [0u16; TRIES];
     lend(ps, n, row, table, down, i, &mut tried)
 }
 
@@ -400,9 +411,11 @@ fn tell_all(
     out: &mut [u16],
 )
     requires { ⌜ MayTellAll (now row) ps n (i .0) (length (now out)) ⌝ }
-    ensures { λ _. ⌜ now (out .exit) ≡ numbers (inSlot (now (row .entry)) (now (table .entry)) (now (down .entry)) (i .0) (positionsOf (now (row .entry)) n ps)) ++ drop (2 * n) (now (out .entry)) ⌝ }
+    ensures { λ _.
+        ⌜ now (out .exit) ≡ numbers (allIn (now (row .entry)) (now (table .entry)) (now (down .entry)) (i .0) n ps) ++
+        drop (2 * n) (now (out .entry)) ⌝ }
 {
-    let mut tried = [0u16; 65];
+    let mut tried = [0u16; TRIES];
     let mut m = 0;
     while m < n {
         let p = ps[m];
@@ -458,7 +471,9 @@ impl Standing {
     // The events of the slot that begins at this time, at the front of `out`.
     pub fn tell(self, i: Slot, n: usize, row: &[u16], table: &[u8], down: &[u8], out: &mut [u16])
         requires { ⌜ MayTell (now row) n self (i .0) (length (now out)) ⌝ }
-        ensures { λ _. ⌜ now (out .exit) ≡ numbers (inSlot (now (row .entry)) (now (table .entry)) (now (down .entry)) (i .0) (positionsOf (now (row .entry)) n (self .positions))) ++ drop (2 * n) (now (out .entry)) ⌝ }
+        ensures { λ _.
+            ⌜ now (out .exit) ≡ numbers (allIn (now (row .entry)) (now (table .entry)) (now (down .entry)) (i .0) n (self .positions)) ++
+            drop (2 * n) (now (out .entry)) ⌝ }
     {
         let ps = self.positions;
         tell_all(ps, n, row, table, down, i, out);

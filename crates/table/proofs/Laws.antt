@@ -13,12 +13,13 @@ use lib.Seq.{getD-set-same, getD-set-other}
 use lib.Dec.{ltb, eqb}
 use Rattle.scope.specs.Limits.{mostSlots, mostLinks, tableSize}
 use Rattle.scope.specs.Lowest.{seek, lowest}
-use Rattle.scope.specs.Plan.{Place, at, placeAt, placeSize, placesAt, afterPlaces, placeCount, messageAt, afterMessage, messageCount, firstMessage, planOf, pathOf}
+use Rattle.scope.specs.Plan.{Place, placeAt, placeSize, placesAt, afterPlaces, placeCount, messageAt, afterMessage, messageCount, firstMessage, planOf, pathOf}
 use Rattle.scope.specs.SecondPath.{messageIndex}
 use Rattle.scope.specs.Good.{holds}
 use Rattle.scope.specs.Cycle.{entryOf, tableOf}
-use Rattle.rows.specs.View.{Is}
-use Rattle.rows.proofs.Index.{places-first, places-next, places-done, messages-suc}
+use Rattle.rows.specs.View.{Is, IsPlace}
+use Rattle.rows.specs.declared.RowPlace.{RowPlace}
+use Rattle.rows.proofs.Index.{places-first, places-go, places-done, messages-suc}
 use Rattle.rows.proofs.Parts.{places-all, places-more, places-none, message-count, path-at}
 use Rattle.table.specs.Table.{Table, Entered, Below, indexOf, entryAt, marked, entered, ownerBelow}
 use Rattle.table.proofs.Entries.{entry-in}
@@ -124,21 +125,26 @@ module _ (row : List ℕ) (i w : ℕ) (old : List ℕ) (n : ℕ) where
         is = λ s l hs hl. ap (λ ps. entered w ps s l (entryAt old s l)) (places-all row (i + 1) n ∙ ap (placesAt row (i + 1)) e);
       }
 
-  pub entering-next : (j k : ℕ) (table : List ℕ) (link slot size : ℕ) (new : List ℕ) → Entering row i w old n j k table → k < n → 0 < w →
-      link ≡ at row j → slot ≡ at row (j + 1) → Table (λ s e. marked w link slot s e (entryAt table s e)) new →
-      size ≡ placeSize row j → size ≤ 65540 → Entering row i w old n (j + size) (k + 1) new
-  entering-next j k table link slot size new g h hw fl fs m fz hz =
+  pub entering-next : (j k : ℕ) (table new : List ℕ) (here : RowPlace) → Entering row i w old n j k table → k < n → 0 < w →
+      IsPlace row j here → Table (λ s e. marked w (here .link) (here .slot) s e (entryAt table s e)) new →
+      Entering row i w old n (here .next) (k + 1) new
+  entering-next j k table new here g h hw is m =
       record {
-        next = places-next row j n k size h fz ∙ g .next;
+        next = places-go row j n k (here .next) h (is .next) ∙ g .next;
         small = omega arith;
         most = omega arith;
         long = m .long;
         is = λ s e hs he. step s e hs he ∙ g .is s e hs he;
       }
     where
+      left : List Place
+      left = placesAt row (j + placeSize row j) (n - (k + 1))
+
       step : (s e : ℕ) → s < mostSlots → e < mostLinks →
-          entered w (placesAt row (j + size) (n - (k + 1))) s e (entryAt new s e) ≡ entered w (placesAt row j (n - k)) s e (entryAt table s e)
-      step s e hs he = rw (m .is s e hs he, places-more row j n k h, fz, fl, fs) (enter-place w (placeAt row j) (placesAt row (j + placeSize row j) (n - (k + 1))) s e (entryAt table s e) hw)
+          entered w (placesAt row (here .next) (n - (k + 1))) s e (entryAt new s e) ≡ entered w (placesAt row j (n - k)) s e (entryAt table s e)
+      step s e hs he =
+          rw (m .is s e hs he, places-more row j n k h, is .next, is .link, is .slot)
+          (enter-place w (placeAt row j) left s e (entryAt table s e) hw)
 
   pub entering-done : (j k : ℕ) (table : List ℕ) → Entering row i w old n j k table → n ≤ k → n ≤ 65536 → Entered row i w old table j
   entering-done j k table g h hn =

@@ -63,10 +63,9 @@ pub fn enter(row: &[u16], i: usize, w: u8, table: &mut [u8]) -> usize
     let mut at = i + 1;
     let mut k = 0;
     while k < n {
-        let link = rows::number(row, at);
-        let slot = rows::number(row, at + 1);
-        mark(table, link, slot, w);
-        at = at + rows::place_size(row, at);
+        let here = rows::place_at(row, at);
+        mark(table, here.link, here.slot, w);
+        at = here.next;
         k += 1;
     }
     at

@@ -18,17 +18,14 @@ abbrev μ-loop : tie.MeasureT-loop
 loop-holds : tie.Need-loop-holds Inv-loop μ-loop
 loop-holds c = let a = c .before .args in (law.entries-of-all (a .row .now) (a .e) (a .i) (a .n), omega arith, omega arith, omega arith)
 
+place-at-requires : tie.Need-place-at-requires Inv-loop μ-loop
+place-at-requires c κs = search needs
+
 on-link-requires : tie.Need-on-link-requires Inv-loop μ-loop
 on-link-requires c κs = search needs
 
 add-sum : tie.Need-add-sum Inv-loop μ-loop
 add-sum c = search needs
-
-place-size-requires : tie.Need-place-size-requires Inv-loop μ-loop
-place-size-requires c κs = search needs
-
-add-at : tie.Need-add-at Inv-loop μ-loop
-add-at c = search needs
 
 add-k : tie.Need-add-k Inv-loop μ-loop
 add-k c = search needs
@@ -38,11 +35,12 @@ loop-less c = search needs
 
 loop-again : tie.Need-loop-again Inv-loop μ-loop
 loop-again c =
-    let a = c .before .before .before .before .before .args in
-    let l = c .before .before .before .loop in (
-      law.entries-of-on (a .row .now) (a .e) (l .at) (a .n) (l .k) (c .before .on-link .result) (c .place-size .result) (l .sum)
-          _ (c .before .before .loop-test .taken) (c .before .on-link .ensures .is) (c .place-size .ensures .is) (l .inv .0),
-      omega arith,
+    let h = c .before in
+    let a = h .before .before .before .before .args in
+    let l = h .before .before .loop in (
+      law.entries-of-on (a .row .now) (a .e) (l .at) (a .n) (l .k) (h .before .loop-test .taken) (h .place-at .result) (h .place-at .ensures)
+          (c .on-link .result) (l .sum) _ (c .on-link .ensures .is) (l .inv .0),
+      omega (arith, h .place-at .ensures .near),
       omega arith,
       omega arith,
     )
@@ -60,10 +58,9 @@ entries-of-spec =
     Inv-loop
     μ-loop
     loop-holds
+    place-at-requires
     on-link-requires
     add-sum
-    place-size-requires
-    add-at
     add-k
     loop-less
     loop-again

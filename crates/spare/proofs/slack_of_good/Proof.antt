@@ -1,9 +1,37 @@
 -- `spare::slack_of_good` meets its contract: one law for each way out. Assumes nothing.
+use Prim.Native.Nat.{ℕ}
+use mathlib.Core.Path.{_≡_}
+use mathlib.Core.List.{List}
 use borrow.Author.Needs.{needs}
+use Rattle.scope.specs.SecondPath.{placeIndex}
 use Rattle.spare.proofs.There.{There}
 use Rattle.spare.proofs.Ways as law
 use Rattle.spare.proofs.slack_of_good.Statement.{statement}
 use Rattle.spare.proofs.slack_of_good.Tie as tie
+
+-- once the place is read: the row, the message and the place that are asked for
+abbrev start : tie.After-place-at → tie.Start
+start h = h .before .before .before .before .before .before .before .before
+
+abbrev row : tie.After-place-at → List ℕ
+row h = start h .args .row .now
+
+abbrev m : tie.After-place-at → ℕ
+m h = start h .args .m
+
+abbrev p : tie.After-place-at → ℕ
+p h = start h .args .p
+
+found : (h : tie.After-place-at) → (h .place-at .result .count ≡ 0 → ⊥) → There (row h) (m h) (p h)
+found h some =
+    let b = h .before .before .before in
+    law.found (row h) (m h) (p h) (start h .pre) _ _ _ (b .before .before .before .messages .ensures .is) (b .before .before .if1 .left)
+    (b .before .message-index .ensures .is) (b .place-count .ensures .is) _ _ (h .before .before .if2 .left) (h .before .after-places .ensures .is)
+    (h .place-at .ensures) some
+
+stands : (h : tie.After-place-at) → h .before .after-places .result ≡ placeIndex (row h) (m h) (p h)
+stands h =
+    law.place-at _ _ _ (h .before .before .before .before .message-index .ensures .is) (h .before .after-places .ensures .is)
 
 messages-requires : tie.Need-messages-requires
 messages-requires c κs = search needs
@@ -13,8 +41,10 @@ refusal-at-requires c κs = search needs
 
 returns : tie.Need-returns
 returns c =
-    let s = c .before .before .before .before in
-    law.out-message (s .args .row .now) (s .args .m) (s .args .p) (s .pre) _ _ (c .before .before .messages .ensures .is) (c .before .if1 .taken) (c .refusal-at .ensures)
+    let b = c .before .before in
+    let s = b .before .before in
+    law.out-message (s .args .row .now) (s .args .m) (s .args .p) (s .pre) _ _ (b .messages .ensures .is) (c .before .if1 .taken)
+    (c .refusal-at .ensures)
 
 message-index-requires : tie.Need-message-index-requires
 message-index-requires c κs = search needs
@@ -27,9 +57,11 @@ refusal-at-requires-2 c κs = search needs
 
 returns-2 : tie.Need-returns-2
 returns-2 c =
-    let s = c .before .before .before .before .before .before .before in
-    law.out-place (s .args .row .now) (s .args .m) (s .args .p) (s .pre) _ _ _ (c .before .before .before .before .before .messages .ensures .is) (c .before .before .before .before .if1 .left) (c .before .before .before .message-index .ensures .is) (c .before .before .place-count .ensures .is)
-    _ (c .before .if2 .taken) (c .refusal-at2 .ensures)
+    let b = c .before .before in
+    let s = b .before .before .before .before .before in
+    law.out-place (s .args .row .now) (s .args .m) (s .args .p) (s .pre) _ _ _ (b .before .before .before .messages .ensures .is)
+    (b .before .before .if1 .left) (b .before .message-index .ensures .is) (b .place-count .ensures .is) _ (c .before .if2 .taken)
+    (c .refusal-at2 .ensures)
 
 add-after-places : tie.Need-add-after-places
 add-after-places c = search needs
@@ -37,44 +69,42 @@ add-after-places c = search needs
 after-places-requires : tie.Need-after-places-requires
 after-places-requires c κs = search needs
 
-add-number : tie.Need-add-number
-add-number c = search needs
-
-number-requires : tie.Need-number-requires
-number-requires c κs = search needs
+place-at-requires : tie.Need-place-at-requires
+place-at-requires c κs = search needs
 
 refusal-at-requires-3 : tie.Need-refusal-at-requires-3
 refusal-at-requires-3 c κs = search needs
 
 returns-3 : tie.Need-returns-3
 returns-3 c =
-    let s = c .before .before .before .before .before .before .before .before .before .before in
-    law.out-second (s .args .row .now) (s .args .m) (s .args .p) (s .pre) _ _ _ (c .before .before .before .before .before .before .before .before .messages .ensures .is) (c .before .before .before .before .before .before .before .if1 .left) (c .before .before .before .before .before .before .message-index .ensures .is) (c .before .before .before .before .before .place-count .ensures .is)
-    _ _ (c .before .before .before .before .if2 .left) (c .before .before .before .after-places .ensures .is) (c .before .before .number .ensures .is) _ (c .before .if3 .taken) (c .refusal-at3 .ensures)
+    let h = c .before .before .before in
+    let b = h .before .before .before in
+    law.out-second (row h) (m h) (p h) (start h .pre) _ _ _ (b .before .before .before .messages .ensures .is) (b .before .before .if1 .left)
+    (b .before .message-index .ensures .is) (b .place-count .ensures .is) _ _ (h .before .before .if2 .left) (h .before .after-places .ensures .is)
+    (h .place-at .ensures) _ (c .before .if3 .taken) (c .refusal-at3 .ensures)
+
+delay-requires : tie.Need-delay-requires
+delay-requires c κs = search needs
+
+add-used : tie.Need-add-used
+add-used c = search needs
 
 timeout-requires : tie.Need-timeout-requires
 timeout-requires c κs = search needs
 
-used-requires : tie.Need-used-requires
-used-requires c κs = search needs
-
-found : (c : tie.After-used) → There (c .before .before .before .before .before .before .before .before .before .before .before .args .row .now) (c .before .before .before .before .before .before .before .before .before .before .before .args .m) (c .before .before .before .before .before .before .before .before .before .before .before .args .p)
-found c =
-    let s = c .before .before .before .before .before .before .before .before .before .before .before in
-    law.found (s .args .row .now) (s .args .m) (s .args .p) (s .pre) _ _ _ (c .before .before .before .before .before .before .before .before .before .messages .ensures .is) (c .before .before .before .before .before .before .before .before .if1 .left) (c .before .before .before .before .before .before .before .message-index .ensures .is) (c .before .before .before .before .before .before .place-count .ensures .is)
-    _ _ (c .before .before .before .before .before .if2 .left) (c .before .before .before .before .after-places .ensures .is) (c .before .before .before .number .ensures .is) (c .before .before .if3 .left)
-
 less-requires : tie.Need-less-requires
 less-requires c κs =
-    let s = c .before .before .before .before .before .before .before .before .before .before .before in
-    law.fits (s .args .row .now) (s .args .m) (s .args .p) (s .pre) (found c) _ _ _ (law.place-at _ _ _ (c .before .before .before .before .before .before .before .message-index .ensures .is) (c .before .before .before .before .after-places .ensures .is))
-    (c .before .timeout .ensures .is) (c .used .ensures)
+    let d = c .before .before in
+    let h = d .before .before .before in
+    law.fits (row h) (m h) (p h) (start h .pre) (found h (d .before .if3 .left)) _ _ _ _ (stands h) (h .place-at .ensures)
+    (c .timeout .ensures .is) (d .delay .ensures .is)
 
 returns-4 : tie.Need-returns-4
 returns-4 c =
-    let s = c .before .before .before .before .before .before .before .before .before .before .before .before in
-    law.spares (s .args .row .now) (s .args .m) (s .args .p) (s .pre) (found (c .before)) _ _ _ (law.place-at _ _ _ (c .before .before .before .before .before .before .before .before .message-index .ensures .is) (c .before .before .before .before .before .after-places .ensures .is))
-    (c .before .before .timeout .ensures .is) (c .before .used .ensures) _ (c .less .ensures)
+    let d = c .before .before .before in
+    let h = d .before .before .before in
+    law.spares (row h) (m h) (p h) (start h .pre) (found h (d .before .if3 .left)) _ _ _ _ (stands h) (h .place-at .ensures)
+    (c .before .timeout .ensures .is) (d .delay .ensures .is) _ (c .less .ensures)
 
 pub slack-of-good-spec : {M : Type 1} → statement M
 slack-of-good-spec =
@@ -89,11 +119,11 @@ slack-of-good-spec =
     returns-2
     add-after-places
     after-places-requires
-    add-number
-    number-requires
+    place-at-requires
     refusal-at-requires-3
     returns-3
+    delay-requires
+    add-used
     timeout-requires
-    used-requires
     less-requires
     returns-4)

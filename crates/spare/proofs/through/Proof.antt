@@ -18,20 +18,20 @@ abbrev μ-loop : tie.MeasureT-loop
 loop-holds : tie.Need-loop-holds Inv-loop μ-loop
 loop-holds c = let a = c .before .args in (law.through-all (a .row .now) (a .e) (a .i) (a .n), omega arith, omega arith)
 
-place-through-requires : tie.Need-place-through-requires Inv-loop μ-loop
-place-through-requires c κs = search needs
+place-at-requires : tie.Need-place-at-requires Inv-loop μ-loop
+place-at-requires c κs = search needs
+
+has-requires : tie.Need-has-requires Inv-loop μ-loop
+has-requires c κs = search needs
 
 returns : tie.Need-returns Inv-loop μ-loop
 returns c =
-    let a = c .before .before .before .before .before .args in
-    let l = c .before .before .before .loop in
-    sym (law.through-here (a .row .now) (a .e) (l .at) (a .n) (l .k) (c .before .before .loop-test .taken) (sym (c .before .place-through .ensures) ∙ c .if1 .taken)) ∙ l .inv .0
-
-place-size-requires : tie.Need-place-size-requires Inv-loop μ-loop
-place-size-requires c κs = search needs
-
-add-at : tie.Need-add-at Inv-loop μ-loop
-add-at c = search needs
+    let h = c .before .before in
+    let a = h .before .before .before .before .args in
+    let l = h .before .before .loop in
+    let t = sym (c .before .has .ensures) ∙ c .if1 .taken in
+    sym (law.through-here (a .row .now) (a .e) (l .at) (a .n) (l .k) (h .before .loop-test .taken) (h .place-at .result) (h .place-at .ensures) t) ∙
+    l .inv .0
 
 add-k : tie.Need-add-k Inv-loop μ-loop
 add-k c = search needs
@@ -41,11 +41,13 @@ loop-less c = search needs
 
 loop-again : tie.Need-loop-again Inv-loop μ-loop
 loop-again c =
-    let a = c .before .before .before .before .before .before .args in
-    let l = c .before .before .before .before .loop in (
-      law.through-on (a .row .now) (a .e) (l .at) (a .n) (l .k) (c .place-size .result) (c .before .before .before .loop-test .taken)
-          (sym (c .before .before .place-through .ensures) ∙ c .before .if1 .left) (c .place-size .ensures .is) ∙ l .inv .0,
-      omega arith,
+    let h = c .before .before in
+    let a = h .before .before .before .before .args in
+    let l = h .before .before .loop in
+    let t = sym (c .before .has .ensures) ∙ c .if1 .left in (
+      law.through-on (a .row .now) (a .e) (l .at) (a .n) (l .k) (h .before .loop-test .taken) (h .place-at .result) (h .place-at .ensures) t ∙
+          l .inv .0,
+      omega (arith, h .place-at .ensures .near),
       omega arith,
     )
 
@@ -62,10 +64,9 @@ through-spec =
     Inv-loop
     μ-loop
     loop-holds
-    place-through-requires
+    place-at-requires
+    has-requires
     returns
-    place-size-requires
-    add-at
     add-k
     loop-less
     loop-again

@@ -23,23 +23,11 @@ loop-holds : tie.Need-loop-holds Inv-loop μ-loop
 loop-holds c = let a = c .before .before .before .args in
     law.entering-first (a .row .now) (a .i) (a .w) (a .table .now) (c .place-count .result) (c .place-count .ensures .is) (omega arith)
 
-number-requires : tie.Need-number-requires Inv-loop μ-loop
-number-requires c κs = search needs
-
-add-number : tie.Need-add-number Inv-loop μ-loop
-add-number c = search needs
-
-number-requires-2 : tie.Need-number-requires-2 Inv-loop μ-loop
-number-requires-2 c κs = search needs
+place-at-requires : tie.Need-place-at-requires Inv-loop μ-loop
+place-at-requires c κs = search needs
 
 mark-requires : tie.Need-mark-requires Inv-loop μ-loop
 mark-requires c κs = search needs
-
-place-size-requires : tie.Need-place-size-requires Inv-loop μ-loop
-place-size-requires c κs = search needs
-
-add-at-2 : tie.Need-add-at-2 Inv-loop μ-loop
-add-at-2 c = search needs
 
 add-k : tie.Need-add-k Inv-loop μ-loop
 add-k c = search needs
@@ -48,11 +36,14 @@ loop-less : tie.Need-loop-less Inv-loop μ-loop
 loop-less c = search needs
 
 loop-again : tie.Need-loop-again Inv-loop μ-loop
-loop-again c = let a = c .before .before .before .before .before .before .before .before .before .before .before .before .args in
-    let l = c .before .before .before .before .before .before .before .before .loop in
-    law.entering-next (a .row .now) (a .i) (a .w) (a .table .now) (c .before .before .before .before .before .before .before .before .before .place-count .result) (l .at) (l .k) (l .table)
-    (c .before .before .before .before .before .before .number .result) (c .before .before .before .before .before .number2 .result) (c .place-size .result) (c .before .before .before .mark .last .0) (l .inv) (c .before .before .before .before .before .before .before .loop-test .taken) (c .before .before .before .before .before .before .before .before .before .before .before .before .pre .2)
-    (c .before .before .before .before .before .before .number .ensures .is) (c .before .before .before .before .before .number2 .ensures .is) (c .before .before .before .mark .ensures) (c .place-size .ensures .is) (c .place-size .ensures .small)
+loop-again c =
+    let b = c .before .before in
+    let h = b .before .before in
+    let l = h .before .before .loop in
+    let s = h .before .before .before .before .before .before in
+    law.entering-next (s .args .row .now) (s .args .i) (s .args .w) (s .args .table .now) (h .before .before .before .place-count .result)
+    (l .at) (l .k) (l .table) (b .mark .last .0) (h .place-at .result) (l .inv) (h .before .loop-test .taken) (s .pre .2)
+    (h .place-at .ensures) (b .mark .ensures)
 
 same-length : tie.Need-same-length Inv-loop μ-loop
 same-length c = search needs
@@ -71,12 +62,8 @@ enter-spec =
     place-count-requires
     add-at
     loop-holds
-    number-requires
-    add-number
-    number-requires-2
+    place-at-requires
     mark-requires
-    place-size-requires
-    add-at-2
     add-k
     loop-less
     loop-again
