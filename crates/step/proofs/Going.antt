@@ -26,19 +26,6 @@ module _ (row : List ℕ) (next : ℕ → S.Position → S.Position) where
   pub going-none : (n : ℕ) (ps : List Position) → Stand row n ps → n ≤ length ps → Going n 0 ps ps
   going-none n ps s l = record { few = omega arith; stand = s; long = l; walk = walk-none home _ ps }
 
-  pub going-fits : (n j : ℕ) (old new : List Position) → Going n j old new → j < n → endOf row (getD new j home) < 65536
-  going-fits n j old new g h = rw (g .walk .rest j (omega arith)) (g .stand .fit j h)
-
-  pub going-more : (n j : ℕ) (old new : List Position) (q : Position) → Going n j old new → j < n →
-      Leads row (getD new j home) (next j (positionOf row (getD new j home))) q → Going n (j + 1) old (set new j q)
-  going-more n j old new q g h p =
-      record {
-        few = omega arith;
-        stand = g .stand;
-        long = g .long;
-        walk = walk-more home _ j old new q (g .walk) (omega (arith, g .long, g .stand .few)) p;
-      }
-
   next-same : (n m : ℕ) (old new : List Position) → n ≤ length old → n ≤ length new →
       ((k : ℕ) → k < n → positionOf row (getD new k home) ≡ next (m + k) (positionOf row (getD old k home))) →
       positionsOf row n new ≡ nextFrom next m (positionsOf row n old)
@@ -54,11 +41,25 @@ module _ (row : List ℕ) (next : ℕ → S.Position → S.Position) where
       (λ i h. s (suc i) (omega arith) ∙ ap (λ u. next u (positionOf row (getD old i home))) (omega arith)) in
       rw (here, more)
 
-  pub going-done : (n j : ℕ) (old new : List Position) → Going n j old new → n ≤ j → Become row n (nextFrom next 0 (positionsOf row n old)) new
-  going-done n j old new g h =
+module _ {row : List ℕ} {next : ℕ → S.Position → S.Position} {n j : ℕ} {old new : List Position} (g : Going row next n j old new) where
+  pub going-fits : j < n → endOf row (getD new j home) < 65536
+  going-fits h = rw (g .walk .rest j (omega arith)) (g .stand .fit j h)
+
+  pub going-more : (q : Position) → j < n → Leads row (getD new j home) (next j (positionOf row (getD new j home))) q →
+      Going row next n (j + 1) old (set new j q)
+  going-more q h p =
+      record {
+        few = omega arith;
+        stand = g .stand;
+        long = g .long;
+        walk = walk-more home _ j old new q (g .walk) (omega (arith, g .long, g .stand .few)) p;
+      }
+
+  pub going-done : n ≤ j → Become row n (nextFrom next 0 (positionsOf row n old)) new
+  going-done h =
       record {
         is =
-            next-same n 0 old new (omega (arith, g .long, g .stand .few)) (omega (arith, g .long, g .stand .few, g .walk .long))
+            next-same row next n 0 old new (omega (arith, g .long, g .stand .few)) (omega (arith, g .long, g .stand .few, g .walk .long))
             (λ k i. g .walk .done k (omega arith) .is ∙ ap (λ u. next u (positionOf row (getD old k home))) (omega arith));
         stand =
             record {

@@ -11,7 +11,7 @@ use borrow.Author.Tests.{lt-ltb, le-ltb, ltb-true, ltb-false, eq-eqb, ne-eqb, eq
 use Rattle.scope.specs.Lowest.{seek, lowest}
 use Rattle.scope.proofs.Lowest.{seek-most, seek-same}
 use Rattle.scope.specs.Slot as S
-use Rattle.scope.specs.Limits.{mostMessages}
+use Rattle.scope.specs.Limits.{mostMessages, triesSize}
 use Rattle.scope.specs.Plan.{Plan}
 use Rattle.scope.specs.Cycle.{byNumber, orderOf, foremost, moves, slot}
 use Rattle.step.specs.Pass.{triers, triedLink, triedBy, foundAt, firstTrier, noted, Noting, triedAfter, does, pass}
@@ -24,12 +24,12 @@ module _ (ts : List ℕ) where
 
   -- the list tells who below m tries which link first
   pub record Knows (tried : List ℕ) (m : ℕ) : Type 0 where
-    pub room : 65 ≤ length tried
+    pub room : triesSize ≤ length tried
     pub few : triers tried ≤ m
     pub below : (j : ℕ) → j < triers tried → triedBy tried j < m
     pub is : (e : ℕ) → firstTrier tried e m ≡ lowest (λ k. eqb (getD ts k 0) (e + 1)) m
 
-  pub knows-none : (tried : List ℕ) → triers tried ≡ 0 → 65 ≤ length tried → Knows tried 0
+  pub knows-none : (tried : List ℕ) → triers tried ≡ 0 → triesSize ≤ length tried → Knows tried 0
   unfolding seek
   knows-none tried z r =
       record { room = r; few = omega arith; below = λ j h. absurd (omega arith); is = λ e. trier-none tried e 0 (omega arith) }
@@ -169,7 +169,7 @@ module _ (down : ℕ → Bool) (owner : ℕ → ℕ) (i : ℕ) (ts : List ℕ) w
 order-is : (plan : Plan) (m : ℕ) → orderOf plan m ≡ m
 order-is plan m = refl
 
-pub pass-slot : (plan : Plan) (down : ℕ → ℕ → Bool) (owner : ℕ → ℕ → ℕ) (i : ℕ) (tried : List ℕ) (ps : List S.Position) → triers tried ≡ 0 → 65 ≤ length tried → length ps ≤ mostMessages →
+pub pass-slot : (plan : Plan) (down : ℕ → ℕ → Bool) (owner : ℕ → ℕ → ℕ) (i : ℕ) (tried : List ℕ) (ps : List S.Position) → triers tried ≡ 0 → triesSize ≤ length tried → length ps ≤ mostMessages →
     pass (down i) (owner i) i tried 0 ps ≡ slot (orderOf plan) down owner i ps
 unfolding slot
 pass-slot plan down owner i tried ps z r l =

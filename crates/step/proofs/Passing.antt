@@ -8,7 +8,7 @@ use native.Mathlib.Numerals.{add-one}
 use lib.ListN.{length, getD, take, drop, length-map, List·getD-map, drop-of-length-le}
 use lib.Seq.{length-take-le, getD-take, getD-drop, drop-drop, drop-cons}
 use lib.Dec.{eqb}
-use Rattle.scope.specs.Limits.{mostMessages}
+use Rattle.scope.specs.Limits.{mostMessages, triesSize}
 use Rattle.scope.specs.Slot as S
 use Rattle.step.specs.declared.Position.{Position}
 use Rattle.step.specs.Where.{positionOf}
@@ -27,82 +27,103 @@ module _ (down : ℕ → Bool) (tried : List ℕ) (m : ℕ) (n : Noting tried m)
       by false = fits-noted tried m n (S.nextSecond (S.turn down p))
 
 module _ (row : List ℕ) (down : ℕ → Bool) (owner : ℕ → ℕ) (i n : ℕ) (old : List Position) (tried₀ : List ℕ) where
-  -- where the messages stand, and what all do
-  abbrev pub stands : List S.Position
-  stands = positionsOf row n old
-
-  abbrev pub all : List S.Moved
-  all = pass down owner i tried₀ 0 (positionsOf row n old)
+  -- what all do
+  abbrev pub passes : List S.Moved
+  passes = pass down owner i tried₀ 0 (positionsOf row n old)
 
   pub record Passing (m : ℕ) (tried : List ℕ) : Type 0 where
     pub few : m ≤ n
     pub most : n ≤ mostMessages
     pub long : n ≤ length old
     pub same : length tried ≡ length tried₀
-    pub room : 65 ≤ length tried₀
+    pub room : triesSize ≤ length tried₀
     pub counted : triers tried ≤ m
     pub below : (j : ℕ) → j < triers tried → triedBy tried j < m
     pub left : drop m (pass down owner i tried₀ 0 (positionsOf row n old)) ≡ pass down owner i tried m (drop m (positionsOf row n old))
     pub noted : allTried down tried₀ 0 (positionsOf row n old) ≡ allTried down tried m (drop m (positionsOf row n old))
 
-  pub passing-none : n ≤ mostMessages → n ≤ length old → 65 ≤ length tried₀ → triers tried₀ ≡ 0 → Passing 0 tried₀
+  pub passing-none : n ≤ mostMessages → n ≤ length old → triesSize ≤ length tried₀ → triers tried₀ ≡ 0 → Passing 0 tried₀
   passing-none a b c d =
-      record { few = omega arith; most = a; long = b; same = refl; room = c; counted = omega arith; below = λ j h. absurd (omega arith); left = refl; noted = refl }
+      record {
+        few = omega arith;
+        most = a;
+        long = b;
+        same = refl;
+        room = c;
+        counted = omega arith;
+        below = λ j h. absurd (omega arith);
+        left = refl;
+        noted = refl;
+      }
 
-  pub stands-length : n ≤ length old → length stands ≡ n
-  stands-length h = length-map (take n old) (positionOf row) ∙ length-take-le n old h
+pass-length : (down : ℕ → Bool) (owner : ℕ → ℕ) (i : ℕ) (tried : List ℕ) (m : ℕ) (ps : List S.Position) →
+    length (pass down owner i tried m ps) ≡ length ps
+unfolding pass
+pass-length down owner i tried m [] = refl
+pass-length down owner i tried m (p ∷ ps) = ap suc (pass-length down owner i (triedAfter down tried m p) (m + 1) ps)
 
-  pass-length : (tried : List ℕ) (m : ℕ) (ps : List S.Position) → length (pass down owner i tried m ps) ≡ length ps
+module _ {row : List ℕ} {down : ℕ → Bool} {owner : ℕ → ℕ} {i n : ℕ} {old : List Position} {tried₀ : List ℕ} {m : ℕ} {tried : List ℕ}
+    (g : Passing row down owner i n old tried₀ m tried) where
+  -- where the messages stand, what they do, and where message m stands
+  abbrev stands : List S.Position
+  stands = positionsOf row n old
+
+  abbrev all : List S.Moved
+  all = passes row down owner i n old tried₀
+
+  abbrev here : S.Position
+  here = positionOf row (getD old m home)
+
+  pub stands-length : length (positionsOf row n old) ≡ n
+  stands-length = length-map (take n old) (positionOf row) ∙ length-take-le n old (g .long)
+
+  pub all-length : length (passes row down owner i n old tried₀) ≡ n
+  all-length = pass-length down owner i tried₀ 0 stands ∙ stands-length
+
+  pub passing-notes : m < n → Noting tried m
+  passing-notes h =
+      record { low = omega (arith, g .most); room = omega (arith, g .room, g .same); few = g .counted; below = g .below }
+
+  -- message m is the first that is still to go
+  next : m < n → drop m stands ≡ here ∷ drop (m + 1) stands
+  next h =
+      let at : getD stands m (positionOf row home) ≡ here =
+      List·getD-map (positionOf row) (take n old) m home ∙ ap (positionOf row) (getD-take n old m home h) in
+      drop-cons stands m (positionOf row home) (omega (arith, stands-length))
+      ∙ ap (λ p. p ∷ drop (suc m) stands) at ∙ ap (λ k. here ∷ drop k stands) (sym (add-one m))
+
+  now : m < n → drop m all ≡ does down owner i tried m here ∷ pass down owner i (triedAfter down tried m here) (m + 1) (drop (m + 1) stands)
   unfolding pass
-  pass-length tried m [] = refl
-  pass-length tried m (p ∷ ps) = ap suc (pass-length (triedAfter down tried m p) (m + 1) ps)
+  now h = g .left ∙ ap (pass down owner i tried m) (next h)
 
-  pub all-length : n ≤ length old → length all ≡ n
-  all-length h = pass-length tried₀ 0 stands ∙ stands-length h
+  pub passing-at : (d : S.Moved) → m < n →
+      getD (passes row down owner i n old tried₀) m d ≡ does down owner i tried m (positionOf row (getD old m home))
+  passing-at d h =
+      let z : m + 0 ≡ m = omega arith in
+      sym (ap (λ k. getD all k d) z) ∙ sym (getD-drop m all 0 d) ∙ ap (λ l. getD l 0 d) (now h)
 
-  pub stands-at : (m : ℕ) → m < n → getD stands m (positionOf row home) ≡ positionOf row (getD old m home)
-  stands-at m h = List·getD-map (positionOf row) (take n old) m home ∙ ap (positionOf row) (getD-take n old m home h)
+  pub passing-more : (tried′ : List ℕ) → m < n → tried′ ≡ triedAfter down tried m (positionOf row (getD old m home)) →
+      Passing row down owner i n old tried₀ (m + 1) tried′
+  unfolding allTried
+  passing-more tried′ h e = rw e more
+    where
+      more : Passing row down owner i n old tried₀ (m + 1) (triedAfter down tried m here)
+      more =
+          let f = fits-after down tried m (passing-notes h) here in
+          record {
+            few = omega arith;
+            most = g .most;
+            long = g .long;
+            same = f .same ∙ g .same;
+            room = g .room;
+            counted = f .few;
+            below = f .below;
+            left = sym (drop-drop 1 m all) ∙ ap (drop 1) (now h);
+            noted = g .noted ∙ ap (allTried down tried m) (next h);
+          }
 
-  module _ (m : ℕ) (tried : List ℕ) (g : Passing m tried) where
-    pub passing-notes : m < n → Noting tried m
-    passing-notes h = record { low = omega (arith, g .most); room = omega (arith, g .room, g .same); few = g .counted; below = g .below }
-
-    -- message m is the first that is still to go
-    next : m < n → drop m stands ≡ positionOf row (getD old m home) ∷ drop (m + 1) stands
-    next h =
-        drop-cons stands m (positionOf row home) (omega (arith, stands-length (g .long)))
-        ∙ ap (λ p. p ∷ drop (suc m) stands) (stands-at m h) ∙ ap (λ k. positionOf row (getD old m home) ∷ drop k stands) (sym (add-one m))
-
-    now : m < n → drop m all ≡ does down owner i tried m (positionOf row (getD old m home)) ∷ pass down owner i (triedAfter down tried m (positionOf row (getD old m home))) (m + 1) (drop (m + 1) stands)
-    unfolding pass
-    now h = g .left ∙ ap (pass down owner i tried m) (next h)
-
-    pub passing-at : (d : S.Moved) → m < n → getD all m d ≡ does down owner i tried m (positionOf row (getD old m home))
-    passing-at d h =
-        let z : m + 0 ≡ m = omega arith in
-        sym (ap (λ k. getD all k d) z) ∙ sym (getD-drop m all 0 d) ∙ ap (λ l. getD l 0 d) (now h)
-
-    pub passing-more : (tried′ : List ℕ) → m < n → tried′ ≡ triedAfter down tried m (positionOf row (getD old m home)) → Passing (m + 1) tried′
-    unfolding allTried
-    passing-more tried′ h e = rw e more
-      where
-        more : Passing (m + 1) (triedAfter down tried m (positionOf row (getD old m home)))
-        more =
-            let f = fits-after down tried m (passing-notes h) (positionOf row (getD old m home)) in
-            record {
-              few = omega arith;
-              most = g .most;
-              long = g .long;
-              same = f .same ∙ g .same;
-              room = g .room;
-              counted = f .few;
-              below = f .below;
-              left = sym (drop-drop 1 m all) ∙ ap (drop 1) (now h);
-              noted = g .noted ∙ ap (allTried down tried m) (next h);
-            }
-
-    pub passing-done : n ≤ m → tried ≡ allTried down tried₀ 0 stands
-    unfolding allTried
-    passing-done h =
-        let f : length stands ≤ m = omega (arith, stands-length (g .long)) in
-        sym (g .noted ∙ ap (allTried down tried m) (drop-of-length-le stands f))
+  pub passing-done : n ≤ m → tried ≡ allTried down tried₀ 0 (positionsOf row n old)
+  unfolding allTried
+  passing-done h =
+      let f : length stands ≤ m = omega (arith, stands-length) in
+      sym (g .noted ∙ ap (allTried down tried m) (drop-of-length-le stands f))

@@ -4,7 +4,6 @@ use mathlib.Core.Logic.{⊎-elim}
 use native.Mathlib.Omega.{arith}
 use borrow.Author.Tests.{eqb-true, eqb-false, not-true, not-false}
 use borrow.Author.Needs.{needs}
-use Rattle.cuts.specs.Down.{isDown}
 use Rattle.table.specs.Table.{entryAt}
 use Rattle.step.proofs.Acting.{home-does, home-tried, acts-first, acts-cut, acts-tries}
 use Rattle.step.proofs.act_one.Statement.{statement}
@@ -16,16 +15,18 @@ is-home-requires c κs = search needs
 returns : tie.Need-returns
 returns c =
     let a = c .before .before .before .before .before .before .args in
-    let h : a .p .left ≡ 0 = eqb-true _ _ (sym (c .before .is-home .ensures) ∙ c .if1 .taken) in
+    let q = a .p in
+    let h : q .left ≡ 0 = eqb-true _ _ (sym (c .before .is-home .ensures) ∙ c .if1 .taken) in
     record {
-      acts = record { is = home-does (isDown (a .down .now)) (entryAt (a .table .now) (a .slot .0)) (a .slot .0) (a .tried .now) (a .m) (a .row .now) (a .p .turned) (a .p .at) (a .p .left) h; within = omega arith };
-      noted = home-tried (isDown (a .down .now)) (entryAt (a .table .now) (a .slot .0)) (a .slot .0) (a .tried .now) (a .m) (a .row .now) (a .p .turned) (a .p .at) (a .p .left) h;
+      acts = record { is = home-does _ _ (a .slot .0) (a .tried .now) (a .m) (a .row .now) (q .turned) (q .at) (q .left) h; within = omega arith };
+      noted = home-tried _ (entryAt (a .table .now) (a .slot .0)) (a .slot .0) (a .tried .now) (a .m) (a .row .now) (q .turned) (q .at) (q .left) h;
     }
 
 meets-requires : tie.Need-meets-requires
 meets-requires c κs =
-    let h : c .before .before .before .before .before .before .args .p .left ≡ 0 → ⊥ = eqb-false _ _ (sym (c .before .is-home .ensures) ∙ c .if1 .left) in
-    (omega (arith, h), c .before .before .before .before .before .before .pre .fit)
+    let s = c .before .before .before .before .before .before in
+    let h : s .args .p .left ≡ 0 → ⊥ = eqb-false _ _ (sym (c .before .is-home .ensures) ∙ c .if1 .left) in
+    (omega (arith, h), s .pre .fit)
 
 cast-entry : tie.Need-cast-entry
 cast-entry c = search needs
@@ -53,10 +54,13 @@ same-length c = search needs
 
 returns-2 : tie.Need-returns-2
 returns-2 c =
-    let a = c .before .before .before .before .before .before .before .before .before .before .before .before .before .before .before .before .before .before .before .before .args in
-    let g = c .before .before .before .before .before .before .before .before .before .before .before .before .before .meets .ensures in
-    acts-tries (isDown (a .down .now)) (entryAt (a .table .now) (a .slot .0)) (a .slot .0) (a .tried .now) (a .m) (a .row .now) (a .p) _ g _ _ _ _
-    (c .before .before .before .before .before .before .before .before .before .before .before .if2 .taken) (not-true _ (c .before .before .before .before .before .before .before .before .before .if3 .taken)) (c .before .before .before .before .before .before .before .entry .ensures) (c .before .before .before .before .before .first-trier .ensures .0) (c .before .before .before .note .ensures) (c .acts .ensures _ (g .cut))
+    let f = c .before .before .before .before .before in
+    let b = f .before .before .before .before in
+    let t = b .before .before .before .before in
+    let g = t .meets .ensures in
+    let a = t .before .before .before .before .before .before .before .args in
+    acts-tries _ _ (a .slot .0) (a .tried .now) (a .m) (a .row .now) (a .p) _ g _ _ _ _ (b .before .before .if2 .taken) (not-true _ (b .if3 .taken))
+    (f .before .before .entry .ensures) (f .first-trier .ensures .0) (c .before .before .before .note .ensures) (c .acts .ensures _ (g .cut))
 
 cast-acts-3 : tie.Need-cast-acts-3
 cast-acts-3 c = search needs
@@ -69,12 +73,13 @@ acts-requires-2 c κs = search needs
 
 returns-3 : tie.Need-returns-3
 returns-3 c =
-    let a = c .before .before .before .before .before .before .before .before .before .before .args in
-    let g = c .before .before .before .meets .ensures in
-    ⊎-elim
-    (λ w. acts-cut (isDown (a .down .now)) (entryAt (a .table .now) (a .slot .0)) (a .slot .0) (a .tried .now) (a .m) (a .row .now) (a .p) _ g _ _ _ _ (not-false _ (w .2 .left)) (c .acts2 .ensures _ (g .cut)))
-    (λ w. acts-first (isDown (a .down .now)) (entryAt (a .table .now) (a .slot .0)) (a .slot .0) (a .tried .now) (a .m) (a .row .now) (a .p) _ g _ _ _ _ (w .left) (c .acts2 .ensures _ (g .cut)))
-    (c .before .if2 .came)
+    let t = c .before .before .before in
+    let g = t .meets .ensures in
+    let a = t .before .before .before .before .before .before .before .args in
+    let e = entryAt (a .table .now) (a .slot .0) in
+    let does = c .acts2 .ensures _ (g .cut) in
+    ⊎-elim (λ w. acts-cut _ e (a .slot .0) (a .tried .now) (a .m) (a .row .now) (a .p) _ g _ _ _ _ (not-false _ (w .2 .left)) does)
+    (λ w. acts-first _ e (a .slot .0) (a .tried .now) (a .m) (a .row .now) (a .p) _ g _ _ _ _ (w .left) does) (c .before .if2 .came)
 
 pub act-one-spec : {M : Type 1} → statement M
 act-one-spec =

@@ -39,7 +39,11 @@ mul-tried-4 : tie.Need-mul-tried-4
 mul-tried-4 c = search needs
 
 slice-write-tried-2 : tie.Need-slice-write-tried-2
-slice-write-tried-2 c = omega (arith, length-set (c .before .args .tried .now) (2 * triers (c .before .args .tried .now) + 1) (c .before .args .link), c .before .pre .room, c .before .pre .few, c .before .pre .low)
+slice-write-tried-2 c =
+    let a = c .before .args in
+    let t = a .tried .now in
+    let g = c .before .pre in
+    omega (arith, length-set t (2 * triers t + 1) (a .link), g .room, g .few, g .low)
 
 add-tried-3 : tie.Need-add-tried-3
 add-tried-3 c = search needs
@@ -48,7 +52,11 @@ cast-tried-2 : tie.Need-cast-tried-2
 cast-tried-2 c = search needs
 
 slice-write-tried-3 : tie.Need-slice-write-tried-3
-slice-write-tried-3 c = omega (arith, length-set (c .before .args .tried .now) (2 * triers (c .before .args .tried .now) + 1) (c .before .args .link), length-set (set (c .before .args .tried .now) (2 * triers (c .before .args .tried .now) + 1) (c .before .args .link)) (2 * triers (c .before .args .tried .now) + 2) (c .before .args .m), c .before .pre .room)
+slice-write-tried-3 c =
+    let a = c .before .args in
+    let t = a .tried .now in
+    let u = set t (2 * triers t + 1) (a .link) in
+    omega (arith, length-set t (2 * triers t + 1) (a .link), length-set u (2 * triers t + 2) (a .m), c .before .pre .room)
 
 same-length : tie.Need-same-length
 same-length c = search needs
