@@ -1,4 +1,5 @@
--- The loop that moves the messages of a slot in the records that are lent: the first m stand where the slot puts them, and the rest as they did.
+-- The loop that moves the messages of a slot in the records that are lent: the first m stand where the slot puts them, and the rest as they
+-- did.
 use Prim.Native.Nat.{ℕ, _+_, _≤_, _<_}
 use mathlib.Core.Path.{_≡_, sym, _∙_, ap}
 use mathlib.Core.Bool.{Bool}
@@ -17,7 +18,8 @@ use Rattle.step.specs.Pass.{triers, MayAct, MovesIn, MayMoveAll, MovesAl
 use Rattle.step.proofs.Going.{nextFrom, Going, going-none, going-fits, going-more, going-done}
 use Rattle.step.proofs.Acting.{home-does, home-tried}
 use Rattle.step.proofs.Pass.{pass-slot}
-use Rattle.step.proofs.Passing.{passes, Passing, passing-none, passing-notes, passing-at, passing-more, passing-done, stands-length, all-length}
+use Rattle.step.proofs.Passing.{passes, Passing, passing-none, passing-notes, passing-at, passing-more, passing-done, stands-length}
+use Rattle.step.proofs.Passing.{all-length}
 
 -- the next positions, one by one
 nexts-from : (all : List S.Moved) (d : S.Moved) (m : ℕ) (ps : List S.Position) → m + length ps ≡ length all →

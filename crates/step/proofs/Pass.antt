@@ -15,7 +15,8 @@ use Rattle.scope.specs.Limits.{mostMessages, triesSize}
 use Rattle.scope.specs.Plan.{Plan}
 use Rattle.scope.specs.Cycle.{byNumber, orderOf, foremost, moves, slot}
 use Rattle.step.specs.Pass.{triers, triedLink, triedBy, foundAt, firstTrier, noted, Noting, triedAfter, does, pass}
-use Rattle.step.proofs.Tried.{fore-lowest, lowest-keep, lowest-here, lowest-next, trier-found, trier-none, noted-count, link-old, by-old, link-new, by-new, fits-noted}
+use Rattle.step.proofs.Tried.{fore-lowest, lowest-keep, lowest-here, lowest-next, trier-found, trier-none, noted-count, link-old}
+use Rattle.step.proofs.Tried.{by-old, link-new, by-new, fits-noted}
 
 -- `ts` has the links that all messages try, plus one
 module _ (ts : List ℕ) where
@@ -101,10 +102,12 @@ module _ (ts : List ℕ) where
         none : (e : ℕ) → triers tried ≤ foundAt tried e → (e₀ ≡ e → ⊥) → foundAt (noted tried e₀ m) e ≡ triers (noted tried e₀ m)
         none e h q =
             ap (lowest (λ j. eqb (triedLink (noted tried e₀ m) j) e)) count
-            ∙ lowest-next (λ j. eqb (triedLink (noted tried e₀ m) j) e) (triers tried) (full e h) (ne-eqb _ _ (λ y. q (sym (link-new tried m n e₀) ∙ y)))
+            ∙ lowest-next (λ j. eqb (triedLink (noted tried e₀ m) j) e) (triers tried) (full e h)
+            (ne-eqb _ _ (λ y. q (sym (link-new tried m n e₀) ∙ y)))
             ∙ sym count
 
-        other : (e : ℕ) → triers tried ≤ foundAt tried e → (b : Bool) → eqb e₀ e ≡ b → firstTrier (noted tried e₀ m) e (m + 1) ≡ lowest (trying e) (m + 1)
+        other : (e : ℕ) → triers tried ≤ foundAt tried e → (b : Bool) → eqb e₀ e ≡ b →
+            firstTrier (noted tried e₀ m) e (m + 1) ≡ lowest (trying e) (m + 1)
         other e h true b =
             let q : e₀ ≡ e = eqb-true _ _ b in
             let t : eqb (getD ts m 0) (e + 1) ≡ true = eq-eqb _ _ (z ∙ ap (λ x. x + 1) q) in
@@ -141,16 +144,19 @@ tries-next down (S.onSecond (e ∷ es)) h = by (down e) h
     by false h = refl
 
 module _ (down : ℕ → Bool) (owner : ℕ → ℕ) (i : ℕ) (ts : List ℕ) where
-  knows-after : (tried : List ℕ) (m : ℕ) (p : S.Position) → Knows ts tried m → m < mostMessages → getD ts m 0 ≡ S.tries down (S.turn down p) → Knows ts (triedAfter down tried m p) (m + 1)
+  knows-after : (tried : List ℕ) (m : ℕ) (p : S.Position) → Knows ts tried m → m < mostMessages → getD ts m 0 ≡ S.tries down (S.turn down p) →
+      Knows ts (triedAfter down tried m p) (m + 1)
   unfolding triedAfter
   knows-after tried m p k l t = by (eqb (S.tries down (S.turn down p)) 0) refl
     where
-      by : (b : Bool) → eqb (S.tries down (S.turn down p)) 0 ≡ b → Knows ts (cond b tried (noted tried (S.nextSecond (S.turn down p)) m)) (m + 1)
+      by : (b : Bool) → eqb (S.tries down (S.turn down p)) 0 ≡ b →
+          Knows ts (cond b tried (noted tried (S.nextSecond (S.turn down p)) m)) (m + 1)
       by true b = knows-not ts tried m k (t ∙ eqb-true _ _ b)
       by false b = knows-try ts tried m k (S.nextSecond (S.turn down p)) l (t ∙ tries-next down (S.turn down p) (eqb-false _ _ b))
 
   pass-moves : (tried : List ℕ) (m : ℕ) (ps : List S.Position) → Knows ts tried m → m + length ps ≡ length ts → length ts ≤ mostMessages →
-      drop m ts ≡ map (S.tries down) (map (S.turn down) ps) → pass down owner i tried m ps ≡ moves byNumber down owner i ts m (map (S.turn down) ps)
+      drop m ts ≡ map (S.tries down) (map (S.turn down) ps) →
+      pass down owner i tried m ps ≡ moves byNumber down owner i ts m (map (S.turn down) ps)
   unfolding pass moves does
   pass-moves tried m [] k l s d = refl
   pass-moves tried m (p ∷ ps) k l s d =
@@ -162,14 +168,16 @@ module _ (down : ℕ → Bool) (owner : ℕ → ℕ) (i : ℕ) (ts : List ℕ) w
       let rest : drop (m + 1) ts ≡ map (S.tries down) (map (S.turn down) ps) = sym (drop-drop 1 m ts) ∙ ap (drop 1) d in
       let more = pass-moves (triedAfter down tried m p) (m + 1) ps (knows-after tried m p k (omega arith) t) (omega arith) s rest in
       let held : not (eqb (foremost byNumber (S.nextSecond q) m 0 ts) m) ≡ ltb (foremost byNumber (S.nextSecond q) m 0 ts) m =
-      before _ m (omega (arith, fore-lowest (S.nextSecond q) m ts (omega arith), seek-most (λ k. eqb (getD ts k 0) (S.nextSecond q + 1)) m 0)) in
+      before _ m
+      (omega (arith, fore-lowest (S.nextSecond q) m ts (omega arith), seek-most (λ k. eqb (getD ts k 0) (S.nextSecond q + 1)) m 0)) in
       rw (f, held, more)
 
 -- all that the pass knows of a plan's order: messages go by their numbers
 order-is : (plan : Plan) (m : ℕ) → orderOf plan m ≡ m
 order-is plan m = refl
 
-pub pass-slot : (plan : Plan) (down : ℕ → ℕ → Bool) (owner : ℕ → ℕ → ℕ) (i : ℕ) (tried : List ℕ) (ps : List S.Position) → triers tried ≡ 0 → triesSize ≤ length tried → length ps ≤ mostMessages →
+pub pass-slot : (plan : Plan) (down : ℕ → ℕ → Bool) (owner : ℕ → ℕ → ℕ) (i : ℕ) (tried : List ℕ) (ps : List S.Position) → triers tried ≡ 0 →
+    triesSize ≤ length tried → length ps ≤ mostMessages →
     pass (down i) (owner i) i tried 0 ps ≡ slot (orderOf plan) down owner i ps
 unfolding slot
 pass-slot plan down owner i tried ps z r l =

@@ -43,7 +43,8 @@ module _ (row : List ℕ) (i n : ℕ) where
         by true = rw (numbers-none row i n h)
         by false = rw (places-none row i n h)
 
-    pub home-acts : (slot entry : ℕ) (held : Bool) (first : ℕ) → moved (leftAt row b i n) 0 0 ≡ act down slot entry held first (turn down (leftAt row b i n))
+    pub home-acts : (slot entry : ℕ) (held : Bool) (first : ℕ) →
+        moved (leftAt row b i n) 0 0 ≡ act down slot entry held first (turn down (leftAt row b i n))
     home-acts slot entry held first = by b
       where
         by : (b : Bool) → moved (leftAt row b i n) 0 0 ≡ act down slot entry held first (turn down (leftAt row b i n))

@@ -25,7 +25,8 @@ map-snoc f (y ∷ xs) x = ap (λ r. f y ∷ r) (map-snoc f xs x)
 pub positions-more : (row : List ℕ) (j : ℕ) (ps : List Position) → j < length ps →
     positionsOf row (j + 1) ps ≡ positionsOf row j ps ++ (positionOf row (getD ps j home) ∷ [])
 positions-more row j ps h =
-    ap (λ k. positionsOf row k ps) (add-one j) ∙ ap (map (positionOf row)) (take-suc ps j home h) ∙ map-snoc (positionOf row) (take j ps) (getD ps j home)
+    ap (λ k. positionsOf row k ps) (add-one j) ∙ ap (map (positionOf row)) (take-suc ps j home h) ∙
+    map-snoc (positionOf row) (take j ps) (getD ps j home)
 
 -- the lowest message that tries link e: past message m nobody goes first
 module _ (e : ℕ) where
@@ -58,12 +59,14 @@ module _ (e : ℕ) where
     tries-done h = past m j (drop j ts) h
 
   -- so it is the lowest message below m that tries the link
-  fore-seek : (m : ℕ) (ts : List ℕ) (k j : ℕ) → j + k ≡ m → m ≤ length ts → foremost byNumber e m j (drop j ts) ≡ seek (λ x. eqb (getD ts x 0) (e + 1)) k j
+  fore-seek : (m : ℕ) (ts : List ℕ) (k j : ℕ) → j + k ≡ m → m ≤ length ts →
+      foremost byNumber e m j (drop j ts) ≡ seek (λ x. eqb (getD ts x 0) (e + 1)) k j
   unfolding seek
   fore-seek m ts zero j h l = tries-done m j ts (omega arith) ∙ omega arith
   fore-seek m ts (suc k) j h l = by (eqb (getD ts j 0) (e + 1)) refl (fore-seek m ts k (j + 1) (omega arith) l)
     where
-      by : (b : Bool) → eqb (getD ts j 0) (e + 1) ≡ b → foremost byNumber e m (j + 1) (drop (j + 1) ts) ≡ seek (λ x. eqb (getD ts x 0) (e + 1)) k (j + 1) →
+      by : (b : Bool) → eqb (getD ts j 0) (e + 1) ≡ b →
+          foremost byNumber e m (j + 1) (drop (j + 1) ts) ≡ seek (λ x. eqb (getD ts x 0) (e + 1)) k (j + 1) →
           foremost byNumber e m j (drop j ts) ≡ cond b j (seek (λ x. eqb (getD ts x 0) (e + 1)) k (j + 1))
       by true b r = tries-it m j ts (omega arith) l (eqb-true (getD ts j 0) (e + 1) b)
       by false b r = tries-not m j ts (omega arith) l (eqb-false (getD ts j 0) (e + 1) b) ∙ r
@@ -81,9 +84,11 @@ module _ (test : ℕ → Bool) where
   snoc (suc n) i = by (test i) refl (snoc n (i + 1))
     where
       by : (b : Bool) → test i ≡ b →
-          seek test (suc n) (i + 1) ≡ cond (ltb (seek test n (i + 1)) (i + 1 + n)) (seek test n (i + 1)) (cond (test (i + 1 + n)) (i + 1 + n) (i + 1 + n + 1)) →
+          seek test (suc n) (i + 1) ≡ cond (ltb (seek test n (i + 1)) (i + 1 + n)) (seek test n (i + 1))
+          (cond (test (i + 1 + n)) (i + 1 + n) (i + 1 + n + 1)) →
           cond b i (seek test (suc n) (i + 1)) ≡
-          cond (ltb (cond b i (seek test n (i + 1))) (i + suc n)) (cond b i (seek test n (i + 1))) (cond (test (i + suc n)) (i + suc n) (i + suc n + 1))
+          cond (ltb (cond b i (seek test n (i + 1))) (i + suc n)) (cond b i (seek test n (i + 1)))
+          (cond (test (i + suc n)) (i + suc n) (i + suc n + 1))
       by true e r = rw (lt-ltb i (i + suc n) (omega arith))
       by false e r =
           let z : i + 1 + n ≡ i + suc n = omega arith in
@@ -123,29 +128,40 @@ module _ (tried : List ℕ) (e : ℕ) where
   pub trier-past : (m j : ℕ) → triers tried ≤ j → j ≡ foundAt tried e → m ≡ firstTrier tried e m
   trier-past m j h g = sym (trier-none m (omega arith))
 
-pub noted-is : (tried : List ℕ) (e m : ℕ) → set (set (set tried (2 * triers tried + 1) e) (2 * triers tried + 2) m) 0 (triers tried + 1) ≡ noted tried e m
+pub noted-is : (tried : List ℕ) (e m : ℕ) →
+    set (set (set tried (2 * triers tried + 1) e) (2 * triers tried + 2) m) 0 (triers tried + 1) ≡ noted tried e m
 unfolding noted
 noted-is tried e m = refl
 
 -- one more entry
 module _ (tried : List ℕ) (m : ℕ) (n : Noting tried m) (e₀ : ℕ) where
+  -- how many there are; the link stored, and its message too
+  abbrev k₀ : ℕ
+  k₀ = triers tried
+
+  abbrev one : List ℕ
+  one = set tried (2 * k₀ + 1) e₀
+
+  abbrev both : List ℕ
+  both = set one (2 * k₀ + 2) m
+
   pub noted-length : length (noted tried e₀ m) ≡ length tried
   unfolding noted
-  noted-length = length-set (set (set tried (2 * triers tried + 1) e₀) (2 * triers tried + 2) m) 0 (triers tried + 1) ∙ length-set (set tried (2 * triers tried + 1) e₀) (2 * triers tried + 2) m ∙ length-set tried (2 * triers tried + 1) e₀
+  noted-length = length-set both 0 (k₀ + 1) ∙ length-set one (2 * k₀ + 2) m ∙ length-set tried (2 * k₀ + 1) e₀
 
-  inner : length (set (set tried (2 * triers tried + 1) e₀) (2 * triers tried + 2) m) ≡ length tried
-  inner = length-set (set tried (2 * triers tried + 1) e₀) (2 * triers tried + 2) m ∙ length-set tried (2 * triers tried + 1) e₀
+  inner : length both ≡ length tried
+  inner = length-set one (2 * k₀ + 2) m ∙ length-set tried (2 * k₀ + 1) e₀
 
   pub noted-count : triers (noted tried e₀ m) ≡ triers tried + 1
   unfolding noted
-  noted-count = getD-set-same (set (set tried (2 * triers tried + 1) e₀) (2 * triers tried + 2) m) 0 (triers tried + 1) 0 (omega (arith, inner, n .room))
+  noted-count = getD-set-same both 0 (k₀ + 1) 0 (omega (arith, inner, n .room))
 
   -- an index that is not changed
-  old : (k : ℕ) → (k ≡ 0 → ⊥) → (k ≡ 2 * triers tried + 1 → ⊥) → (k ≡ 2 * triers tried + 2 → ⊥) → getD (noted tried e₀ m) k 0 ≡ getD tried k 0
+  old : (k : ℕ) → (k ≡ 0 → ⊥) → (k ≡ 2 * k₀ + 1 → ⊥) → (k ≡ 2 * k₀ + 2 → ⊥) → getD (noted tried e₀ m) k 0 ≡ getD tried k 0
   unfolding noted
   old k a b c =
-      getD-set-other (set (set tried (2 * triers tried + 1) e₀) (2 * triers tried + 2) m) 0 k (triers tried + 1) 0 a
-      ∙ getD-set-other (set tried (2 * triers tried + 1) e₀) (2 * triers tried + 2) k m 0 c ∙ getD-set-other tried (2 * triers tried + 1) k e₀ 0 b
+      getD-set-other both 0 k (k₀ + 1) 0 a
+      ∙ getD-set-other one (2 * k₀ + 2) k m 0 c ∙ getD-set-other tried (2 * k₀ + 1) k e₀ 0 b
 
   pub link-old : (j : ℕ) → j < triers tried → triedLink (noted tried e₀ m) j ≡ triedLink tried j
   link-old j h = old (2 * j + 1) (λ z. omega arith) (λ z. omega arith) (λ z. omega arith)
@@ -156,15 +172,15 @@ module _ (tried : List ℕ) (m : ℕ) (n : Noting tried m) (e₀ : ℕ) where
   pub link-new : triedLink (noted tried e₀ m) (triers tried) ≡ e₀
   unfolding noted
   link-new =
-      getD-set-other (set (set tried (2 * triers tried + 1) e₀) (2 * triers tried + 2) m) 0 (2 * triers tried + 1) (triers tried + 1) 0 (λ z. omega arith)
-      ∙ getD-set-other (set tried (2 * triers tried + 1) e₀) (2 * triers tried + 2) (2 * triers tried + 1) m 0 (λ z. omega arith)
-      ∙ getD-set-same tried (2 * triers tried + 1) e₀ 0 (omega (arith, n .room, n .few, n .low))
+      getD-set-other both 0 (2 * k₀ + 1) (k₀ + 1) 0 (λ z. omega arith)
+      ∙ getD-set-other one (2 * k₀ + 2) (2 * k₀ + 1) m 0 (λ z. omega arith)
+      ∙ getD-set-same tried (2 * k₀ + 1) e₀ 0 (omega (arith, n .room, n .few, n .low))
 
   pub by-new : triedBy (noted tried e₀ m) (triers tried) ≡ m
   unfolding noted
   by-new =
-      getD-set-other (set (set tried (2 * triers tried + 1) e₀) (2 * triers tried + 2) m) 0 (2 * triers tried + 2) (triers tried + 1) 0 (λ z. omega arith)
-      ∙ getD-set-same (set tried (2 * triers tried + 1) e₀) (2 * triers tried + 2) m 0 (omega (arith, length-set tried (2 * triers tried + 1) e₀, n .room, n .few, n .low))
+      getD-set-other both 0 (2 * k₀ + 2) (k₀ + 1) 0 (λ z. omega arith)
+      ∙ getD-set-same one (2 * k₀ + 2) m 0 (omega (arith, length-set tried (2 * k₀ + 1) e₀, n .room, n .few, n .low))
 
 -- after message m there is room to note the next, and whoever has been noted is lower than that
 pub record Fits (tried : List ℕ) (m : ℕ) (tried′ : List ℕ) : Type 0 where

@@ -73,11 +73,13 @@ pub record MayAct (row : List ℕ) (p : Position) (m i : ℕ) (tried : List ℕ)
   pub noting : Noting tried m
 
 -- it has acted, and it has moved
-pub record ActsIn (row : List ℕ) (down : ℕ → Bool) (owner : ℕ → ℕ) (i : ℕ) (p : Position) (m : ℕ) (tried tried′ : List ℕ) (r : Moved) : Type 0 where
+pub record ActsIn (row : List ℕ) (down : ℕ → Bool) (owner : ℕ → ℕ) (i : ℕ) (p : Position) (m : ℕ) (tried tried′ : List ℕ)
+    (r : Moved) : Type 0 where
   pub acts : Acts row p (does down owner i tried m (positionOf row p)) r
   pub noted : tried′ ≡ triedAfter down tried m (positionOf row p)
 
-pub record MovesIn (row : List ℕ) (down : ℕ → Bool) (owner : ℕ → ℕ) (i : ℕ) (p : Position) (m : ℕ) (tried tried′ : List ℕ) (r : Position) : Type 0 where
+pub record MovesIn (row : List ℕ) (down : ℕ → Bool) (owner : ℕ → ℕ) (i : ℕ) (p : Position) (m : ℕ) (tried tried′ : List ℕ)
+    (r : Position) : Type 0 where
   pub next : Leads row p (does down owner i tried m (positionOf row p) .next) r
   pub noted : tried′ ≡ triedAfter down tried m (positionOf row p)
 
@@ -91,7 +93,8 @@ pub record MayMoveAll (row : List ℕ) (ps : List Position) (n i : ℕ) (tried :
 
 -- they have moved: the first n records are the next positions of the slot, the records past them are as they were, and the list has who
 -- tried what
-pub record MovesAll (row : List ℕ) (n : ℕ) (down : ℕ → ℕ → Bool) (owner : ℕ → ℕ → ℕ) (i : ℕ) (ps ps′ : List Position) (tried tried′ : List ℕ) : Type 0 where
+pub record MovesAll (row : List ℕ) (n : ℕ) (down : ℕ → ℕ → Bool) (owner : ℕ → ℕ → ℕ) (i : ℕ) (ps ps′ : List Position)
+    (tried tried′ : List ℕ) : Type 0 where
   pub next : Become row n (nexts (slot (orderOf (planOf row)) down owner i (positionsOf row n ps))) ps′
   pub rest : drop n ps′ ≡ drop n ps
   pub noted : tried′ ≡ allTried (down i) tried 0 (positionsOf row n ps)

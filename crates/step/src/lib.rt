@@ -239,7 +239,8 @@ impl Met {
     // What message m does in a slot once it has turned, if it must: self is what it meets. `entry` is what the table has for the link before
     // it, and `first` who goes first of those that try that link, m itself where nobody is before it.
     pub fn acts(self, row: &[u16], slot: Slot, entry: u8, first: u16, m: u16) -> Moved
-        requires { ⌜ (0 < self .position .left) × (endOf (now row) (self .position) < 65536) × (self .link ≡ at (now row) (self .position .at)) ⌝ }
+        requires { ⌜ (0 < self .position .left) × (endOf (now row) (self .position) < 65536) ×
+            (self .link ≡ at (now row) (self .position .at)) ⌝ }
         ensures { λ r. ⌜ MetActs (now (row .entry)) (slot .0) entry (not (eqb first m)) first self r ⌝ }
     {
         let p = self.position;

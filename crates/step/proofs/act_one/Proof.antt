@@ -18,8 +18,12 @@ returns c =
     let q = a .p in
     let h : q .left ≡ 0 = eqb-true _ _ (sym (c .before .is-home .ensures) ∙ c .if1 .taken) in
     record {
-      acts = record { is = home-does _ _ (a .slot .0) (a .tried .now) (a .m) (a .row .now) (q .turned) (q .at) (q .left) h; within = omega arith };
-      noted = home-tried _ (entryAt (a .table .now) (a .slot .0)) (a .slot .0) (a .tried .now) (a .m) (a .row .now) (q .turned) (q .at) (q .left) h;
+      acts = record {
+        is = home-does _ _ (a .slot .0) (a .tried .now) (a .m) (a .row .now) (q .turned) (q .at) (q .left) h;
+        within = omega arith;
+      };
+      noted = home-tried _ (entryAt (a .table .now) (a .slot .0)) (a .slot .0) (a .tried .now) (a .m) (a .row .now) (q .turned) (q .at)
+          (q .left) h;
     }
 
 meets-requires : tie.Need-meets-requires
@@ -59,7 +63,8 @@ returns-2 c =
     let t = b .before .before .before .before in
     let g = t .meets .ensures in
     let a = t .before .before .before .before .before .before .before .args in
-    acts-tries _ _ (a .slot .0) (a .tried .now) (a .m) (a .row .now) (a .p) _ g _ _ _ _ (b .before .before .if2 .taken) (not-true _ (b .if3 .taken))
+    acts-tries _ _ (a .slot .0) (a .tried .now) (a .m) (a .row .now) (a .p) _ g _ _ _ _ (b .before .before .if2 .taken)
+    (not-true _ (b .if3 .taken))
     (f .before .before .entry .ensures) (f .first-trier .ensures .0) (c .before .before .before .note .ensures) (c .acts .ensures _ (g .cut))
 
 cast-acts-3 : tie.Need-cast-acts-3

@@ -25,7 +25,9 @@ pub record Looking (tried : List ℕ) (link m n j : ℕ) : Type 0 where
 
 -- so entry j stands within the list
 in-list : {tried : List ℕ} {link m n j : ℕ} → Looking tried link m n j → j < n → (j < mostMessages) × (2 * j + 2 < length tried)
-in-list v h = let few = v .noting .few in (omega (arith, v .all, few, v .noting .low), omega (arith, v .all, few, v .noting .low, v .noting .room))
+in-list v h =
+    let n = v .noting in
+    (omega (arith, v .all, n .few, n .low), omega (arith, v .all, n .few, n .low, n .room))
 
 abbrev Inv-loop : tie.InvT-loop
 Inv-loop tried link m n j₀ j = Looking tried link m n j

@@ -1,6 +1,4 @@
 -- `step::move_one` meets its contract: the next position of what it does. Assumes nothing.
-use Rattle.cuts.specs.Down.{isDown}
-use Rattle.table.specs.Table.{entryAt}
 use Rattle.step.proofs.Acting.{moves-by}
 use borrow.Author.Needs.{needs}
 use Rattle.step.proofs.move_one.Statement.{statement}
@@ -13,9 +11,7 @@ same-length : tie.Need-same-length
 same-length c = search needs
 
 returns : tie.Need-returns
-returns c =
-    let a = c .before .before .before .before .before .before .before .before .before .args in
-    moves-by (isDown (a .down .now)) (entryAt (a .table .now) (a .slot .0)) (a .slot .0) (a .tried .now) (a .m) (a .row .now) (a .p) _ (c .before .before .before .act-one .result) (c .before .before .before .act-one .ensures)
+returns c = moves-by (c .before .before .before .act-one .ensures)
 
 pub move-one-spec : {M : Type 1} → statement M
 move-one-spec = tie.close (tie.spec act-one-requires same-length returns)

@@ -25,7 +25,8 @@ returns c =
     let s = c .before in
     let a = s .args in
     record {
-      is = law.second-stays (a .row .now) (a .self) (s .pre .1) (s .pre .0) (a .entry) (a .first) (a .m) _ (s .pre .3) (a .down) (c .if1 .taken);
+      is = law.second-stays (a .row .now) (a .self) (s .pre .1) (s .pre .0) (a .entry) (a .first) (a .m) _ (s .pre .3) (a .down)
+          (c .if1 .taken);
       within = omega arith;
     }
 

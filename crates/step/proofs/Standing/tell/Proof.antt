@@ -4,7 +4,9 @@ use Rattle.step.proofs.Standing.tell.Statement.{statement}
 use Rattle.step.proofs.Standing.tell.Tie as tie
 
 tell-all-requires : tie.Need-tell-all-requires
-tell-all-requires c κs = record { stand = c .before .before .before .before .before .before .pre .go .stand; early = c .before .before .before .before .before .before .pre .go .early; enough = c .before .before .before .before .before .before .pre .enough }
+tell-all-requires c κs =
+    let g = c .before .before .before .before .before .before .pre in
+    record { stand = g .go .stand; early = g .go .early; enough = g .enough }
 
 same-length : tie.Need-same-length
 same-length c = search needs
