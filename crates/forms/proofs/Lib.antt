@@ -1,3 +1,5 @@
+pub mod Parts
+pub mod Passing
 pub mod Walk
 pub mod Tail
 pub mod Filling

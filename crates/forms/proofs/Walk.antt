@@ -1,6 +1,6 @@
 -- One law for each way that a loop over the fields can go: over a row, and over the bits of a file. What is left gives the whole answer.
 use Prim.Native.Nat.{ℕ, zero, suc, _+_, _^_, _≤_, _<_}
-use mathlib.Core.Path.{_≡_, refl, sym, _∙_, ap}
+use mathlib.Core.Path.{_≡_, refl, sym, ap}
 use mathlib.Core.List.{List, [], _∷_}
 use native.Mathlib.Numerals.{add-one}
 use native.Mathlib.Omega.{arith}
@@ -98,21 +98,3 @@ module _ (bs : List ℕ) (s : Fields) (p n : ℕ) where
       fieldsOf (suc n) s p bs ≡ fieldAt bs p (width s) ∷ fieldsOf n (step s (fieldAt bs p (width s))) (p + width s) bs
   unfolding fieldsOf
   fields-step w l = rw (ne-eqb (width s) 0 w, le-leb (p + width s) (length bs) l)
-
--- a walk over a row stands at index i: what is left gives the whole answer
-pub record OnRow (row : List ℕ) (s : Fields) (i : ℕ) : Type 0 where
-  pub same : walkFrom s i (drop i row) ≡ walkRow row
-  pub narrow : s .slot ≤ 16
-
-pub on-first : (row : List ℕ) (v : ℕ) (s : Fields) → (length row ≡ 0 → ⊥) → v ≡ getD row 0 0 → v ≡ edition → s ≡ opening → OnRow row s 1
-on-first row v s l read is start = record { same = rw start (sym (row-opens row (omega arith) (sym read ∙ is))); narrow = rw start (omega arith) }
-
-pub on-step : (row : List ℕ) (s t : Fields) (i w v m : ℕ) → OnRow row s i → i < length row → w ≡ width s → (w ≡ 0 → ⊥) → v ≡ getD row i 0 →
-    m ≡ 2 ^ w → v < m → t ≡ step s v → OnRow row t (i + 1)
-on-step row s t i w v m h l wide some read power small next =
-    let nonzero : width s ≡ 0 → ⊥ = λ z. some (wide ∙ z) in
-    let fits : getD row i 0 < 2 ^ width s = rw (← read, ← wide, ← power) small in
-    record {
-      same = rw (next, read) (sym (from-step row s i l nonzero fits) ∙ h .same);
-      narrow = rw next (h .narrow);
-    }

@@ -1,6 +1,6 @@
-// Files and rows of a plan: a walk over the fields of either, with refusals 1 to 4, and each written as the other. Each walk is one
-// loop that asks `grammar` for the next field. proofs/Theorems.antt says what follows: files and rows give each other, and how long they
-// can be. It leans on scope's `Row` and `File`.
+// Files and rows of a plan: a walk over the fields of either, with refusals 1 to 4, and each written as the other. A file is walked by
+// one loop that asks `grammar` for the next field; so is a row that becomes a file. A row is judged part by part, fields of one width
+// at once. proofs/Theorems.antt says what follows: files and rows give each other, and how long they can be. It leans on scope's `Row` and `File`.
 use grammar::opening;
 use grammar::step;
 use grammar::width;
@@ -8,12 +8,16 @@ use scope::Answer;
 use scope::refuse;
 ghost use mathlib.Core.Path.{_≡_};
 ghost use Prim.Native.Nat.{_*_, _^_, _≤_, _<_};
-ghost use lib.ListN.{length};
+ghost use lib.ListN.{length, drop};
 ghost use Rattle.scope.specs.Outcome.{outcomeOf};
 ghost use Rattle.scope.specs.Row.{walkRow};
+ghost use Rattle.scope.specs.Plan.{at};
+ghost use Rattle.scope.specs.Fields.{nextPlace, nextMessage};
+ghost use Rattle.scope.specs.declared.Field.the-variants.{Vertices, Length, Link, SecondLength};
 ghost use Rattle.scope.specs.Bits.{bits};
 ghost use Rattle.scope.specs.File.{endsAt, walkFile, rowBits, fileOf};
 ghost use Rattle.scope.specs.Limits.{longestRow};
+ghost use Rattle.forms.specs.Walk.{fieldsFrom, restOf, Stops, Passes};
 ghost use Rattle.forms.specs.Unpack.{walkFields, Unpacks};
 ghost use Rattle.forms.specs.Pack.{Complete, Sized, Fitting, Packed};
 
@@ -21,6 +25,149 @@ ghost use Rattle.forms.specs.Pack.{Complete, Sized, Fitting, Packed};
 pub const LONGEST_ROW: usize = 10405;
 
 pub const LONGEST_FILE: usize = 7348;
+
+// Where n numbers from an index of a row on end: after them, or at the end of the row.
+fn stop(row: &[u16], i: usize, n: usize) -> usize
+    requires { ⌜ i ≤ length (now row) ⌝ }
+    ensures { λ r. ⌜ Stops (length (now (row .entry))) i n r ⌝ }
+{
+    if n <= row.len() - i {
+        return i + n;
+    }
+    row.len()
+}
+
+// So many fields of w bits from an index of a row on: refusal 2 or 3, or the index after them.
+fn walk_fields(row: &[u16], i: usize, n: usize, w: usize) -> Answer
+    requires { ⌜ (i ≤ length (now row)) × (w ≤ 16) ⌝ }
+    ensures { λ r. ⌜ outcomeOf r ≡ fieldsFrom w n i (drop i (now (row .entry))) ⌝ }
+{
+    let most = bits::power(w);
+    let end = stop(row, i, n);
+    let mut k = i;
+    while k < end {
+        if most <= row[k] as usize {
+            return refuse(3, k);
+        }
+        k += 1;
+    }
+    if end - i < n {
+        return refuse(2, k);
+    }
+    Answer::Gives(k)
+}
+
+// The numbers V, E, M, t and the ends of the links, which come before the messages.
+fn walk_head(row: &[u16]) -> Answer
+    requires { ⌜ 1 ≤ length (now row) ⌝ }
+    ensures { λ r. ⌜ Passes (now (row .entry)) (λ p m. Vertices) (λ p m. Length (at (now (row .entry)) 3)) 1 (outcomeOf r) ⌝ }
+{
+    let sizes = walk_fields(row, 1, 2, 6);
+    match sizes {
+        Answer::Gives(i) => {
+            let messages = walk_fields(row, i, 1, 5);
+            match messages {
+                Answer::Gives(j) => walk_fields(row, j, rows::links(row) * 2 + 1, 6),
+                Answer::Refused(r) => Answer::Refused(r),
+            }
+        }
+        Answer::Refused(r) => Answer::Refused(r),
+    }
+}
+
+// A second path, from its number of links on.
+fn walk_second(row: &[u16], i: usize) -> Answer
+    requires { ⌜ i ≤ length (now row) ⌝ }
+    ensures { λ r. ⌜ Passes (now (row .entry)) SecondLength nextPlace i (outcomeOf r) ⌝ }
+{
+    let count = walk_fields(row, i, 1, 4);
+    match count {
+        Answer::Gives(j) => walk_fields(row, j, rows::number(row, i) + 1, 6),
+        Answer::Refused(r) => Answer::Refused(r),
+    }
+}
+
+// A place: its link, slot and flag, and the second path from there.
+fn walk_place(row: &[u16], i: usize) -> Answer
+    requires { ⌜ i ≤ length (now row) ⌝ }
+    ensures { λ r. ⌜ Passes (now (row .entry)) Link nextPlace i (outcomeOf r) ⌝ }
+{
+    let held = walk_fields(row, i, 2, 6);
+    match held {
+        Answer::Gives(at) => {
+            let flag = walk_fields(row, at, 1, 1);
+            match flag {
+                Answer::Gives(j) => {
+                    if rows::number(row, at) == 1 {
+                        return walk_second(row, j);
+                    }
+                    Answer::Gives(j)
+                }
+                Answer::Refused(r) => Answer::Refused(r),
+            }
+        }
+        Answer::Refused(r) => Answer::Refused(r),
+    }
+}
+
+// So many places.
+fn walk_places(row: &[u16], i: usize, n: usize) -> Answer
+    requires { ⌜ i ≤ length (now row) ⌝ }
+    ensures { λ r. ⌜ Passes (now (row .entry)) (λ p m. nextPlace n m) (λ p m. nextMessage m) i (outcomeOf r) ⌝ }
+{
+    let mut at = i;
+    let mut left = n;
+    while 0 < left {
+        let passed = walk_place(row, at);
+        match passed {
+            Answer::Gives(next) => {
+                at = next;
+            }
+            Answer::Refused(r) => {
+                return Answer::Refused(r);
+            }
+        }
+        left -= 1;
+    }
+    Answer::Gives(at)
+}
+
+// A message: how many places it has, and these.
+fn walk_message(row: &[u16], i: usize) -> Answer
+    requires { ⌜ i ≤ length (now row) ⌝ }
+    ensures { λ r. ⌜ Passes (now (row .entry)) (λ p m. Length m) (λ p m. nextMessage m) i (outcomeOf r) ⌝ }
+{
+    let count = walk_fields(row, i, 1, 4);
+    match count {
+        Answer::Gives(j) => walk_places(row, j, rows::place_count(row, i)),
+        Answer::Refused(r) => Answer::Refused(r),
+    }
+}
+
+// So many messages, and refusal 4 where more follows.
+fn walk_messages(row: &[u16], i: usize, n: usize) -> Answer
+    requires { ⌜ i ≤ length (now row) ⌝ }
+    ensures { λ r. ⌜ outcomeOf r ≡ restOf (now (row .entry)) (nextMessage n) i ⌝ }
+{
+    let mut at = i;
+    let mut left = n;
+    while 0 < left {
+        let passed = walk_message(row, at);
+        match passed {
+            Answer::Gives(next) => {
+                at = next;
+            }
+            Answer::Refused(r) => {
+                return Answer::Refused(r);
+            }
+        }
+        left -= 1;
+    }
+    if at < row.len() {
+        return refuse(4, at);
+    }
+    Answer::Gives(at)
+}
 
 // Refusals 1 to 4 of a row, or how many numbers it has.
 pub fn walk_row(row: &[u16]) -> Answer
@@ -32,24 +179,10 @@ pub fn walk_row(row: &[u16]) -> Answer
     if rows::number(row, 0) != 1 {
         return refuse(1, 0);
     }
-    let mut s = opening();
-    let mut i: usize = 1;
-    while i < row.len() {
-        let w = width(s);
-        if w == 0 {
-            return refuse(4, i);
-        }
-        let v = rows::number(row, i);
-        if bits::power(w) <= v {
-            return refuse(3, i);
-        }
-        s = step(s, v);
-        i += 1;
-    }
-    if width(s) == 0 {
-        Answer::Gives(i)
-    } else {
-        refuse(2, i)
+    let head = walk_head(row);
+    match head {
+        Answer::Gives(i) => walk_messages(row, i, rows::messages(row)),
+        Answer::Refused(r) => Answer::Refused(r),
     }
 }
 

@@ -1,0 +1,106 @@
+-- `forms::walk_fields` meets its contract. The loop's invariant: what is left gives the whole answer. Assumes nothing.
+use Prim.Native.Nat.{_+_, _-_, _^_, _≤_, _<_}
+use mathlib.Core.Path.{_∙_}
+use lib.ListN.{getD}
+use native.Mathlib.Omega.{arith}
+use borrow.Author.Needs.{needs}
+use Rattle.forms.proofs.Parts.{OnFields, fields-first, fields-large, fields-next, fields-short, fields-done}
+use borrow.Author.Needs.{needs}
+use Rattle.forms.proofs.walk_fields.Statement.{statement}
+use Rattle.forms.proofs.walk_fields.Tie as tie
+
+abbrev Inv-loop : tie.InvT-loop
+Inv-loop row i n w most end k₀ k = OnFields row w n i k × (k ≤ end)
+
+abbrev μ-loop : tie.MeasureT-loop
+μ-loop row i n w most end k₀ k = end - k
+
+power-requires : tie.Need-power-requires Inv-loop μ-loop
+power-requires c κs = search needs
+
+stop-requires : tie.Need-stop-requires Inv-loop μ-loop
+stop-requires c κs = search needs
+
+loop-holds : tie.Need-loop-holds Inv-loop μ-loop
+loop-holds c = (fields-first _ _ _ _, c .stop .ensures .from)
+
+mul-if1 : tie.Need-mul-if1 Inv-loop μ-loop
+mul-if1 c = search needs
+
+shared-slice-read-if1 : tie.Need-shared-slice-read-if1 Inv-loop μ-loop
+shared-slice-read-if1 c = search needs
+
+cast-if1 : tie.Need-cast-if1 Inv-loop μ-loop
+cast-if1 c = omega (arith, c .shared-slice-known2 .given (c .before .before .loop .k))
+
+refuse-requires : tie.Need-refuse-requires Inv-loop μ-loop
+refuse-requires c κs = search needs
+
+returns : tie.Need-returns Inv-loop μ-loop
+returns c =
+    let a = c .before .before .before .before .before .before .before .before .args in
+    let at = c .before .before .before .before .loop in
+    let end = c .before .before .before .before .before .stop .ensures in
+    let more = c .before .before .before .loop-test .taken in
+    let large : 2 ^ a .w ≤ getD (a .row .now) (at .k) 0 = rw (← c .before .before .before .before .before .before .power .ensures .is) (c .before .if1 .taken) in
+    c .refuse .ensures ∙ fields-large (a .row .now) (a .w) (a .n) (a .i) (at .k) (at .inv .0) (omega (arith, more, end .inside)) (omega (arith, more, end .most)) large
+
+add-k : tie.Need-add-k Inv-loop μ-loop
+add-k c = search needs
+
+loop-less : tie.Need-loop-less Inv-loop μ-loop
+loop-less c = search needs
+
+loop-again : tie.Need-loop-again Inv-loop μ-loop
+loop-again c =
+    let a = c .before .before .before .before .before .before .before .args in
+    let at = c .before .before .before .loop in
+    let end = c .before .before .before .before .stop .ensures in
+    let more = c .before .before .loop-test .taken in
+    let small : getD (a .row .now) (at .k) 0 < 2 ^ a .w = rw (← c .before .before .before .before .before .power .ensures .is) (c .if1 .left) in
+    (fields-next (a .row .now) (a .w) (a .n) (a .i) (at .k) (at .inv .0) (omega (arith, more, end .inside)) (omega (arith, more, end .most)) small, omega (arith, more))
+
+sub-if2 : tie.Need-sub-if2 Inv-loop μ-loop
+sub-if2 c = search needs
+
+refuse-requires-2 : tie.Need-refuse-requires-2 Inv-loop μ-loop
+refuse-requires-2 c κs = search needs
+
+returns-2 : tie.Need-returns-2 Inv-loop μ-loop
+returns-2 c =
+    let a = c .before .before .before .before .before .before .before .args in
+    let at = c .before .before .before .loop in
+    let end = c .before .before .before .before .stop .ensures in
+    let few = c .before .if2 .taken in
+    let done = c .before .before .loop-test .left in
+    let over : at .k < a .i + a .n = omega (arith, few, end .from, at .inv .1) in
+    c .refuse2 .ensures ∙ fields-short (a .row .now) (a .w) (a .n) (a .i) (at .k) (at .inv .0) (omega (arith, done, end .short (omega (arith, few, end .from)))) over
+
+returns-3 : tie.Need-returns-3 Inv-loop μ-loop
+returns-3 c =
+    let a = c .before .before .before .before .before .before .args in
+    let at = c .before .before .loop in
+    let end = c .before .before .before .stop .ensures in
+    fields-done (a .row .now) (a .w) (a .n) (a .i) (at .k) (at .inv .0) (omega (arith, c .if2 .left, c .before .loop-test .left, at .inv .1, end .from, end .most))
+
+pub walk-fields-spec : {M : Type 1} → statement M
+walk-fields-spec =
+    tie.close
+    (tie.spec
+    Inv-loop
+    μ-loop
+    power-requires
+    stop-requires
+    loop-holds
+    mul-if1
+    shared-slice-read-if1
+    cast-if1
+    refuse-requires
+    returns
+    add-k
+    loop-less
+    loop-again
+    sub-if2
+    refuse-requires-2
+    returns-2
+    returns-3)
