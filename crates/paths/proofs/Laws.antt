@@ -9,7 +9,7 @@ use borrow.Author.Tests.{ltb-true, ltb-false}
 use lib.ListN.{length, length-set, getD, take, drop, set, List·getD-eq-default}
 use lib.Seq.{take-suc-set, drop-set-lt, drop-drop}
 use lib.Dec.{ltb}
-use Rattle.scope.specs.Plan.{Plan, at, placeSize, placesAt, placeCount, messageAt, linkCount, planOf, linkOf}
+use Rattle.scope.specs.Plan.{Plan, at, placeSize, placesAt, afterPlaces, afterMessages, placeCount, messageAt, linkCount, planOf, linkOf}
 use Rattle.scope.specs.Good.{linksOf, headOf, lastOf, endOf}
 use Rattle.rows.specs.declared.RowPlace.{RowPlace}
 use Rattle.rows.specs.View.{IsPlace}
@@ -55,6 +55,11 @@ module _ (row : List ℕ) (lies : PlanLies row) (e : ℕ) where
 
   pub to-small : linkOf (planOf row) e .to < 64
   to-small = small (ltb e (linkCount row)) refl .1
+
+-- and stand in the row
+pub links-inside : (row : List ℕ) → PlanLies row → 5 + 2 * linkCount row ≤ length row
+unfolding afterPlaces afterMessages
+links-inside row lies = omega (arith, lies .message 0 (omega arith) .place 0 (omega arith) .lies)
 
 -- the last link, and the first
 pub end-none : (plan : Plan) (path : List ℕ) → length path ≡ 0 → linkOf plan 0 .to ≡ endOf plan path

@@ -12,57 +12,65 @@ use lib.Dec.{ltb, eqb}
 use Rattle.scope.specs.Limits.{mostVertices}
 use Rattle.scope.specs.Plan.{Plan, linkOf}
 use Rattle.scope.specs.Good.{areLinks, joins, visited, has, different, isPathFrom}
+use Rattle.paths.specs.declared.Ends.{Ends}
 use Rattle.paths.specs.declared.Fault.{Fault}
-use Rattle.paths.specs.Path.{faultAt, firstFault}
+use Rattle.paths.specs.Path.{EndsOf, faultAt, firstFault}
 
--- one mark a vertex: 1 where it is met, 0 where it is not
-pub record Marks (met marks : List ℕ) : Type 0 where
-  pub long : length marks ≡ mostVertices
-  pub are : (w : ℕ) → w < mostVertices → getD marks w 0 ≡ cond (has w met) 1 0
+-- one mark for each of n things: 1 where it is met, 0 where it is not
+pub record Marks (n : ℕ) (met : ℕ → Bool) (marks : List ℕ) : Type 0 where
+  pub long : length marks ≡ n
+  pub are : (w : ℕ) → w < n → getD marks w 0 ≡ cond (met w) 1 0
 
-pub marks-none : (n : ℕ) → n ≡ mostVertices → Marks [] (replicate n 0)
-unfolding has
-marks-none n h = record { long = length-replicate n 0 ∙ h; are = λ w l. getD-replicate n w 0 0 (omega arith) }
+module _ (n : ℕ) where
+  pub marks-none : Marks n (λ w. false) (replicate n 0)
+  marks-none = record { long = length-replicate n 0; are = λ w l. getD-replicate n w 0 0 l }
 
-pub marks-more : (met marks : List ℕ) (v : ℕ) → Marks met marks → v < mostVertices → Marks (v ∷ met) (set marks v 1)
-unfolding has
-marks-more met marks v m h = record { long = length-set marks v 1 ∙ m .long; are = λ w l. by w l (eqb w v) refl }
-  where
-    by : (w : ℕ) → w < mostVertices → (t : Bool) → eqb w v ≡ t → getD (set marks v 1) w 0 ≡ cond (t || has w met) 1 0
-    by w l true e =
-        let same : w ≡ v = eqb-true w v e in
-        ap (λ x. getD (set marks v 1) x 0) same ∙ getD-set-same marks v 1 0 (omega (arith, m .long))
-    by w l false e =
-        getD-set-other marks v w 1 0 (eqb-false w v e) ∙ m .are w l
+  module _ (met : ℕ → Bool) (marks : List ℕ) (v : ℕ) (m : Marks n met marks) (h : v < n) where
+    pub marks-more : Marks n (λ w. eqb w v || met w) (set marks v 1)
+    marks-more = record { long = length-set marks v 1 ∙ m .long; are = λ w l. by w l (eqb w v) refl }
+      where
+        by : (w : ℕ) → w < n → (t : Bool) → eqb w v ≡ t → getD (set marks v 1) w 0 ≡ cond (t || met w) 1 0
+        by w l true e =
+            let same : w ≡ v = eqb-true w v e in
+            ap (λ x. getD (set marks v 1) x 0) same ∙ getD-set-same marks v 1 0 (omega (arith, m .long, h))
+        by w l false e = getD-set-other marks v w 1 0 (eqb-false w v e) ∙ m .are w l
 
-pub marks-met : (met marks : List ℕ) (w : ℕ) → Marks met marks → w < mostVertices → (getD marks w 0 ≡ 0 → ⊥) → has w met ≡ true
-marks-met met marks w m h n = by (has w met) refl
-  where
-    by : (t : Bool) → has w met ≡ t → t ≡ true
-    by true e = refl
-    by false e = absurd (n (m .are w h ∙ rw e))
+    pub marks-met : (getD marks v 0 ≡ 0 → ⊥) → met v ≡ true
+    marks-met d = by (met v) refl
+      where
+        by : (t : Bool) → met v ≡ t → t ≡ true
+        by true e = refl
+        by false e = absurd (d (m .are v h ∙ rw e))
 
-pub marks-new : (met marks : List ℕ) (w : ℕ) → Marks met marks → w < mostVertices → getD marks w 0 ≡ 0 → has w met ≡ false
-marks-new met marks w m h n = by (has w met) refl
-  where
-    by : (t : Bool) → has w met ≡ t → t ≡ false
-    by true e =
-        let z : getD marks w 0 ≡ 1 = m .are w h ∙ rw e in
-        absurd (omega arith)
-    by false e = refl
+    pub marks-new : getD marks v 0 ≡ 0 → met v ≡ false
+    marks-new d = by (met v) refl
+      where
+        by : (t : Bool) → met v ≡ t → t ≡ false
+        by true e =
+            let z : getD marks v 0 ≡ 1 = m .are v h ∙ rw e in
+            absurd (omega arith)
+        by false e = refl
 
 -- a loop over a path that began at vertex v, at step k and vertex u: what is left has the first fault of the whole
 pub record Walking (plan : Plan) (path : List ℕ) (v u k : ℕ) (marks : List ℕ) : Type 0 where
   pub met : List ℕ
-  pub marked : Marks met marks
+  pub marked : Marks mostVertices (λ x. has x met) marks
   pub same : firstFault plan met u k (drop k path) ≡ firstFault plan (v ∷ []) v 0 path
+
+-- link e is that of step k, and the plan has it
+pub record OnLink (plan : Plan) (path : List ℕ) (k e : ℕ) : Type 0 where
+  pub here : k < length path
+  pub is : e ≡ getD path k 0
+  pub there : e < length (plan .links)
 
 left-more : (l : List ℕ) (k : ℕ) → k < length l → drop k l ≡ getD l k 0 ∷ drop (k + 1) l
 left-more l k h = drop-cons l k 0 h ∙ ap (λ n. getD l k 0 ∷ drop n l) (sym (add-one k))
 
 module _ (plan : Plan) (path : List ℕ) (v : ℕ) where
-  pub walking-first : (marks : List ℕ) → v < mostVertices → Marks [] marks → Walking plan path v v 0 (set marks v 1)
-  walking-first marks h m = record { met = v ∷ []; marked = marks-more [] marks v m h; same = refl }
+  pub walking-first : v < mostVertices → Walking plan path v v 0 (set (replicate mostVertices 0) v 1)
+  unfolding has
+  walking-first h =
+      record { met = v ∷ []; marked = marks-more mostVertices (λ x. false) (replicate mostVertices 0) v (marks-none mostVertices) h; same = refl }
 
   module _ (u k : ℕ) (marks : List ℕ) (w : Walking plan path v u k marks) where
     -- nothing is left
@@ -70,54 +78,54 @@ module _ (plan : Plan) (path : List ℕ) (v : ℕ) where
     unfolding firstFault
     walking-done h = sym (ap (firstFault plan (w .met) u k) (drop-of-length-le path h)) ∙ w .same
 
-    module _ (links e : ℕ) (h : k < length path) (fe : e ≡ getD path k 0) (fl : links ≡ length (plan .links)) where
+    module _ (e : ℕ) (here : k < length path) (is : e ≡ getD path k 0) where
       fault : (n : ℕ) → faultAt plan (w .met) u e ≡ n → eqb n 0 ≡ false → record { rule = n; step = k } ≡ firstFault plan (v ∷ []) v 0 path
       unfolding firstFault
       fault n f z =
-          let g : faultAt plan (w .met) u (getD path k 0) ≡ n = ap (faultAt plan (w .met) u) (sym fe) ∙ f in
-          let here : firstFault plan (w .met) u k (drop k path) ≡ record { rule = n; step = k } = rw (left-more path k h, g, z) in
-          sym here ∙ w .same
+          let g : faultAt plan (w .met) u (getD path k 0) ≡ n = ap (faultAt plan (w .met) u) (sym is) ∙ f in
+          let found : firstFault plan (w .met) u k (drop k path) ≡ record { rule = n; step = k } = rw (left-more path k here, g, z) in
+          sym found ∙ w .same
 
       -- the link is none, it does not join, it meets a vertex again, it does neither
-      pub walking-no-link : links ≤ e → record { rule = 1; step = k } ≡ firstFault plan (v ∷ []) v 0 path
+      pub walking-no-link : length (plan .links) ≤ e → record { rule = 1; step = k } ≡ firstFault plan (v ∷ []) v 0 path
       walking-no-link b =
-          let t : ltb e (length (plan .links)) ≡ false = le-ltb e (length (plan .links)) (omega arith) in
+          let t : ltb e (length (plan .links)) ≡ false = le-ltb e (length (plan .links)) b in
           fault 1 (rw t) refl
 
-      module _ (b : e < links) where
-        is-link : ltb e (length (plan .links)) ≡ true
-        is-link = lt-ltb e (length (plan .links)) (omega arith)
+    module _ (e : ℕ) (on : OnLink plan path k e) (r : Ends) (ends : EndsOf plan e r) where
+      is-link : ltb e (length (plan .links)) ≡ true
+      is-link = lt-ltb e (length (plan .links)) (on .there)
 
-        pub walking-apart : (linkOf plan e .from ≡ u → ⊥) → record { rule = 2; step = k } ≡ firstFault plan (v ∷ []) v 0 path
-        walking-apart d =
-            let t : eqb (linkOf plan e .from) u ≡ false = ne-eqb _ _ d in
-            fault 2 (rw (is-link, t)) refl
+      pub walking-apart : (r .from ≡ u → ⊥) → record { rule = 2; step = k } ≡ firstFault plan (v ∷ []) v 0 path
+      walking-apart d =
+          let t : eqb (linkOf plan e .from) u ≡ false = ne-eqb _ _ (λ f. d (ends .from ∙ f)) in
+          fault e (on .here) (on .is) 2 (rw (is-link, t)) refl
 
-        module _ (j : linkOf plan e .from ≡ u) (a : ℕ) (fa : a ≡ linkOf plan e .to) (small : a < mostVertices) where
-          joined : eqb (linkOf plan e .from) u ≡ true
-          joined = eq-eqb _ _ j
+      module _ (j : r .from ≡ u) where
+        joined : eqb (linkOf plan e .from) u ≡ true
+        joined = eq-eqb _ _ (sym (ends .from) ∙ j)
 
-          pub walking-again : (getD marks a 0 ≡ 0 → ⊥) → record { rule = 3; step = k } ≡ firstFault plan (v ∷ []) v 0 path
-          walking-again d =
-              let t : has (linkOf plan e .to) (w .met) ≡ true = ap (λ x. has x (w .met)) (sym fa) ∙ marks-met (w .met) marks a
-              (w .marked) small d in
-              fault 3 (rw (is-link, joined, t)) refl
+        pub walking-again : (getD marks (r .to) 0 ≡ 0 → ⊥) → record { rule = 3; step = k } ≡ firstFault plan (v ∷ []) v 0 path
+        walking-again d =
+            let t : has (linkOf plan e .to) (w .met) ≡ true =
+            ap (λ x. has x (w .met)) (sym (ends .to)) ∙ marks-met mostVertices (λ x. has x (w .met)) marks (r .to) (w .marked) (ends .to-small) d in
+            fault e (on .here) (on .is) 3 (rw (is-link, joined, t)) refl
 
-          pub walking-next : getD marks a 0 ≡ 0 → Walking plan path v a (k + 1) (set marks a 1)
-          unfolding firstFault
-          walking-next d =
-              let t : has (linkOf plan e .to) (w .met) ≡ false = ap (λ x. has x (w .met)) (sym fa) ∙ marks-new (w .met) marks a
-              (w .marked) small d in
-              let z : faultAt plan (w .met) u e ≡ 0 = rw (is-link, joined, t) in
-              let on : firstFault plan (w .met) u k (e ∷ drop (k + 1) path) ≡ firstFault plan (linkOf plan e .to ∷ w .met)
-              (linkOf plan e .to) (k + 1) (drop (k + 1) path) = rw z in
-              let at : drop k path ≡ e ∷ drop (k + 1) path = left-more path k h ∙ ap (λ x. x ∷ drop (k + 1) path) (sym fe) in
-              record {
-                met = a ∷ w .met;
-                marked = marks-more (w .met) marks a (w .marked) small;
-                same = ap (λ x. firstFault plan (x ∷ w .met) x (k + 1) (drop (k + 1) path)) fa ∙ sym on ∙ sym
-                    (ap (firstFault plan (w .met) u k) at) ∙ w .same;
-              }
+        pub walking-next : getD marks (r .to) 0 ≡ 0 → Walking plan path v (r .to) (k + 1) (set marks (r .to) 1)
+        unfolding firstFault has
+        walking-next d =
+            let t : has (linkOf plan e .to) (w .met) ≡ false =
+            ap (λ x. has x (w .met)) (sym (ends .to)) ∙ marks-new mostVertices (λ x. has x (w .met)) marks (r .to) (w .marked) (ends .to-small) d in
+            let z : faultAt plan (w .met) u e ≡ 0 = rw (is-link, joined, t) in
+            let next : firstFault plan (w .met) u k (e ∷ drop (k + 1) path) ≡ firstFault plan (linkOf plan e .to ∷ w .met)
+            (linkOf plan e .to) (k + 1) (drop (k + 1) path) = rw z in
+            let at : drop k path ≡ e ∷ drop (k + 1) path = left-more path k (on .here) ∙ ap (λ x. x ∷ drop (k + 1) path) (sym (on .is)) in
+            record {
+              met = r .to ∷ w .met;
+              marked = marks-more mostVertices (λ x. has x (w .met)) marks (r .to) (w .marked) (ends .to-small);
+              same = ap (λ x. firstFault plan (x ∷ w .met) x (k + 1) (drop (k + 1) path)) (ends .to) ∙ sym next ∙ sym
+                  (ap (firstFault plan (w .met) u k) at) ∙ w .same;
+            }
 
 -- no number of a list is among those met, nor stands twice in it
 unfoldable fresh : List ℕ → List ℕ → Bool

@@ -1,13 +1,22 @@
 -- A path walked link by link, and what the links of a first path are in a buffer.
-use Prim.Native.Nat.{ℕ, _+_}
+use Prim.Native.Nat.{ℕ, _+_, _<_}
 use mathlib.Core.Path.{_≡_}
 use mathlib.Core.Bool.{cond}
 use mathlib.Core.List.{List, [], _∷_}
 use lib.ListN.{length, take, drop}
 use lib.Dec.{ltb, eqb}
+use Rattle.scope.specs.Limits.{mostVertices}
 use Rattle.scope.specs.Plan.{Plan, linkOf, placeCount, messageAt}
 use Rattle.scope.specs.Good.{has, linksOf}
+use Rattle.paths.specs.declared.Ends.{Ends}
 use Rattle.paths.specs.declared.Fault.{Fault}
+
+-- r has the ends of link e, which are vertices that a plan may have
+pub record EndsOf (plan : Plan) (e : ℕ) (r : Ends) : Type 0 where
+  pub from : r .from ≡ linkOf plan e .from
+  pub to : r .to ≡ linkOf plan e .to
+  pub from-small : r .from < mostVertices
+  pub to-small : r .to < mostVertices
 
 -- the rule that link e breaks behind vertex v, where these vertices are met already: 1, it is not below E; 2, it does not begin at v; 3, it
 -- ends at a vertex that is met already; 0, none of these

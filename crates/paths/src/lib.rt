@@ -7,10 +7,10 @@ ghost use mathlib.Core.List.{[], _∷_};
 ghost use Prim.Native.Nat.{_<_, _≤_, _^_};
 ghost use lib.ListN.{length};
 ghost use Rattle.scope.specs.Limits.{mostVertices};
-ghost use Rattle.scope.specs.Plan.{planOf, linkOf, placeCount};
+ghost use Rattle.scope.specs.Plan.{planOf, linkOf, linkCount, placeCount};
 ghost use Rattle.scope.specs.Good.{isPathFrom, endOf};
 ghost use Rattle.rows.specs.Lies.{PlanLies};
-ghost use Rattle.paths.specs.Path.{FirstLinks, firstFault};
+ghost use Rattle.paths.specs.Path.{EndsOf, FirstLinks, firstFault};
 
 // The vertices where a link begins and ends, 0 where there is no such link.
 pub fn link_from(row: &[u16], e: usize) -> usize
@@ -35,6 +35,22 @@ pub fn link_to(row: &[u16], e: usize) -> usize
     }
 }
 
+// Both ends of a link that is there.
+pub struct Ends {
+    pub from: usize,
+    pub to: usize,
+}
+
+pub fn ends_of(row: &[u16], e: usize) -> Ends
+    requires { ⌜ PlanLies (now row) × (e < linkCount (now row)) ⌝ }
+    ensures { λ r. ⌜ EndsOf (planOf (now (row .entry))) e r ⌝ }
+{
+    let i = e * 2 + 5;
+    let from = row[i] as usize;
+    let to = row[i + 1] as usize;
+    Ends { from, to }
+}
+
 // The first fault of a path: the rule that is broken, 0 where none is, and at which step.
 pub struct Fault {
     pub rule: usize,
@@ -56,10 +72,11 @@ pub fn first_fault(row: &[u16], v: usize, path: &[u16]) -> Fault
         if links <= e {
             return Fault { rule: 1, step: k };
         }
-        if link_from(row, e) != at {
+        let ends = ends_of(row, e);
+        if ends.from != at {
             return Fault { rule: 2, step: k };
         }
-        at = link_to(row, e);
+        at = ends.to;
         if met[at] != 0 {
             return Fault { rule: 3, step: k };
         }
