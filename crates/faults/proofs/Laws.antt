@@ -10,14 +10,15 @@ use lib.ListN.{length, getD, take, drop}
 use lib.Seq.{length-take-le, getD-take}
 use lib.Dec.{ltb, leb, eqb}
 use Rattle.scope.specs.Plan.{Plan, at, secondAt, secondCount, flagged, placeAt, placeSize, placesAt, afterPlaces, placeCount, messageAt, linkOf}
-use Rattle.scope.specs.Good.{isPathFrom, headOf, endOf, slotsRise, goodSecond, goodPlace, goodSeconds}
+use Rattle.scope.specs.Good.{isPathFrom, headOf, endOf, sameEnds, slotsRise, goodSecond, goodPlace, goodSeconds}
 use Rattle.rows.specs.declared.RowPlace.{RowPlace}
 use Rattle.rows.specs.View.{IsPlace}
 use Rattle.rows.proofs.Index.{places-suc}
 use Rattle.rows.proofs.Parts.{numbers-length, numbers-part, places-all, places-more, places-none}
 use Rattle.rows.proofs.Second.{no-links, some-links, links-next}
 use Rattle.table.specs.Table.{entryAt}
-use Rattle.paths.specs.Path.{FirstLinks}
+use Rattle.paths.specs.declared.Ends.{Ends}
+use Rattle.paths.specs.Path.{EndsOf, FirstLinks}
 use Rattle.paths.proofs.Laws.{head-first}
 use Rattle.faults.specs.Broken.{brokenPath, brokenSeconds, heldBelow, secondHolds}
 
@@ -42,13 +43,10 @@ module _ (w x y v a b : ℕ) (fv : v ≡ w) (fa : a ≡ x) (fb : b ≡ y) where
       twice true = refl
       twice false = refl
 
--- two links whose first ends are equal, are not
-module _ (x x′ y y′ f f′ : ℕ) (e : f ≡ x) (e′ : f′ ≡ x′) where
-  pub same-from : (t t′ : ℕ) → t ≡ y → t′ ≡ y′ → f ≡ f′ → eqb t t′ ≡ eqb x x′ && eqb y y′
-  same-from t t′ d d′ h = let s : eqb x x′ ≡ true = eq-eqb x x′ (omega arith) in rw (s, d, d′)
-
-  pub other-from : (f ≡ f′ → ⊥) → false ≡ eqb x x′ && eqb y y′
-  other-from h = let s : eqb x x′ ≡ false = ne-eqb x x′ (λ g. h (omega arith)) in rw s
+-- two links by their ends
+pub ends-tested : (plan : Plan) (d e : ℕ) (x y : Ends) (t : Bool) → EndsOf plan d x → EndsOf plan e y →
+    t ≡ eqb (x .from) (y .from) && eqb (x .to) (y .to) → sameEnds (linkOf plan d) (linkOf plan e) ≡ t
+ends-tested plan d e x y t a b is = sym (is ∙ rw (a .from, a .to, b .from, b .to) refl)
 
 -- a loop over the places of the message at index i, at place k of n, which stands at index j
 pub record Passing (row : List ℕ) (i n j k : ℕ) : Type 0 where

@@ -1,12 +1,15 @@
 // Whether one link or one message breaks a rule of document 01: the tests of refusals 5 to 10. Each is its namesake in specs/ of
 // `scope` (Good) on the plan of a row; a message is told by its index. It leans on `rows`, `paths` and `table`.
+use paths::Ends;
 use scope::limits::PLACES;
 ghost use mathlib.Core.Path.{_≡_};
+ghost use mathlib.Core.Bool.{_&&_};
 ghost use Prim.Native.Nat.{_+_, _<_, _≤_, _^_};
+ghost use lib.Dec.{eqb};
 ghost use lib.ListN.{length};
 ghost use Rattle.scope.specs.Limits.{mostPlaces};
-ghost use Rattle.scope.specs.Plan.{planOf, linkOf, placeAt, messageAt, placeSize, placeCount};
-ghost use Rattle.scope.specs.Good.{badEnds, sameEnds, repeats, goodPlace, goodSeconds};
+ghost use Rattle.scope.specs.Plan.{planOf, linkCount, placeAt, messageAt, placeSize, placeCount};
+ghost use Rattle.scope.specs.Good.{badEnds, repeats, goodPlace, goodSeconds};
 ghost use Rattle.rows.specs.Lies.{MessageLies, PlanLies};
 ghost use Rattle.faults.specs.Broken.{brokenPath, brokenSlots, brokenSeconds, heldBelow, secondHolds};
 
@@ -27,24 +30,25 @@ pub fn bad_ends(row: &[u16], e: usize) -> bool
     a == b
 }
 
-fn same_ends(row: &[u16], d: usize, e: usize) -> bool
-    requires { ⌜ (d < 65536) × (e < 65536) ⌝ }
-    ensures { λ r. ⌜ r ≡ sameEnds (linkOf (planOf (now (row .entry))) d) (linkOf (planOf (now (row .entry))) e) ⌝ }
+fn same_ends(a: Ends, b: Ends) -> bool
+    ensures { λ r. ⌜ r ≡ eqb (a .from) (b .from) && eqb (a .to) (b .to) ⌝ }
 {
-    if paths::link_from(row, d) == paths::link_from(row, e) {
-        return paths::link_to(row, d) == paths::link_to(row, e);
+    if a.from == b.from {
+        return a.to == b.to;
     }
     false
 }
 
 // Refusal 6: link e repeats an earlier one.
 pub fn repeats_earlier(row: &[u16], e: usize) -> bool
-    requires { ⌜ e < 65536 ⌝ }
+    requires { ⌜ PlanLies (now row) × (e < linkCount (now row)) ⌝ }
     ensures { λ r. ⌜ r ≡ repeats (planOf (now (row .entry))) e ⌝ }
 {
+    let this = paths::ends_of(row, e);
     let mut d = 0;
     while d < e {
-        if same_ends(row, d, e) {
+        let other = paths::ends_of(row, d);
+        if same_ends(other, this) {
             return true;
         }
         d += 1;

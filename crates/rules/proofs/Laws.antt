@@ -10,6 +10,7 @@ use lib.Seq.{getD-set-same, getD-set-other}
 use lib.Dec.{ltb, eqb}
 use Rattle.scope.specs.Lowest.{lowest}
 use Rattle.scope.specs.Outcome.{gives, refuse}
+use Rattle.scope.specs.Limits.{mostMessages}
 use Rattle.scope.specs.Plan.{Plan, messageAt, afterMessage, firstMessage, messageCount, planOf, pathOf}
 use Rattle.scope.specs.Good.{badEnds, repeats, badFirstPath, badSlots, badTable, badSecondPath, rules}
 use Rattle.scope.specs.SecondPath.{messageIndex}
@@ -133,9 +134,9 @@ module _ (plan : Plan) (m n : ℕ) where
   pub of-messages : 7 ≤ n → m < countFor plan n → m < length (plan .messages)
   of-messages l h = omega (arith, count-messages plan n l, h)
 
--- a rule from 5 on that is neither 5 nor 6
-pub past-links : (n : ℕ) → 5 ≤ n → (n ≡ 5 → ⊥) → (n ≡ 6 → ⊥) → 7 ≤ n
-past-links n l a b = omega (arith, a, b)
+module _ (row starts table : List ℕ) (g : Judging row starts table) where
+  pub few : (m n : ℕ) → 7 ≤ n → m < countFor (planOf row) n → m < mostMessages
+  few m n l h = omega (arith, of-messages (planOf row) m n l h, messages-few row starts table g)
 
 -- and what it asks
 module _ (plan : Plan) (m : ℕ) where
@@ -154,13 +155,13 @@ module _ (plan : Plan) (m : ℕ) where
   pub rule-nine : (n : ℕ) → n ≡ 9 → badTable plan m ≡ breaks plan n m
   rule-nine n e = rw e
 
-  pub rule-ten : (n : ℕ) → (n ≡ 5 → ⊥) → (n ≡ 6 → ⊥) → (n ≡ 7 → ⊥) → (n ≡ 8 → ⊥) → (n ≡ 9 → ⊥) → badSecondPath plan m ≡ breaks plan n m
-  rule-ten n a b c d e =
-      let s : eqb n 5 ≡ false = ne-eqb n 5 a in
-      let t : eqb n 6 ≡ false = ne-eqb n 6 b in
-      let u : eqb n 7 ≡ false = ne-eqb n 7 c in
-      let v : eqb n 8 ≡ false = ne-eqb n 8 d in
-      let w : eqb n 9 ≡ false = ne-eqb n 9 e in
+  pub rule-ten : (n : ℕ) → 10 ≤ n → badSecondPath plan m ≡ breaks plan n m
+  rule-ten n h =
+      let s : eqb n 5 ≡ false = ne-eqb n 5 (λ e. omega (arith, e, h)) in
+      let t : eqb n 6 ≡ false = ne-eqb n 6 (λ e. omega (arith, e, h)) in
+      let u : eqb n 7 ≡ false = ne-eqb n 7 (λ e. omega (arith, e, h)) in
+      let v : eqb n 8 ≡ false = ne-eqb n 8 (λ e. omega (arith, e, h)) in
+      let w : eqb n 9 ≡ false = ne-eqb n 9 (λ e. omega (arith, e, h)) in
       rw (s, t, u, v, w)
 
 -- a loop over the rules, at rule n: it begins, it goes on, it gives a refusal, it is done

@@ -38,14 +38,23 @@ fn breaks(row: &[u16], starts: &[usize; MESSAGES], table: &[u8], n: usize, m: us
     requires { ⌜ Judging (now row) (now starts) (now table) × (5 ≤ n) × (m < countFor (planOf (now row)) n) ⌝ }
     ensures { λ r. ⌜ r ≡ breaks (planOf (now (row .entry))) n m ⌝ }
 {
-    match n {
-        5 => faults::bad_ends(row, m),
-        6 => faults::repeats_earlier(row, m),
-        7 => faults::bad_path(row, starts[m]),
-        8 => faults::bad_slots(row, starts[m]),
-        9 => faults::held_below(row, starts[m], m, table),
-        _ => faults::bad_seconds(row, starts[m]),
+    if n <= 6 {
+        if n == 5 {
+            return faults::bad_ends(row, m);
+        }
+        return faults::repeats_earlier(row, m);
     }
+    let i = starts[m];
+    if n < 9 {
+        if n < 8 {
+            return faults::bad_path(row, i);
+        }
+        return faults::bad_slots(row, i);
+    }
+    if n < 10 {
+        return faults::held_below(row, i, m, table);
+    }
+    faults::bad_seconds(row, i)
 }
 
 // How many links or messages rule n is asked of.

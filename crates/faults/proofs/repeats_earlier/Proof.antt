@@ -1,31 +1,36 @@
 -- `faults::repeats_earlier` meets its contract. The invariant `Seeking`: no link passed has the same ends. Assumes nothing.
 use Prim.Native.Nat.{_-_}
-use mathlib.Core.Path.{_∙_, sym}
+use mathlib.Core.Path.{_∙_}
 use borrow.Author.Needs.{needs}
 use Rattle.scope.specs.Plan.{planOf, linkOf}
 use Rattle.scope.specs.Good.{sameEnds}
 use Rattle.scope.proofs.Seek.{Seeking, seeking-first, seeking-next, some-found, some-none}
+use Rattle.faults.proofs.Laws.{ends-tested}
 use Rattle.faults.proofs.repeats_earlier.Statement.{statement}
 use Rattle.faults.proofs.repeats_earlier.Tie as tie
 
 abbrev Inv-loop : tie.InvT-loop
-Inv-loop row e d₀ d = Seeking (λ d. sameEnds (linkOf (planOf row) d) (linkOf (planOf row) e)) e d
+Inv-loop row e this d₀ d = Seeking (λ d. sameEnds (linkOf (planOf row) d) (linkOf (planOf row) e)) e d
 
 abbrev μ-loop : tie.MeasureT-loop
-μ-loop row e d₀ d = e - d
+μ-loop row e this d₀ d = e - d
+
+ends-of-requires : tie.Need-ends-of-requires Inv-loop μ-loop
+ends-of-requires c κs = search needs
 
 loop-holds : tie.Need-loop-holds Inv-loop μ-loop
-loop-holds c = seeking-first (λ d. sameEnds (linkOf (planOf (c .before .args .row .now)) d)
-    (linkOf (planOf (c .before .args .row .now)) (c .before .args .e))) (c .before .args .e)
+loop-holds c = seeking-first _ _
+
+ends-of-requires-2 : tie.Need-ends-of-requires-2 Inv-loop μ-loop
+ends-of-requires-2 c κs = search needs
 
 same-ends-requires : tie.Need-same-ends-requires Inv-loop μ-loop
 same-ends-requires c κs = search needs
 
 returns : tie.Need-returns Inv-loop μ-loop
-returns c = let p = planOf (c .before .before .before .before .before .args .row .now) in
-    let e = c .before .before .before .before .before .args .e in
-    some-found (λ d. sameEnds (linkOf p d) (linkOf p e)) e (c .before .before .before .loop .d) (c .before .before .before .loop .inv)
-    (c .before .before .loop-test .taken) (sym (c .before .same-ends .ensures) ∙ c .if1 .taken)
+returns c =
+    let tested = ends-tested _ _ _ _ _ _ (c .before .before .ends-of2 .ensures) (c .before .before .before .before .before .ends-of .ensures) (c .before .same-ends .ensures) in
+    some-found _ _ _ (c .before .before .before .before .loop .inv) (c .before .before .before .loop-test .taken) (tested ∙ c .if1 .taken)
 
 add-d : tie.Need-add-d Inv-loop μ-loop
 add-d c = search needs
@@ -34,15 +39,12 @@ loop-less : tie.Need-loop-less Inv-loop μ-loop
 loop-less c = search needs
 
 loop-again : tie.Need-loop-again Inv-loop μ-loop
-loop-again c = let p = planOf (c .before .before .before .before .before .args .row .now) in
-    let e = c .before .before .before .before .before .args .e in
-    seeking-next (λ d. sameEnds (linkOf p d) (linkOf p e)) e (c .before .before .before .loop .d) (c .before .before .before .loop .inv)
-    (c .before .before .loop-test .taken) (sym (c .before .same-ends .ensures) ∙ c .if1 .left)
+loop-again c =
+    let tested = ends-tested _ _ _ _ _ _ (c .before .before .ends-of2 .ensures) (c .before .before .before .before .before .ends-of .ensures) (c .before .same-ends .ensures) in
+    seeking-next _ _ _ (c .before .before .before .before .loop .inv) (c .before .before .before .loop-test .taken) (tested ∙ c .if1 .left)
 
 returns-2 : tie.Need-returns-2 Inv-loop μ-loop
-returns-2 c = let p = planOf (c .before .before .before .args .row .now) in
-    let e = c .before .before .before .args .e in
-    some-none (λ d. sameEnds (linkOf p d) (linkOf p e)) e (c .before .loop .d) (c .before .loop .inv) (c .loop-test .left)
+returns-2 c = some-none _ _ _ (c .before .loop .inv) (c .loop-test .left)
 
 pub repeats-earlier-spec : {M : Type 1} → statement M
 repeats-earlier-spec =
@@ -50,7 +52,9 @@ repeats-earlier-spec =
     (tie.spec
     Inv-loop
     μ-loop
+    ends-of-requires
     loop-holds
+    ends-of-requires-2
     same-ends-requires
     returns
     add-d

@@ -1,12 +1,10 @@
 -- `paths::first_fault` meets its contract. The invariant `Walking`: the marks are those of the vertices met, and what is left has the first fault of the whole. Assumes nothing.
-use Prim.Native.Nat.{_-_, _<_}
-use mathlib.Core.Path.{_≡_, refl, sym, _∙_}
+use Prim.Native.Nat.{_-_}
 use native.Mathlib.Omega.{arith}
 use borrow.Author.Needs.{needs}
 use lib.ListN.{length}
 use Rattle.scope.specs.Plan.{planOf}
 use Rattle.rows.proofs.Parts.{link-count}
-use Rattle.paths.proofs.Laws.{to-small}
 use Rattle.paths.proofs.Walk as law
 use Rattle.paths.proofs.Walk.{Walking, OnLink}
 use Rattle.paths.proofs.first_fault.Statement.{statement}
