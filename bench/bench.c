@@ -1,8 +1,8 @@
 /* The questions of `crates/bench` in plain C, with the same algorithms as far as they are known, compiled for the same target: reading a
-   plan file into a row with every rule, one replay, and all answers for one k by the same search, in place. `bench QUESTION N` prints a
-   checksum of the answers and of the numbers that the last one wrote. `bench countK 1` tells instead, for each walk of the search, l, how
-   many pairs its lists have, how many lists it plays, how many slots it plays, and the arrivals of the list it finds, or -.
-   No header is used, since the kit has none. */
+   plan file into a row with every rule, judging a row, one replay, the verdict for one l and all answers for one k by the same search, in
+   place. `bench QUESTION N [L]` prints a checksum of the answers, of the row and of the numbers that the last one wrote. `bench countK 1`
+   tells instead, for each walk of the search, l, how many pairs its lists have, how many lists it plays, how many slots it plays, and the
+   arrivals of the list it finds, or -. No header is used, since the kit has none. */
 typedef unsigned char u8;
 typedef unsigned short u16;
 typedef unsigned long usize;
@@ -12,8 +12,13 @@ extern int printf(const char *, ...);
 extern int atoi(const char *);
 
 static u8 file[8192];
-static int size, at, count;
+static int size, at, count, place;
 static u16 row[10405];
+
+static int refuse(int no, int where) { /* every refusal is made here */
+    place = where;
+    return no;
+}
 
 static int field(int w) { /* most significant bit first; -1 where the file ends */
     if (at + w > 8 * size) return -1;
@@ -29,67 +34,110 @@ static int field(int w) { /* most significant bit first; -1 where the file ends 
 static int V, E, M, T, from[64], to[64], first[33];
 static u8 table[64 * 64];
 
-static int is_path(int v, const u16 *es, int n, int stride) { /* links below E that join up from v, no vertex twice */
-    u8 seen[64] = {0};
-    seen[v] = 1;
-    for (int i = 0; i < n; i++) {
-        int e = es[i * stride];
-        if (e >= E || from[e] != v || seen[to[e]]) return 0;
-        v = to[e];
-        seen[v] = 1;
-    }
-    return 1;
-}
-
-static int read_fields(void) { /* refusals 1, 2 and 4 */
+static int read_fields(void) { /* refusals 1, 2 and 4 of the file */
     at = count = 0;
     int e = field(4);
-    if (e < 0) return 2;
-    if (e != 1) return 1;
-    if ((V = field(6)) < 0 || (E = field(6)) < 0 || (M = field(5)) < 0 || (T = field(6)) < 0) return 2;
+    if (e < 0) return refuse(2, at);
+    if (e != 1) return refuse(1, 0);
+    if ((V = field(6)) < 0 || (E = field(6)) < 0 || (M = field(5)) < 0 || (T = field(6)) < 0) return refuse(2, at);
     V++, E++, M++, T++;
     for (int i = 0; i < E; i++)
-        if ((from[i] = field(6)) < 0 || (to[i] = field(6)) < 0) return 2;
+        if ((from[i] = field(6)) < 0 || (to[i] = field(6)) < 0) return refuse(2, at);
     for (int m = 0; m < M; m++) {
         first[m] = count;
         int n = field(4);
-        if (n < 0) return 2;
+        if (n < 0) return refuse(2, at);
         for (int p = 0; p <= n; p++) {
-            if (field(6) < 0 || field(6) < 0) return 2;
+            if (field(6) < 0 || field(6) < 0) return refuse(2, at);
             int f = field(1);
-            if (f < 0) return 2;
+            if (f < 0) return refuse(2, at);
             if (!f) continue;
             int k = field(4);
-            if (k < 0) return 2;
+            if (k < 0) return refuse(2, at);
             for (int i = 0; i <= k; i++)
-                if (field(6) < 0) return 2;
+                if (field(6) < 0) return refuse(2, at);
         }
     }
     first[M] = count;
-    if ((at + 7) / 8 != size) return 4;
+    if ((at + 7) / 8 != size) return refuse(4, at);
     for (int b = at; b < 8 * size; b++)
-        if (file[b / 8] >> (7 - b % 8) & 1) return 4;
+        if (file[b / 8] >> (7 - b % 8) & 1) return refuse(4, at);
     return 0;
+}
+
+/* There is a number at i, and it is below a limit: else this is refusal 2 or 3 of the row. */
+#define FITS(limit)                                                                                                                                \
+    if (i == count) return refuse(2, i);                                                                                                           \
+    if (row[i] >= limit) return refuse(3, i)
+
+static int walk_row(void) { /* refusals 1 to 4 of the row */
+    static const u16 limits[] = {64, 64, 32, 64};
+    int i = 0;
+    if (!count) return refuse(2, 0);
+    if (row[0] != 1) return refuse(1, 0);
+    for (i = 1; i < 5; i++) {
+        FITS(limits[i - 1]);
+    }
+    V = row[1] + 1, E = row[2] + 1, M = row[3] + 1, T = row[4] + 1;
+    for (int e = 0; e < E; e++) {
+        FITS(64);
+        from[e] = row[i++];
+        FITS(64);
+        to[e] = row[i++];
+    }
+    for (int m = 0; m < M; m++) {
+        first[m] = i;
+        FITS(16);
+        for (int n = row[i++]; n >= 0; n--) {
+            FITS(64);
+            i++;
+            FITS(64);
+            i++;
+            FITS(2);
+            if (!row[i++]) continue;
+            FITS(16);
+            for (int k = row[i++]; k >= 0; k--, i++) {
+                FITS(64);
+            }
+        }
+    }
+    first[M] = i;
+    return i < count ? refuse(4, i) : 0;
 }
 
 static int place_size(int i) { return row[i + 2] ? 5 + row[i + 3] : 3; }
 
-static int rules(void) { /* refusals 5 to 10 */
+/* Links below E that join up from a vertex, no vertex twice: where they end, or -1. */
+static int joins(int v, const u16 *es, int n) {
+    usize seen = 1ul << v;
+    for (int i = 0; i < n; i++) {
+        int e = es[i];
+        if (e >= E || from[e] != v || seen >> to[e] & 1) return -1;
+        v = to[e];
+        seen |= 1ul << v;
+    }
+    return v;
+}
+
+static int rules(void) { /* refusals 5 to 10: one loop a rule */
     for (int i = 0; i < E; i++)
-        if (from[i] >= V || to[i] >= V || from[i] == to[i]) return 5;
-    for (int i = 0; i < E; i++)
-        for (int j = 0; j < i; j++)
-            if (from[i] == from[j] && to[i] == to[j]) return 6;
+        if (from[i] >= V || to[i] >= V || from[i] == to[i]) return refuse(5, i);
+    usize there[64] = {0}; /* for each vertex those that a link leads to from it */
+    for (int i = 0; i < E; i++) {
+        if (there[from[i]] >> to[i] & 1) return refuse(6, i);
+        there[from[i]] |= 1ul << to[i];
+    }
+    int end[32];
     u16 links[16];
     for (int m = 0; m < M; m++) {
         int n = row[first[m]] + 1, i = first[m] + 1;
         for (int p = 0; p < n; p++, i += place_size(i)) links[p] = row[i];
-        if (links[0] >= E || !is_path(from[links[0]], links, n, 1)) return 7;
+        if (links[0] >= E || (end[m] = joins(from[links[0]], links, n)) < 0) return refuse(7, m);
     }
     for (int m = 0; m < M; m++) {
         int n = row[first[m]] + 1, i = first[m] + 1, last = -1;
         for (int p = 0; p < n; p++, i += place_size(i)) {
-            if (row[i + 1] <= last || row[i + 1] >= T) return 8;
+            if (row[i + 1] <= last || row[i + 1] >= T) return refuse(8, m);
             last = row[i + 1];
         }
     }
@@ -97,26 +145,29 @@ static int rules(void) { /* refusals 5 to 10 */
     for (int m = 0; m < M; m++) {
         int n = row[first[m]] + 1, i = first[m] + 1;
         for (int p = 0; p < n; p++, i += place_size(i)) {
-            if (table[row[i + 1] * 64 + row[i]]) return 9;
+            if (table[row[i + 1] * 64 + row[i]]) return refuse(9, m);
             table[row[i + 1] * 64 + row[i]] = m + 1;
         }
     }
     for (int m = 0; m < M; m++) {
-        int n = row[first[m]] + 1, i = first[m] + 1, end = 0;
-        for (int p = 0, j = i; p < n; p++, j += place_size(j)) end = to[row[j]];
-        for (int p = 0; p < n; p++, i += place_size(i)) {
-            if (!row[i + 2]) continue;
-            int k = row[i + 3] + 1;
-            if (row[i + 4] == row[i] || !is_path(from[row[i]], row + i + 4, k, 1) || to[row[i + 3 + k]] != end) return 10;
-        }
+        int n = row[first[m]] + 1, i = first[m] + 1;
+        for (int p = 0; p < n; p++, i += place_size(i))
+            if (row[i + 2] && (row[i + 4] == row[i] || joins(from[row[i]], row + i + 4, row[i + 3] + 1) != end[m])) return refuse(10, m);
     }
     return 0;
 }
 
+static int judge(void) { /* refusals 1 to 10 of the row */
+    int r = walk_row();
+    return r ? r : rules();
+}
+
+static int small(int no, int answer) { return no ? no % 16 * 4096 + place % 4096 : answer; } /* a refusal or an answer as a small number */
+
 static int read_plan(void) {
     int r = read_fields();
     if (!r) r = rules();
-    return r ? r : count;
+    return small(r, count);
 }
 
 typedef struct {
@@ -124,7 +175,7 @@ typedef struct {
     u8 left, turned;
 } position;
 
-static u16 cut_from[64], events[4096];
+static u16 cut_from[64], out[4096]; /* what an answer writes */
 static position start[32];
 
 static void begin(void) {
@@ -145,7 +196,7 @@ static void turn(position *p) {
     p->turned = 1;
 }
 
-static void tell(position *ps, int i, u16 *out) { /* one slot, with its events */
+static void tell(position *ps, int i, u16 *event) { /* one slot, with its events */
     u8 tries[64]; /* the first that tries each link, plus one */
     for (int e = 0; e < E; e++) tries[e] = 0;
     for (int m = 0; m < M; m++) {
@@ -168,7 +219,7 @@ static void tell(position *ps, int i, u16 *out) { /* one slot, with its events *
                 else kind = 3, p->at++, p->left--;
             }
         }
-        out[2 * m] = kind, out[2 * m + 1] = number;
+        event[2 * m] = kind, event[2 * m + 1] = number;
     }
 }
 
@@ -205,20 +256,20 @@ static void copy(position *to, const position *ps) {
 }
 
 static int replay(void) {
-    int r = rules();
-    if (r) return r;
+    int r = judge();
+    if (r) return small(r, 0);
     position ps[32];
     clear_cuts();
     cut_from[0] = 0;
     begin();
     copy(ps, start);
-    for (int i = 0; i < T; i++) tell(ps, i, events + i * 2 * M);
+    for (int i = 0; i < T; i++) tell(ps, i, out + i * 2 * M);
     return arrived(ps);
 }
 
 static unsigned touches[64 * 64]; /* the messages that have a link before them in a slot or later */
 static u8 weight[64 * 64], top[64];
-static u16 pairs[6], answers[231];
+static u16 pairs[6];
 static int need, least, best, counting;
 static long lists, slots;
 
@@ -277,14 +328,14 @@ static int hunt(int n) { /* one walk: the lists of n pairs */
 
 static void put(int l, int to, int head) { /* the answers from l on, below to */
     for (; l < to; l++) {
-        u16 *a = answers + 7 * l;
+        u16 *a = out + 7 * l;
         for (int i = 0; i < 6; i++) a[i + 1] = i + 2 < 2 * head ? pairs[i] : 0;
         a[0] = head;
     }
 }
 
-static int verdict(int k) { /* all answers: how many numbers they are */
-    int r = rules();
+static int prepare(void) { /* what the search is lent; 0, or a refusal */
+    int r = judge();
     if (r) return r;
     clear_cuts();
     for (int e = 0; e < E; e++) {
@@ -301,6 +352,26 @@ static int verdict(int k) { /* all answers: how many numbers they are */
             if (weight[s * 64 + e] > top[s]) top[s] = weight[s * 64 + e];
     }
     begin();
+    return 0;
+}
+
+static int only(int k, int l) { /* the verdict for one l: how many pairs plus one, or 0 */
+    int r = prepare();
+    if (r) return small(r, 0);
+    if (k > 3 || l > M) return small(refuse(11, 0), 0);
+    least = l;
+    need = M + 1 - l;
+    for (int n = 0; n <= k && l; n++)
+        if (hunt(n)) {
+            for (int i = 0; i < 2 * n; i++) out[i] = pairs[i];
+            return n + 1;
+        }
+    return 0;
+}
+
+static int verdict(int k) { /* all answers: how many numbers they are */
+    int r = prepare();
+    if (r) return small(r, 0);
     least = M;
     for (int n = 0; n <= k && least;) { /* for l 0 nothing is to be asked */
         need = M + 1 - least;
@@ -314,6 +385,14 @@ static int verdict(int k) { /* all answers: how many numbers they are */
     return 7 * (M + 1);
 }
 
+static int ask(char what, int k, int l) {
+    if (what == 'a') return read_plan();
+    if (what == 'd') return small(judge(), count);
+    if (what == 'p') return replay();
+    if (what == 'l') return only(k, l);
+    return verdict(k);
+}
+
 static unsigned mixed(unsigned sum, const u16 *numbers, int n) {
     usize all = sum;
     for (int i = 0; i < n; i++) all = (all * 31 + numbers[i]) % 1000003;
@@ -321,23 +400,15 @@ static unsigned mixed(unsigned sum, const u16 *numbers, int n) {
 }
 
 int main(int argc, char **argv) {
-    int fd = open("plan.bin", 0), turns = argc > 2 ? atoi(argv[2]) : 0;
+    int fd = open("plan.bin", 0), turns = argc > 2 ? atoi(argv[2]) : 0, l = argc > 3 ? atoi(argv[3]) : 0;
     if (fd >= 0) size = read(fd, file, sizeof file);
     if (argc < 2) return 1;
-    char what = argv[1][2];
+    const char *word = argv[1];
+    int n = 0;
+    while (word[n]) n++;
+    counting = word[0] == 'c';
     unsigned sum = 0;
-    if (what == 'a') {
-        while (turns-- > 0) sum = (sum + read_plan()) % 65536;
-        sum = mixed(sum, row, 10405);
-    } else if (what == 'p') {
-        for (read_plan(); turns-- > 0;) sum = (sum + replay()) % 65536;
-        sum = mixed(sum, events, 4096);
-    } else {
-        counting = argv[1][0] == 'c';
-        int k = argv[1][counting ? 5 : 7] - '0';
-        for (read_plan(); turns-- > 0;) sum = (sum + verdict(k)) % 65536;
-        sum = mixed(sum, answers, 231);
-    }
-    if (!counting) printf("%u\n", sum);
+    for (read_plan(); turns-- > 0;) sum = (sum + ask(word[2], word[n - 1] % 16, l)) % 65536; /* the third letter tells questions apart */
+    if (!counting) printf("%u\n", mixed(mixed(sum, row, 10405), out, 4096));
     return 0;
 }

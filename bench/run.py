@@ -16,14 +16,18 @@ oracle, ours, c = sys.argv[1], sys.argv[2:split], sys.argv[split + 1 :]
 samples = os.path.join(here, '..', 'samples')
 made = os.path.join(here, '..', 'target', 'bench')
 repetitions = 5
+mid = repetitions // 2
 limit = 120  # seconds for one question to the solver
 asked = [
     ('large', 'read', 20000),
+    ('large', 'judge', 20000),
     ('large', 'replay', 10000),
     ('large', 'verdict2', 200),
     ('accident', 'read', 65000),
+    ('accident', 'judge', 65000),
     ('accident', 'replay', 65000),
     ('accident', 'verdict2', 40000),
+    ('network-1', 'judge', 20000),
     ('large', 'verdict3', 20),
     ('network-1', 'verdict3', 20),
     ('network-2', 'verdict3', 20),
@@ -38,7 +42,7 @@ asked = [
     ('wide-2', 'verdict3', 500),
     ('wide-3', 'verdict3', 50),
 ]
-searched = [plan for plan, question, _ in asked if question == 'verdict3']
+searched = {plan: turns for plan, question, turns in asked if question == 'verdict3'}
 
 
 def folder(plan):
@@ -54,8 +58,8 @@ def run(words, where=None):
     return said, used.ru_utime + used.ru_stime, child.returncode
 
 
-def ask(words, plan, question, turns):
-    said, seconds, status = run(words + [question, ' %d' % turns], folder(plan))
+def ask(words, plan, question, turns, l=0):
+    said, seconds, status = run(words + [question, ' %d' % turns, ' %d' % l], folder(plan))
     if status:
         sys.exit('%s %s: a program ended with status %d' % (plan, question, status))
     return said, seconds
@@ -73,20 +77,24 @@ def make_plans():
                 subprocess.run([oracle, 'bench-plan'] + plan.split('-'), stdout=file, check=True)
 
 
+def both(plan, question, turns, l=0):
+    """Ours and C in turn: ratios, our seconds and C's, each sorted. They have to say the same."""
+    taken = []
+    for _ in range(repetitions):
+        said, mine = ask(ours, plan, question, turns, l)
+        other, theirs = ask(c, plan, question, turns, l)
+        if said != other:
+            sys.exit('%s %s: ours says %s and C says %s' % (plan, question, said, other))
+        taken.append((mine / theirs, mine, theirs))
+    return [sorted(column) for column in zip(*taken)]
+
+
 def against_c():
     """The table of times. Returns our seconds for each plan's search at k 3."""
     print('%-10s %-8s %6s %9s %9s   ours / C (lowest to highest of %d)' % ('plan', 'question', 'turns', 'ours, s', 'C, s', repetitions), flush=True)
     each = {}
     for number, (plan, question, turns) in enumerate(asked):
-        taken = []
-        for _ in range(repetitions):
-            said, mine = ask(ours, plan, question, turns)
-            other, theirs = ask(c, plan, question, turns)
-            if said != other:
-                sys.exit('%s %s: ours says %s and C says %s' % (plan, question, said, other))
-            taken.append((mine / theirs, mine, theirs))
-        ratios, mine, theirs = (sorted(column) for column in zip(*taken))
-        mid = repetitions // 2
+        ratios, mine, theirs = both(plan, question, turns)
         if question == 'verdict3':
             each[plan] = mine[mid] / turns
         print(
@@ -153,29 +161,21 @@ def asked_of(solver, plan, read, l, edge):
 def against_solver(each, edges):
     solver = shutil.which('z3')
     if not solver:
-        print('\nno table of the solver: z3 is not on the PATH')
+        print('\nno table of the solver: z3 is not on the PATH (on Debian: apt-get install z3)')
         return
     version = subprocess.run([solver, '--version'], stdout=subprocess.PIPE, check=True).stdout.decode().split(' - ')[0]
-    print('\n%-10s %2s %-9s %10s %14s   %s, one l / ours, every l' % ('plan', 'l', 'answer', 'solver, s', 'ours, s', version), flush=True)
-    near = []
+    heads = 'plan', 'l', 'answer', 'solver, s', 'one l, s', 'every l, s', version
+    print('\n%-10s %2s %-9s %10s %10s %10s   %s, one l / ours, one l; / ours, every l' % heads, flush=True)
     for plan in searched:
         read = plan_of(plan)
         for l in edges[plan] + 1, edges[plan]:
             if l == 0 or l > len(read[2]):
                 continue
             seconds, more = asked_of(solver, plan, read, l, edges[plan])
+            one = both(plan, 'only3', searched[plan], l)[1][mid] / searched[plan]
             meant = 'failing' if l > edges[plan] else 'resistant'
-            ratio = seconds / each[plan]
-            times = more + ('%.1f' if ratio >= 1 else '%.2f') % ratio
-            print('%-10s %2d %-9s %10s %14.5f   %s' % (plan, l, meant, more + '%.2f' % seconds, each[plan], times), flush=True)
-            if ratio < 100 and plan not in near:
-                near.append(plan)
-    print('\n%-10s %9s %10s %14s   %s, every l / ours, every l' % ('plan', 'questions', 'solver, s', 'ours, s', version), flush=True)
-    for plan in near:
-        read = plan_of(plan)
-        taken = [asked_of(solver, plan, read, l, edges[plan]) for l in range(1, len(read[2]) + 1)]
-        seconds, more = sum(second for second, _ in taken), max(more for _, more in taken)
-        print('%-10s %9d %10s %14.5f   %s' % (plan, len(taken), more + '%.2f' % seconds, each[plan], more + '%.1f' % (seconds / each[plan])), flush=True)
+            times = '; '.join(more + '%.1f' % (seconds / ours) for ours in (one, each[plan]))
+            print('%-10s %2d %-9s %10s %10.5f %10.5f   %s' % (plan, l, meant, more + '%.2f' % seconds, one, each[plan], times), flush=True)
 
 
 make_plans()

@@ -1,8 +1,26 @@
-// Asks one question of the plan in `plan.bin` many times, for `./nuthatchet bench`: `bench read N`, `bench replay N` (link 0 cut in slot 0),
-// `bench verdictK N` (all answers for k K). It prints a checksum of the answers and of the numbers that the last one wrote, which the C
-// program beside it (bench/bench.c) prints too.
-ghost use Prim.Native.Nat.{_<_};
+// Asks one question of the plan in `plan.bin` many times, for `./nuthatchet bench`: `bench read N`, `bench judge N` (the row), `bench replay N`
+// (link 0 cut in slot 0), `bench onlyK N L` (the verdict for k K and l L) and `bench verdictK N` (all answers for k K); a space stands before N
+// and L. It prints a checksum of the answers, of the row and of the numbers that the last one wrote, which the C program beside it
+// (bench/bench.c) prints too.
+ghost use Prim.Native.Nat.{_≤_, _<_};
+ghost use lib.ListN.{length};
 use scope::Answer;
+use scope::Refusal;
+use verdicts::Ruling;
+
+// What is asked: the third letter of its word, which tells questions apart (reAd, juDge, rePlay, onLy, veRdict), and k and l.
+struct Question {
+    what: u8,
+    k: usize,
+    l: usize,
+}
+
+// A refusal as a small number.
+fn refused(r: Refusal) -> usize
+    ensures { λ r. ⌜ r < 65536 ⌝ }
+{
+    r.no % 16 * 4096 + r.place % 4096
+}
 
 // An answer as a small number.
 fn small(answer: Answer) -> usize
@@ -10,13 +28,25 @@ fn small(answer: Answer) -> usize
 {
     match answer {
         Answer::Gives(n) => n % 65536,
-        Answer::Refused(r) => r.no % 65536,
+        Answer::Refused(r) => refused(r),
+    }
+}
+
+// A verdict as a small number.
+fn ruled(ruling: Ruling) -> usize
+    ensures { λ r. ⌜ r < 65536 ⌝ }
+{
+    match ruling {
+        Ruling::Resistant => 0,
+        Ruling::Failing(pairs) => 1 + pairs % 16,
+        Ruling::Refused(r) => refused(r),
     }
 }
 
 // A checksum, with more numbers.
 fn mixed(sum: usize, numbers: &[u16]) -> usize
     requires { ⌜ sum < 1000003 ⌝ }
+    ensures { λ r. ⌜ r < 1000003 ⌝ }
 {
     let mut all = sum;
     let mut i = 0;
@@ -27,67 +57,79 @@ fn mixed(sum: usize, numbers: &[u16]) -> usize
     all
 }
 
-fn read(file: &[u8], row: &mut [u16], turns: usize) -> usize {
-    let mut sum: usize = 0;
-    let mut i = 0;
-    while i < turns {
-        sum = (sum + small(plan::read_file(file, row))) % 65536;
-        i += 1;
+// One question of a row: its answer as a small number.
+fn ask_row(q: Question, row: &[u16], out: &mut [u16]) -> usize
+    ensures { λ r. ⌜ r < 65536 ⌝ }
+{
+    if q.what == b'd' {
+        return small(plan::judge(row));
     }
-    mixed(sum, row)
+    if q.what == b'p' {
+        return small(cut_replay::replay(row, &[0, 0], out));
+    }
+    if q.what == b'l' {
+        return ruled(verdicts::verdict(row, q.k, q.l, out));
+    }
+    small(all_verdicts::all_answers(row, q.k, out))
 }
 
-fn replay(row: &[u16], cuts: &[u16], events: &mut [u16], turns: usize) -> usize {
-    let mut sum: usize = 0;
-    let mut i = 0;
-    while i < turns {
-        sum = (sum + small(cut_replay::replay(row, cuts, events))) % 65536;
-        i += 1;
+// One question of a file, or of its row, the first n numbers of what is lent.
+fn ask(q: Question, file: &[u8], row: &mut [u16], n: usize, out: &mut [u16]) -> usize
+    requires { ⌜ n ≤ length (now row) ⌝ }
+    ensures { λ r. ⌜ r < 65536 ⌝ }
+{
+    if q.what == b'a' {
+        return small(plan::read_file(file, row));
     }
-    mixed(sum, events)
+    ask_row(q, &row[0..n], out)
 }
 
-fn verdict(row: &[u16], k: usize, answers: &mut [u16], turns: usize) -> usize {
-    let mut sum: usize = 0;
-    let mut i = 0;
-    while i < turns {
-        sum = (sum + small(all_verdicts::all_answers(row, k, answers))) % 65536;
-        i += 1;
-    }
-    mixed(sum, answers)
-}
-
-// The number that the second argument says, behind a space.
-fn turns() -> usize {
-    let mut word = [0u8; 8];
-    let n = os::arg(2, &mut word);
-    probe_words::number(&word[..n], 0).value
-}
-
-// The third letter tells the questions apart: reAd, rePlay, veRdict. A verdict's last letter is k.
-fn ask(what: u8, digit: u8, file: &[u8], row: &mut [u16]) -> usize {
-    if what == b'a' {
-        return read(file, row, turns());
-    }
+// The same question so many times, and the checksum.
+fn ask_all(q: Question, turns: usize, file: &[u8], row: &mut [u16], out: &mut [u16]) -> usize {
     let n = small(plan::read_file(file, row));
     if row.len() < n {
         return 0;
     }
-    if what == b'p' {
-        let mut events = [0u16; 4096];
-        return replay(&row[0..n], &[0, 0], &mut events, turns());
+    let mut sum = 0;
+    let mut i = 0;
+    while i < turns {
+        sum = (sum + ask(q, file, row, n, out)) % 65536;
+        i += 1;
     }
-    let mut answers = [0u16; 231];
-    verdict(&row[0..n], (digit % 16) as usize, &mut answers, turns())
+    mixed(mixed(sum, row), out)
+}
+
+// The number that an argument says, behind a space.
+fn number(i: usize) -> usize {
+    let mut word = [0u8; 8];
+    let n = os::arg(i, &mut word);
+    probe_words::number(&word[..n], 0).value
+}
+
+// What the first argument asks; its last letter is k. The third one is l.
+fn asked() -> Question {
+    let mut name = [0u8; 8];
+    let n = os::arg(1, &mut name);
+    if n == 0 {
+        return Question {
+            what: 0,
+            k: 0,
+            l: 0,
+        };
+    }
+    Question {
+        what: name[2],
+        k: (name[n - 1] % 16) as usize,
+        l: number(3),
+    }
 }
 
 fn main() {
     let mut file = [0u8; scope::limits::PLAN_ROOM];
-    let mut row = [0u16; forms::LONGEST_ROW];
-    let mut name = [0u8; 8];
+    let mut row = [0u16; scope::limits::ROW];
+    let mut out = [0u16; scope::limits::EVENTS];
     let n = program_io::read_plan(b"bench", &mut file);
-    os::arg(1, &mut name);
-    let sum = ask(name[2], name[7], &file[..n], &mut row);
+    let sum = ask_all(asked(), number(2), &file[..n], &mut row, &mut out);
     io::print_decimal(libc::STDOUT_FILENO, sum as u64);
     io::write_all(libc::STDOUT_FILENO, b"\n");
 }
