@@ -1,10 +1,11 @@
-//! Plans for benchmarks, by kind and seed: the largest size with second paths that compete, and plans
-//! in the manner of document 000's evaluation (its section 6).
+//! Plans for benchmarks, by kind and seed: the largest size with second paths that compete, plans in
+//! the manner of document 000's evaluation (its section 6), the same on networks as they are built,
+//! and plans in which every message has a whole fallback.
 
 use crate::plan::{Link, Message, Place, Plan};
 use crate::random::{free_slots, largest_plan, limit_plan, Ground, Random};
 
-pub const KINDS: &str = "network, chain, small or wide";
+pub const KINDS: &str = "network, chain, small, wide, own, gadget, dual or grid";
 
 /// The plan of a kind and a seed, if there is such a kind.
 pub fn plan(kind: &str, seed: u64) -> Option<Plan> {
@@ -14,24 +15,96 @@ pub fn plan(kind: &str, seed: u64) -> Option<Plan> {
         "chain" => Some(limit_plan(&mut r, false)),
         "small" => Some(as_evaluated(&mut r, 25, 50, 10)),
         "wide" => Some(as_evaluated(&mut r, 32, 64, 64)),
+        "own" => Some(in_gadgets(&mut r, GADGETS)),
+        "gadget" => Some(in_gadgets(&mut r, MESSAGES)),
+        "dual" => Some(routed(&mut r, HOSTS + 2, HOSTS, two_switches(), 64)),
+        "grid" => Some(routed(&mut r, 16, 16, square(4), 64)),
         _ => None,
     }
 }
 
 const MESSAGES: usize = 32;
+const HOSTS: usize = 15;
+const GADGETS: usize = 21;
 
-/// "We fix the number of vertices, edges, and messages. We generate a random directed graph. Once we
-/// have a graph, we randomly select a source and a target for each message, while guaranteeing that
-/// these are different nodes." There are two links to a vertex, as in the larger of its settings, and
-/// here every vertex can be reached from every other. Where there is no room for a message, other
-/// ends are drawn for it.
+/// So many messages, each in one of 21 gadgets: two vertices, a link from one to the other, which is
+/// its first path, and a way round by a third vertex, which is its second path. No gadget has two
+/// messages more than another. Slots are drawn so that every second path has slack.
+fn in_gadgets(r: &mut Random, number: usize) -> Plan {
+    let (vertices, timeout) = (3 * GADGETS, 64);
+    let mut links = Vec::new();
+    for gadget in 0..GADGETS {
+        let (from, by, to) = (3 * gadget, 3 * gadget + 1, 3 * gadget + 2);
+        links.extend([Link { from, to }, Link { from, to: by }, Link { from: by, to }]);
+    }
+    r.shuffle(&mut links);
+    let link = |from, to| links.iter().position(|link| link.from == from && link.to == to).unwrap();
+    let mut gadgets: Vec<usize> = (0..GADGETS).collect();
+    let mut held = Vec::new();
+    let mut messages = Vec::new();
+    while messages.len() < number {
+        let at = messages.len() % GADGETS;
+        if at == 0 {
+            r.shuffle(&mut gadgets);
+        }
+        let (from, by, to) = (3 * gadgets[at], 3 * gadgets[at] + 1, 3 * gadgets[at] + 2);
+        let place = link(from, to);
+        let mut slot = r.below(timeout - 3);
+        while held.contains(&(place, slot)) {
+            slot = r.below(timeout - 3);
+        }
+        held.push((place, slot));
+        let second = Some(vec![link(from, by), link(by, to)]);
+        messages.push(Message { places: vec![Place { link: place, slot, second }] });
+    }
+    Plan { vertices, timeout, links, messages }
+}
+
+/// Each host has a link to and from both switches, and the switches one to and from each other.
+fn two_switches() -> Vec<Link> {
+    let (left, right) = (HOSTS, HOSTS + 1);
+    let mut pairs = vec![(left, right)];
+    pairs.extend((0..HOSTS).flat_map(|host| [(host, left), (host, right)]));
+    both_ways(&pairs)
+}
+
+/// A square grid: each vertex has a link to and from the next one in its row and in its column.
+fn square(side: usize) -> Vec<Link> {
+    let mut pairs = Vec::new();
+    for at in 0..side * side {
+        if at % side + 1 < side {
+            pairs.push((at, at + 1));
+        }
+        if at + side < side * side {
+            pairs.push((at, at + side));
+        }
+    }
+    both_ways(&pairs)
+}
+
+fn both_ways(pairs: &[(usize, usize)]) -> Vec<Link> {
+    let there = pairs.iter().map(|&(from, to)| Link { from, to });
+    let back = pairs.iter().map(|&(to, from)| Link { from, to });
+    there.chain(back).collect()
+}
+
+/// "We fix the number of vertices, edges, and messages. We generate a random directed graph." There
+/// are two links to a vertex, as in the larger of its settings, and here every vertex can be reached
+/// from every other.
 fn as_evaluated(r: &mut Random, vertices: usize, number: usize, timeout: usize) -> Plan {
     let links = connected(r, vertices, number);
-    let load = vec![0; number];
+    routed(r, vertices, vertices, links, timeout)
+}
+
+/// "Once we have a graph, we randomly select a source and a target for each message, while
+/// guaranteeing that these are different nodes", here of the first so many vertices. Where there is
+/// no room for a message, other ends are drawn for it.
+fn routed(r: &mut Random, vertices: usize, ends: usize, links: Vec<Link>, timeout: usize) -> Plan {
+    let load = vec![0; links.len()];
     let mut ground = Ground { links, load, held: Vec::new(), timeout };
     let mut messages = Vec::new();
     while messages.len() < MESSAGES {
-        let (from, to) = (r.below(vertices), r.below(vertices));
+        let (from, to) = (r.below(ends), r.below(ends));
         if from != to {
             messages.extend(message(r, &mut ground, from, to));
         }
