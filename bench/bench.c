@@ -267,23 +267,31 @@ static int replay(void) {
     return arrived(ps);
 }
 
-static unsigned touches[64 * 64]; /* the messages that have a link before them in a slot or later */
-static u8 weight[64 * 64], top[64];
+/* What a pair can do, by slot and link, with a row behind the last slot. It touches the messages that have its link before them in its slot
+   or later. A place is robust if its second path is in time whatever holds it up, else fragile. A pair strips the messages of which it
+   touches a fragile place, or whose robust places have its link on their second path. A list loses only what it both touches and strips. */
+static unsigned touches[65 * 64], strips[65 * 64];
+enum { TOUCHED, STRIPPED, BOTH, BOUNDS };
+static u8 weight[BOUNDS][65 * 64], top[BOUNDS][64]; /* BOTH: of touches and strips together */
 static u16 pairs[6];
-static int need, least, best, counting;
+static int need[BOUNDS], least, best, counting;
 static long lists, slots;
 
-static int at_risk(const position *ps, unsigned touched) { /* how many messages are touched and not home */
-    int n = 0;
-    for (int m = 0; m < M; m++) n += ps[m].left && touched >> m & 1;
-    return n;
+typedef struct {
+    unsigned touched, stripped;
+} harm;
+
+static unsigned away(const position *ps) { /* the messages that are not home */
+    unsigned set = 0;
+    for (int m = 0; m < M; m++) set |= (unsigned)!!ps[m].left << m;
+    return set;
 }
 
-static int finish(const position *ps, int s, unsigned touched) { /* the list picked, played from its last pair on as long as it can fail */
+static int finish(const position *ps, int s, harm by) { /* the list picked, played from its last pair on as long as it can fail */
     position play[32];
     copy(play, ps);
     for (int i = s; i < T; i++) {
-        if (at_risk(play, touched) < need) return 0;
+        if (__builtin_popcount(by.touched & by.stripped & away(play)) < need[TOUCHED]) return 0;
         lists += i == s;
         slot(play, i);
         slots++;
@@ -293,18 +301,26 @@ static int finish(const position *ps, int s, unsigned touched) { /* the list pic
 }
 
 /* The first list of n more pairs, from slot s and link e on, that leaves fewer than `least`. */
-static int level(const position *ps, int n, int at, int s, int e, unsigned touched) {
+static int level(const position *ps, int n, int at, int s, int e, harm by) {
     position now[32];
     copy(now, ps);
     for (; s < T; s++, e = 0) {
-        int risk = at_risk(now, touched);
-        if (risk + n * top[s] < need) return 0;
-        int floor = need - risk - (n - 1) * top[s];
+        unsigned left = away(now);
+        int risk[BOUNDS], floor[BOUNDS];
+        risk[TOUCHED] = __builtin_popcount(by.touched & left);
+        risk[STRIPPED] = __builtin_popcount(by.stripped & left);
+        risk[BOTH] = risk[TOUCHED] + risk[STRIPPED];
+        for (int b = 0; b < BOUNDS; b++) {
+            if (risk[b] + n * top[b][s] < need[b]) return 0;
+            floor[b] = need[b] - risk[b] - (n - 1) * top[b][s];
+        }
         for (; e < E; e++) {
-            if (weight[s * 64 + e] < floor || cut_from[e] != 65535) continue;
+            int here = s * 64 + e;
+            if (weight[BOTH][here] < floor[BOTH] || weight[TOUCHED][here] < floor[TOUCHED] || weight[STRIPPED][here] < floor[STRIPPED]) continue;
+            if (cut_from[e] != 65535) continue;
             cut_from[e] = pairs[at] = s;
             pairs[at + 1] = e;
-            unsigned all = touched | touches[s * 64 + e];
+            harm all = {by.touched | touches[here], by.stripped | strips[here]};
             int found = n == 1 ? finish(now, s, all) : level(now, n - 1, at + 2, s, e + 1, all);
             cut_from[e] = 65535;
             if (found) return 1;
@@ -317,7 +333,10 @@ static int level(const position *ps, int n, int at, int s, int e, unsigned touch
 
 static int hunt(int n) { /* one walk: the lists of n pairs */
     lists = slots = 0;
-    int found = n ? level(start, n, 0, 0, 0, 0) : finish(start, 0, 0);
+    harm none = {0, 0};
+    need[TOUCHED] = need[STRIPPED] = M + 1 - least;
+    need[BOTH] = 2 * need[TOUCHED];
+    int found = n ? level(start, n, 0, 0, 0, none) : finish(start, 0, none);
     if (counting) {
         printf("%d %d %ld %ld ", least, n, lists, slots);
         if (found) printf("%d\n", best);
@@ -334,24 +353,54 @@ static void put(int l, int to, int head) { /* the answers from l on, below to */
     }
 }
 
+static void find_fragile(usize *fragile) { /* the fragile places by slot, a bit a link; and behind the last slot, what strips in any slot */
+    u8 entries[64] = {0}, lower[64] = {0}; /* of the table on a link; lower messages with a second path through it */
+    unsigned *through = strips + T * 64;
+    for (int s = 0; s < T; s++) fragile[s] = 0;
+    for (int e = 0; e < E; e++) through[e] = 0;
+    for (int m = 0; m < M; m++)
+        for (int i = first[m] + 1; i < first[m + 1]; i += place_size(i)) entries[row[i]]++;
+    for (int m = 0; m < M; m++) {
+        usize own = 0;
+        for (int i = first[m] + 1; i < first[m + 1]; i += place_size(i)) {
+            int in_time = row[i + 2], time = row[i + 1], n = row[i + 2] ? row[i + 3] + 1 : 0;
+            const u16 *second = row + i + 4;
+            for (int q = 0; q < n; q++) {
+                time += 1 + entries[second[q]] + lower[second[q]];
+                own |= 1ul << second[q];
+            }
+            if (in_time && time <= T)
+                for (int q = 0; q < n; q++) through[second[q]] |= 1u << m;
+            else fragile[row[i + 1]] |= 1ul << row[i];
+        }
+        for (int e = 0; e < E; e++) lower[e] += own >> e & 1;
+    }
+}
+
 static int prepare(void) { /* what the search is lent; 0, or a refusal */
     int r = judge();
     if (r) return r;
     clear_cuts();
-    for (int e = 0; e < E; e++) {
-        unsigned set = 0;
-        for (int s = T - 1, n = 0; s >= 0; s--) {
-            if (table[s * 64 + e]) set |= 1u << (table[s * 64 + e] - 1), n++;
-            touches[s * 64 + e] = set;
-            weight[s * 64 + e] = n;
+    begin();
+    usize fragile[64];
+    find_fragile(fragile);
+    for (int e = 0, at = T * 64; e < E; e++, at++) {
+        touches[at] = weight[TOUCHED][at] = 0;
+        weight[STRIPPED][at] = weight[BOTH][at] = __builtin_popcount(strips[at]);
+    }
+    for (int s = T - 1; s >= 0; s--) {
+        for (int b = 0; b < BOUNDS; b++) top[b][s] = 0;
+        for (int e = 0, at = s * 64; e < E; e++, at++) {
+            unsigned m = table[at] ? 1u << (table[at] - 1) : 0, bare = fragile[s] >> e & 1;
+            touches[at] = touches[at + 64] | m;
+            strips[at] = strips[at + 64] | (bare ? m : 0);
+            weight[TOUCHED][at] = weight[TOUCHED][at + 64] + !!m;
+            weight[STRIPPED][at] = weight[STRIPPED][at + 64] + bare;
+            weight[BOTH][at] = weight[TOUCHED][at] + weight[STRIPPED][at];
+            for (int b = 0; b < BOUNDS; b++)
+                if (weight[b][at] > top[b][s]) top[b][s] = weight[b][at];
         }
     }
-    for (int s = 0; s < T; s++) {
-        top[s] = 0;
-        for (int e = 0; e < E; e++)
-            if (weight[s * 64 + e] > top[s]) top[s] = weight[s * 64 + e];
-    }
-    begin();
     return 0;
 }
 
@@ -360,7 +409,6 @@ static int only(int k, int l) { /* the verdict for one l: how many pairs plus on
     if (r) return small(r, 0);
     if (k > 3 || l > M) return small(refuse(11, 0), 0);
     least = l;
-    need = M + 1 - l;
     for (int n = 0; n <= k && l; n++)
         if (hunt(n)) {
             for (int i = 0; i < 2 * n; i++) out[i] = pairs[i];
@@ -374,7 +422,6 @@ static int verdict(int k) { /* all answers: how many numbers they are */
     if (r) return small(r, 0);
     least = M;
     for (int n = 0; n <= k && least;) { /* for l 0 nothing is to be asked */
-        need = M + 1 - least;
         if (!hunt(n)) n++;
         else {
             put(best + 1, least + 1, n + 1);
