@@ -4,7 +4,7 @@
   bench/run.py ORACLE OURS... -- C...      the second program, which makes the plans, and the words that start each program
 
 Times are processor seconds. Both programs print a checksum of all answers, and it has to be the same. docs/BENCHMARKS.md has what this printed."""
-import math, os, shutil, subprocess, sys, tempfile
+import collections, math, os, shutil, subprocess, sys, tempfile
 
 here = os.path.dirname(os.path.abspath(__file__))
 sys.path.insert(0, here)
@@ -17,6 +17,8 @@ samples = os.path.join(here, '..', 'samples')
 made = os.path.join(here, '..', 'target', 'bench')
 repetitions = 5
 mid = repetitions // 2
+solver = shutil.which('z3')
+unsolved = 'no table of the solver: z3 is not on the PATH (Debian, Ubuntu: apt-get install z3)'
 limit = 120  # seconds for one question to the solver
 asked = [
     ('large', 'read', 20000),
@@ -29,20 +31,32 @@ asked = [
     ('accident', 'verdict2', 40000),
     ('network-1', 'judge', 20000),
     ('large', 'verdict3', 20),
-    ('network-1', 'verdict3', 20),
-    ('network-2', 'verdict3', 20),
-    ('network-3', 'verdict3', 20),
+    ('network-1', 'verdict3', 300),
+    ('network-2', 'verdict3', 50),
+    ('network-3', 'verdict3', 30),
     ('chain-1', 'verdict3', 20),
     ('chain-2', 'verdict3', 20),
     ('chain-3', 'verdict3', 50),
     ('small-1', 'verdict3', 1000),
     ('small-2', 'verdict3', 4000),
     ('small-3', 'verdict3', 1000),
-    ('wide-1', 'verdict3', 500),
-    ('wide-2', 'verdict3', 500),
+    ('wide-1', 'verdict3', 1500),
+    ('wide-2', 'verdict3', 1000),
     ('wide-3', 'verdict3', 50),
+    ('own-1', 'verdict3', 8000),
+    ('own-2', 'verdict3', 8000),
+    ('own-3', 'verdict3', 8000),
+    ('gadget-1', 'verdict3', 20),
+    ('gadget-2', 'verdict3', 20),
+    ('gadget-3', 'verdict3', 20),
+    ('dual-1', 'verdict3', 500),
+    ('dual-2', 'verdict3', 50),
+    ('dual-3', 'verdict3', 100),
+    ('grid-1', 'verdict3', 100),
+    ('grid-2', 'verdict3', 40),
+    ('grid-3', 'verdict3', 400),
 ]
-searched = {plan: turns for plan, question, turns in asked if question == 'verdict3'}
+searched = [plan for plan, question, _ in asked if question == 'verdict3']
 
 
 def folder(plan):
@@ -77,29 +91,27 @@ def make_plans():
                 subprocess.run([oracle, 'bench-plan'] + plan.split('-'), stdout=file, check=True)
 
 
-def both(plan, question, turns, l=0):
-    """Ours and C in turn: ratios, our seconds and C's, each sorted. They have to say the same."""
-    taken = []
-    for _ in range(repetitions):
-        said, mine = ask(ours, plan, question, turns, l)
-        other, theirs = ask(c, plan, question, turns, l)
-        if said != other:
-            sys.exit('%s %s: ours says %s and C says %s' % (plan, question, said, other))
-        taken.append((mine / theirs, mine, theirs))
-    return [sorted(column) for column in zip(*taken)]
-
-
-def against_c():
+def against_c(goals):
     """The table of times. Returns our seconds for each plan's search at k 3."""
-    print('%-10s %-8s %6s %9s %9s   ours / C (lowest to highest of %d)' % ('plan', 'question', 'turns', 'ours, s', 'C, s', repetitions), flush=True)
+    heads = 'plan', 'question', 'turns', 'ours, s', 'C, s', 'ours, ms', repetitions
+    print('%-10s %-8s %6s %9s %9s %9s   ours / C (lowest to highest of %d)' % heads, flush=True)
     each = {}
     for number, (plan, question, turns) in enumerate(asked):
-        ratios, mine, theirs = both(plan, question, turns)
+        taken = []
+        for _ in range(repetitions):
+            said, mine = ask(ours, plan, question, turns)
+            other, theirs = ask(c, plan, question, turns)
+            if said != other:
+                sys.exit('%s %s: ours says %s and C says %s' % (plan, question, said, other))
+            taken.append((mine / theirs, mine, theirs))
+        ratios, mine, theirs = (sorted(column) for column in zip(*taken))
         if question == 'verdict3':
             each[plan] = mine[mid] / turns
+            goals['k 3, every l, ours / C'].append((ratios[mid], plan))
+            goals['k 3, every l, ours, s'].append((each[plan], plan))
         print(
-            '%-10s %-8s %6d %9.3f %9.3f   %.2f (%.2f to %.2f)'
-            % (plan, question, turns, mine[mid], theirs[mid], ratios[mid], ratios[0], ratios[-1]),
+            '%-10s %-8s %6d %9.3f %9.3f %9.3f   %.2f (%.2f to %.2f)'
+            % (plan, question, turns, mine[mid], theirs[mid], 1000 * mine[mid] / turns, ratios[mid], ratios[0], ratios[-1]),
             flush=True,
         )
         note('%d of %d' % (number + 1, len(asked)))
@@ -144,7 +156,7 @@ def each_walk():
             print('%-10s %2s %5s %12s %12s %18d   %s' % (plan, l, pairs, lists, slots, there, arrivals), flush=True)
 
 
-def asked_of(solver, plan, read, l, edge):
+def asked_of(plan, read, l, edge):
     """The solver's seconds for one l. Its answer has to be ours: the highest l that is resistant is the edge."""
     expected = 'sat' if l > edge else 'unsat'
     with tempfile.NamedTemporaryFile('w', suffix='.smt2') as question:
@@ -158,10 +170,19 @@ def asked_of(solver, plan, read, l, edge):
     return seconds, '> ' if said == 'timeout' else ''
 
 
-def against_solver(each, edges):
-    solver = shutil.which('z3')
+def one_l(plan, l):
+    """Our seconds for one l, of so many turns that they can be told."""
+    turns = 1
+    while ask(ours, plan, 'only3', turns, l)[1] < 0.05 and turns < 32768:
+        turns *= 8
+    if ask(ours, plan, 'only3', turns, l)[0] != ask(c, plan, 'only3', turns, l)[0]:
+        sys.exit('%s only3, l %d: ours and C differ' % (plan, l))
+    return sorted(ask(ours, plan, 'only3', turns, l)[1] for _ in range(repetitions))[mid] / turns
+
+
+def against_solver(each, edges, goals):
     if not solver:
-        print('\nno table of the solver: z3 is not on the PATH (on Debian: apt-get install z3)')
+        print('\n' + unsolved)
         return
     version = subprocess.run([solver, '--version'], stdout=subprocess.PIPE, check=True).stdout.decode().split(' - ')[0]
     heads = 'plan', 'l', 'answer', 'solver, s', 'one l, s', 'every l, s', version
@@ -171,15 +192,33 @@ def against_solver(each, edges):
         for l in edges[plan] + 1, edges[plan]:
             if l == 0 or l > len(read[2]):
                 continue
-            seconds, more = asked_of(solver, plan, read, l, edges[plan])
-            one = both(plan, 'only3', searched[plan], l)[1][mid] / searched[plan]
+            seconds, more = asked_of(plan, read, l, edges[plan])
+            one = one_l(plan, l)
             meant = 'failing' if l > edges[plan] else 'resistant'
-            times = '; '.join(more + '%.1f' % (seconds / ours) for ours in (one, each[plan]))
+            times = '; '.join(more + '%.1f' % (seconds / mine) for mine in (one, each[plan]))
+            goals['k 3, one l, solver / ours'].append((seconds / one, plan))
             print('%-10s %2d %-9s %10s %10.5f %10.5f   %s' % (plan, l, meant, more + '%.2f' % seconds, one, each[plan], times), flush=True)
 
 
+def against_goals(goals):
+    """The plan that is worst for each goal."""
+    print('\n%-26s %12s %10s   %s' % ('goal', 'wanted', 'worst', 'plan'), flush=True)
+    for goal, wanted, worst in (
+        ('k 3, every l, ours / C', 'at most 2.5', max),
+        ('k 3, every l, ours, s', 'at most 1', max),
+        ('k 3, one l, solver / ours', 'at least 100', min),
+    ):
+        if goals[goal]:
+            figure, plan = worst(goals[goal])
+            print('%-26s %12s %10.2f   %s' % (goal, wanted, figure, plan), flush=True)
+
+
+goals = collections.defaultdict(list)
+if not solver:
+    note(unsolved)
 make_plans()
-times = against_c()
+times = against_c(goals)
 edges = lists_played()
 each_walk()
-against_solver(times, edges)
+against_solver(times, edges, goals)
+against_goals(goals)
