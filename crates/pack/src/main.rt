@@ -1,20 +1,19 @@
 // A row of decimals on standard input, written as the plan file `plan.bin`, or its refusal on standard output. A file that is there already is
 // left as it is: a line on standard error says so.
 ghost use mathlib.Core.Path.{_≡_};
-ghost use lib.ListN.{length, take};
+ghost use lib.ListN.{length};
 ghost use Rattle.scope.specs.Limits.{longestFile};
-ghost use Rattle.plan.specs.Answers.{Writes};
-ghost use Rattle.row_text.specs.Rows.{numbersOf, packRoom};
+ghost use Rattle.row_text.specs.Rows.{packRoom, Packs};
 ghost use Rattle.program_io.specs.Came.{Came, standardInput};
 use program_io::Read;
 use scope::Answer;
 use scope::Refusal;
 use scope::limits;
 
-// The plan file of what was read, the first n bytes of a buffer.
+// The plan file of what was read, the first n bytes of a buffer: that of the whole text, however long it is.
 fn packed(text: &[u8], n: usize, plan: &mut [u8]) -> Answer
     requires { ⌜ Came standardInput n (now text) × (length (now text) ≡ packRoom) × (length (now plan) ≡ longestFile) ⌝ }
-    ensures { λ r. ⌜ Writes (numbersOf (take n (now (text .entry)))) (now (plan .entry)) (now (plan .exit)) r ⌝ }
+    ensures { λ r. ⌜ Packs (now (text .entry)) n (now (plan .entry)) (now (plan .exit)) r ⌝ }
 {
     row_text::pack_text(&text[..n], plan)
 }

@@ -59,17 +59,25 @@ after-same : (o : Outcome) (r : Refusal) (a b buffer : List ℕ) → o ≡ refus
 unfolding after
 after-same o r a b buffer e = rw e
 
--- writing the front of a long row is writing the row: both are refused alike
-pub writes-front : (row front entry exit : List ℕ) (r : Answer) → 10406 ≤ length row → front ≡ take 10406 row → Writes front entry exit r → Writes row entry exit r
-writes-front row front entry exit r l is h =
-    let x = long-refused row l in
-    let a : writeFile front (length entry) ≡ refused (x .0) =
-    write-refused front (length entry) (x .0) (ap walkRow is ∙ row-front row l ∙ x .1) in
-    let b : writeFile row (length entry) ≡ refused (x .0) = write-refused row (length entry) (x .0) (x .1) in
-    record {
-      answer = h .answer ∙ a ∙ sym b;
-      buffer =
-          h .buffer
-          ∙ ap (λ (o : Outcome). after o (fileOf front) entry) (a ∙ sym b)
-          ∙ after-same (writeFile row (length entry)) (x .0) (fileOf front) (fileOf row) entry b;
-    }
+-- a long row and its front are refused alike
+module _ (row entry : List ℕ) (l : 10406 ≤ length row) where
+  abbrev front : List ℕ
+  front = take 10406 row
+
+  alike : writeFile front (length entry) ≡ writeFile row (length entry)
+  alike =
+      let x = long-refused row l in
+      write-refused front (length entry) (x .0) (row-front row l ∙ x .1) ∙ sym (write-refused row (length entry) (x .0) (x .1))
+
+  kept : after (writeFile front (length entry)) (fileOf front) entry ≡ after (writeFile row (length entry)) (fileOf row) entry
+  kept =
+      let x = long-refused row l in
+      ap (λ (o : Outcome). after o (fileOf front) entry) alike ∙
+      after-same (writeFile row (length entry)) (x .0) (fileOf front) (fileOf row) entry (write-refused row (length entry) (x .0) (x .1))
+
+  -- so writing the one is writing the other
+  pub writes-front : (exit : List ℕ) (r : Answer) → Writes front entry exit r → Writes row entry exit r
+  writes-front exit r h = record { answer = h .answer ∙ alike; buffer = h .buffer ∙ kept }
+
+  pub front-writes : (exit : List ℕ) (r : Answer) → Writes row entry exit r → Writes front entry exit r
+  front-writes exit r h = record { answer = h .answer ∙ sym alike; buffer = h .buffer ∙ sym kept }

@@ -1,6 +1,6 @@
 -- One law for each way out of a function of this crate, from what its callees ensure.
 use Prim.Native.Nat.{ℕ, _+_, _≤_, _<_, _^_}
-use mathlib.Core.Path.{_≡_, sym, _∙_, ap}
+use mathlib.Core.Path.{_≡_, sym, _∙_, ap, subst}
 use mathlib.Core.List.{List, [], _++_, append-nil}
 use native.Mathlib.Omega.{arith}
 use lib.ListN.{length, take, drop, take-append-drop, drop-of-length-le}
@@ -70,4 +70,5 @@ module _ {s b c : List ℕ} {n : ℕ} (p : Puts s b c 0 n) (l : length b ≡ 104
   pub packs-front : {entry exit : List ℕ} {r : Answer} → 10406 < n → Writes c entry exit r → Writes s entry exit r
   packs-front {entry} {exit} {r} h w =
       let e = p .ends in
-      writes-front s c entry exit r (omega arith) (laid-some p (omega arith) ∙ ap (λ (k : ℕ). take k s) l) w
+      writes-front s entry (omega arith) exit r
+      (subst (λ (row : List ℕ). Writes row entry exit r) (laid-some p (omega arith) ∙ ap (λ (k : ℕ). take k s) l) w)

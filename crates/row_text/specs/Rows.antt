@@ -3,12 +3,15 @@ use Prim.Native.Nat.{ℕ, _+_, _-_, _*_}
 use mathlib.Core.Bool.{Bool, true, false, cond, _&&_, _||_}
 use mathlib.Core.List.{List, [], _∷_, _++_}
 use lib.Dec.{eqb}
+use Rattle.scope.specs.declared.Answer.{Answer}
 use Rattle.scope.specs.Outcome.{Outcome, gives, refused}
 use Rattle.scope.specs.File.{rowOf}
 use Rattle.scope.specs.Questions.{readFile}
 use Rattle.scope.specs.Limits.{longestRow}
 use Rattle.scope.specs.Lines.{decimal, refusedLine}
 use Rattle.text.specs.Reading.{goesOn}
+use Rattle.listing.specs.Prints.{Front}
+use Rattle.plan.specs.Answers.{Writes}
 
 -- the byte after a number of a row: a space, or a line feed after the last
 abbrev pub mark : List ℕ → ℕ
@@ -58,3 +61,7 @@ numbersFrom begun a (b ∷ text) =
 -- the row that a text says
 abbrev pub numbersOf : List ℕ → List ℕ
 numbersOf text = numbersFrom false 0 text
+
+-- a text packed of which the first n bytes of a buffer were read: as the whole text is, however long
+pub record Packs (text : List ℕ) (n : ℕ) (entry exit : List ℕ) (r : Answer) : Type 0 where
+  pub all : (whole : List ℕ) → Front text n whole → Writes (numbersOf whole) entry exit r

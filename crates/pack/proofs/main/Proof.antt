@@ -2,8 +2,8 @@
 use mathlib.Core.Path.{sym}
 use borrow.Author.Needs.{needs}
 use lib.Seq.{length-take-le}
-use Rattle.plan.proofs.Reading.{write-fit}
 use Rattle.program_io.proofs.Fits.{bytes-came}
+use Rattle.row_text.proofs.Enough.{packs-within}
 use Rattle.pack.proofs.main.Statement.{statement}
 use Rattle.pack.proofs.main.Tie as tie
 
@@ -35,10 +35,10 @@ slice-aggregate-save : tie.Need-slice-aggregate-save
 slice-aggregate-save c = search needs
 
 array-share-prefix-plan : tie.Need-array-share-prefix-plan
-array-share-prefix-plan c = write-fit _ _ _ _ (c .before .before .before .before .before .packed .ensures) _ (c .before .before .answer .given .1)
+array-share-prefix-plan c = packs-within _ _ _ _ _ (c .before .before .before .before .before .packed .ensures) _ (c .before .before .answer .given .1)
 
 slice-aggregate-save-2 : tie.Need-slice-aggregate-save-2
-slice-aggregate-save-2 c = sym (length-take-le _ _ (write-fit _ _ _ _ (c .before .before .before .before .before .before .packed .ensures) _ (c .before .before .before .answer .given .1)))
+slice-aggregate-save-2 c = sym (length-take-le _ _ (packs-within _ _ _ _ _ (c .before .before .before .before .before .before .packed .ensures) _ (c .before .before .before .answer .given .1)))
 
 save-requires : tie.Need-save-requires
 save-requires c κs = search needs

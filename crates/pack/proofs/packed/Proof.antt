@@ -1,6 +1,7 @@
--- `pack::packed` meets its contract: it packs what came.
+-- `pack::packed` meets its contract: what came packs to what the whole text does.
 use borrow.Author.Needs.{needs}
 use Rattle.program_io.proofs.Fits.{came-whole}
+use Rattle.row_text.proofs.Enough.{packs-whole}
 use Rattle.pack.proofs.packed.Statement.{statement}
 use Rattle.pack.proofs.packed.Tie as tie
 
@@ -14,7 +15,7 @@ same-length : tie.Need-same-length
 same-length c = search needs
 
 returns : tie.Need-returns
-returns c = search needs
+returns c = packs-whole _ _ _ _ _ (c .before .before .before .before .before .before .before .pre .1) (c .before .before .pack-text .ensures)
 
 pub packed-spec : {M : Type 1} → statement M
 packed-spec = tie.close (tie.spec slice-aggregate-pack-text pack-text-requires same-length returns)
