@@ -21,11 +21,6 @@ ghost use Rattle.forms.specs.Walk.{fieldsFrom, restOf, Stops, Passes};
 ghost use Rattle.forms.specs.Unpack.{walkFields, Unpacks};
 ghost use Rattle.forms.specs.Pack.{Complete, Sized, Fitting, Packed};
 
-// The most numbers of a row, and the most bytes of a file, that are not refused.
-pub const LONGEST_ROW: usize = 10405;
-
-pub const LONGEST_FILE: usize = 7348;
-
 // Where n numbers from an index of a row on end: after them, or at the end of the row.
 fn stop(row: &[u16], i: usize, n: usize) -> usize
     requires { ⌜ i ≤ length (now row) ⌝ }

@@ -2,6 +2,7 @@
 // what is bad by document 01's numbers, and then leaves what it was lent as it was. It leans on `forms` for the form of files and
 // rows and on `rules` for the rules of a good plan.
 use scope::Answer;
+use scope::limits;
 use scope::refuse;
 ghost use mathlib.Core.Path.{_≡_};
 ghost use Prim.Native.Nat.{_≤_};
@@ -13,9 +14,6 @@ ghost use Rattle.scope.specs.Outcome.{gives};
 ghost use Rattle.scope.specs.Row.{walkRow};
 ghost use Rattle.rows.specs.View.{PartAt};
 ghost use Rattle.plan.specs.Answers.{Accepts, Reads, Writes, shownIndex};
-
-// The longest row that a file can have.
-const LONGEST_ROW: usize = 10405;
 
 // Refusals 1 to 10 of a row, or how many numbers it has.
 pub fn judge(row: &[u16]) -> Answer
@@ -70,7 +68,7 @@ fn accept(all: &[u16], row: &mut [u16]) -> Answer
 pub fn read_file(file: &[u8], row: &mut [u16]) -> Answer
     ensures { λ r. ⌜ Reads (now (file .entry)) (now (row .entry)) (now (row .exit)) r ⌝ }
 {
-    let mut all = [0u16; LONGEST_ROW];
+    let mut all = [0u16; limits::ROW];
     let unpacked = forms::unpack(file, &mut all);
     let answer = unpacked.answer;
     let n = unpacked.count;

@@ -12,12 +12,13 @@ use scope::Answer;
 use scope::limits;
 
 // The numbers of 65 cuts, which are as many as can matter.
-const MOST_CUTS: usize = 130;
+const MOST_CUTS: usize = 2 * (limits::LINKS + 1);
 
 // The listing of the replay of a good row under a cut list: how many bytes, or refusal 12, 13.
 fn played(row: &[u16], cuts: &[u16], out: &mut [u8]) -> Answer
     requires { ⌜ GoodRow (now row) ⌝ }
-    ensures { λ r. ⌜ Says (replay (now (row .entry)) (now (cuts .entry)) longestEvents) (textOf (now (row .entry)) (now (cuts .entry))) (now (out .entry)) (now (out .exit)) r ⌝ }
+    ensures { λ r. ⌜ Says (replay (now (row .entry)) (now (cuts .entry)) longestEvents) (textOf (now (row .entry)) (now (cuts .entry)))
+        (now (out .entry)) (now (out .exit)) r ⌝ }
 {
     let mut events = [0u16; limits::EVENTS];
     let answer = cut_replay::replay_good(row, cuts, &mut events);
@@ -30,7 +31,8 @@ fn played(row: &[u16], cuts: &[u16], out: &mut [u8]) -> Answer
 // The same for the cuts that an input says.
 fn played_input(row: &[u16], input: &[u8], out: &mut [u8]) -> Answer
     requires { ⌜ GoodRow (now row) ⌝ }
-    ensures { λ r. ⌜ Says (replay (now (row .entry)) (cutsOf (now (input .entry))) longestEvents) (textOf (now (row .entry)) (cutsOf (now (input .entry)))) (now (out .entry)) (now (out .exit)) r ⌝ }
+    ensures { λ r. ⌜ Says (replay (now (row .entry)) (cutsOf (now (input .entry))) longestEvents)
+        (textOf (now (row .entry)) (cutsOf (now (input .entry)))) (now (out .entry)) (now (out .exit)) r ⌝ }
 {
     let mut pairs = [0u16; MOST_CUTS];
     let n = cut_lines::cuts(input, &mut pairs);
@@ -40,7 +42,8 @@ fn played_input(row: &[u16], input: &[u8], out: &mut [u8]) -> Answer
 // The listing for a plan file and an input: how many bytes, or refusal 1, 2, 4 to 10, 12, 13, and then nothing is written. The plan's refusal
 // comes before the cuts'.
 pub fn replay_text(file: &[u8], input: &[u8], out: &mut [u8]) -> Answer
-    ensures { λ r. ⌜ Says (mayList (now (file .entry)) (now (input .entry))) (replayText (now (file .entry)) (now (input .entry))) (now (out .entry)) (now (out .exit)) r ⌝ }
+    ensures { λ r. ⌜ Says (mayList (now (file .entry)) (now (input .entry))) (replayText (now (file .entry)) (now (input .entry)))
+        (now (out .entry)) (now (out .exit)) r ⌝ }
 {
     let mut row = [0u16; limits::ROW];
     let read = plan::read_file(file, &mut row);

@@ -11,13 +11,14 @@ ghost use Rattle.plan.specs.Answers.{GoodRow};
 ghost use Rattle.text.specs.Text.{Puts, Told};
 ghost use Rattle.verdict_text.specs.Layout.{lineOf, linesOf, slackAt, Sevens, Lays, LinesUnder};
 ghost use Rattle.verdict_text.specs.Texts.{highestOr};
+use scope::limits;
 use spare::Spare;
 use verdict_lines::failing_line;
 use verdict_lines::resistant_line;
 use verdict_lines::slack_line;
 
 // Seven numbers for each l from 0 to 32.
-const ANSWERS: usize = 231;
+const ANSWERS: usize = 7 * (limits::MESSAGES + 1);
 
 // Bytes enough for every text (proofs/Theorems, `text-room`).
 pub const ROOM: usize = 34700;
@@ -75,8 +76,10 @@ fn place_slack(row: &[u16], m: usize, p: usize, out: &mut [u8], at: usize) -> us
 
 // Those of a message.
 fn message_slacks(row: &[u16], m: usize, out: &mut [u8], at: usize) -> usize
-    requires { ⌜ GoodRow (now row) × (m < messageCount (now row)) × Told at (messageSlacks (planOf (now row)) m 0 (pathOf (planOf (now row)) m)) ⌝ }
-    ensures { λ r. ⌜ Puts (messageSlacks (planOf (now (row .entry))) m 0 (pathOf (planOf (now (row .entry))) m)) (now (out .entry)) (now (out .exit)) at r ⌝ }
+    requires { ⌜ GoodRow (now row) × (m < messageCount (now row)) ×
+        Told at (messageSlacks (planOf (now row)) m 0 (pathOf (planOf (now row)) m)) ⌝ }
+    ensures { λ r. ⌜ Puts (messageSlacks (planOf (now (row .entry))) m 0 (pathOf (planOf (now (row .entry))) m)) (now (out .entry))
+        (now (out .exit)) at r ⌝ }
 {
     let count = rows::place_count(row, rows::message_index(row, m));
     let mut next = at;
@@ -91,7 +94,8 @@ fn message_slacks(row: &[u16], m: usize, out: &mut [u8], at: usize) -> usize
 // Those of all messages.
 pub fn slack_lines(row: &[u16], out: &mut [u8], at: usize) -> usize
     requires { ⌜ GoodRow (now row) × (at < 2 ^ 32) ⌝ }
-    ensures { λ r. ⌜ Puts (slackLines (planOf (now (row .entry))) 0 (planOf (now (row .entry)) .messages)) (now (out .entry)) (now (out .exit)) at r ⌝ }
+    ensures { λ r. ⌜ Puts (slackLines (planOf (now (row .entry))) 0 (planOf (now (row .entry)) .messages)) (now (out .entry))
+        (now (out .exit)) at r ⌝ }
 {
     let count = rows::messages(row);
     let mut next = at;
