@@ -15,7 +15,7 @@ use Rattle.scope.specs.Plan.{Plan, planOf, messageCount}
 use Rattle.scope.specs.Questions.{judge}
 use Rattle.scope.proofs.Order.{first-once, resistant-or-failing}
 use Rattle.rows.proofs.Parts.{message-count}
-use Rattle.plan.proofs.Outcomes.{same-answer}
+use Rattle.scope.proofs.Outcomes.{same-answer}
 use Rattle.plan.specs.Answers.{GoodRow}
 use Rattle.plan.proofs.Theorems.{judged}
 use Rattle.all_verdicts.specs.Answers.{Says, failing, seven, needed, mayAnswer, AllSaid, After, AnswersAll}

@@ -14,7 +14,7 @@ use Rattle.bound.specs.Sums.{sumOf}
 use Rattle.bound.specs.Touch.{harm}
 use Rattle.bound.specs.Harmed.{NotBefore}
 use Rattle.bound.proofs.Sums.{sum-same}
-use Rattle.order.proofs.Some.{some-one}
+use Rattle.scope.proofs.Some.{some-one}
 use Rattle.order.proofs.Parts.{slot-left, link-left, slot-right, link-right}
 
 module _ (weight : ℕ → ℕ → ℕ) (pre x : List ℕ) (d : ℕ) (long : length pre ≡ 2 * d) where

@@ -6,7 +6,7 @@ use mathlib.Core.List.{List}
 use native.Mathlib.Omega.{arith}
 use lib.Dec.{ltb, leb, eqb}
 use borrow.Author.Tests.{lt-ltb, le-ltb, le-leb, lt-leb, eq-eqb, ne-eqb, leb-true, ltb-true}
-use Rattle.scope.specs.Lines.{byteAt, isDigit, numberAt, numberSize, hasWord, cutWord, isCutLine, slotIndex, spaceIndex, linkIndex, feedIndex}
+use Rattle.scope.specs.Lines.{byteAt, isDigit, numberSize, hasWord, cutWord, isCutLine, slotIndex, spaceIndex, linkIndex, feedIndex}
 use Rattle.text.specs.Reading.{stands}
 use Rattle.cut_lines.specs.Reads.{End}
 
@@ -58,14 +58,6 @@ module _ (a b : ℕ) where
 
   pub value-two : isDigit b ≡ true → valueOf a b ≡ (a - 48) * 10 + (b - 48)
   value-two e = rw e
-
--- the same of a text, with the bytes that were read
-module _ (text : List ℕ) (i a b : ℕ) (p : a ≡ byteAt text i) (q : b ≡ byteAt text (i + 1)) where
-  pub size-is : numberSize text i ≡ sizeOf a b
-  size-is = sym (ap (λ (x : ℕ). sizeOf x b) p ∙ ap (λ (y : ℕ). sizeOf (byteAt text i) y) q)
-
-  pub value-is : numberAt text i ≡ valueOf a b
-  value-is = sym (ap (λ (x : ℕ). valueOf x b) p ∙ ap (λ (y : ℕ). valueOf (byteAt text i) y) q)
 
 pub stands-cut : (text : List ℕ) (i : ℕ) → stands text i cutWord ≡ hasWord text i
 unfolding stands
@@ -188,7 +180,8 @@ module _ (text : List ℕ) (i r : ℕ) (p : r ≡ cond (isCutLine text i) (feedI
   pub end-is : (r ≡ 0 → ⊥) → r ≡ feedIndex text i + 1
   end-is n = p ∙ rw (end-line n)
 
-pub is-end : (text : List ℕ) (i r : ℕ) → isCutLine text i ≡ true → r ≡ feedIndex text i + 1 → r ≡ cond (isCutLine text i) (feedIndex text i + 1) 0
+pub is-end : (text : List ℕ) (i r : ℕ) → isCutLine text i ≡ true → r ≡ feedIndex text i + 1 →
+    r ≡ cond (isCutLine text i) (feedIndex text i + 1) 0
 is-end text i r e q = q ∙ rw e
 
 pub no-end : (text : List ℕ) (i : ℕ) → isCutLine text i ≡ false → End text i 0

@@ -12,7 +12,7 @@ use Rattle.scope.specs.Limits.{mostLinks}
 use Rattle.scope.specs.Lowest.{seek, some}
 use Rattle.scope.specs.Cuts.{cutSlot, cutLink, pairs, isCut}
 use Rattle.cuts.specs.Down.{isDown, withPair, DownIn}
-use Rattle.cuts.proofs.Some.{some-more}
+use Rattle.scope.proofs.Some.{some-more}
 
 pub down-past : (down : List ℕ) (e : ℕ) → length down ≤ e → isDown down e ≡ false
 down-past down e h = ap (ltb 0) (List·getD-eq-default down 0 h)
@@ -40,7 +40,11 @@ module _ (cuts : List ℕ) (i : ℕ) where
 
   pub told-none : Told 0 (replicate {A = ℕ} mostLinks 0)
   unfolding seek
-  told-none = record { long = length-replicate {A = ℕ} mostLinks 0; is = λ e g. ap (ltb 0) (getD-replicate {A = ℕ} mostLinks e 0 0 g) ∙ sym (le-ltb 0 0 (omega arith)) }
+  told-none = record {
+    long = length-replicate {A = ℕ} mostLinks 0;
+    is = λ e g. ap (ltb 0) (getD-replicate {A = ℕ} mostLinks e 0 0 g) ∙
+        sym (le-ltb 0 0 (omega arith));
+  }
 
   more : (j : ℕ) (down : List ℕ) → Told j down → Told (j + 1) (withPair down (cutSlot cuts j) (cutLink cuts j) i)
   more j down t = by (leb (cutSlot cuts j) i) refl
@@ -49,7 +53,8 @@ module _ (cuts : List ℕ) (i : ℕ) where
       other e g s = rw (some-more (cutBy cuts i e) j, s, or-false) (t .is e g)
 
       -- the pair is not later than the slot
-      on : leb (cutSlot cuts j) i ≡ true → (e : ℕ) → e < mostLinks → (b : Bool) → eqb (cutLink cuts j) e ≡ b → isDown (set down (cutLink cuts j) 1) e ≡ some (cutBy cuts i e) (j + 1)
+      on : leb (cutSlot cuts j) i ≡ true → (e : ℕ) → e < mostLinks → (b : Bool) → eqb (cutLink cuts j) e ≡ b →
+          isDown (set down (cutLink cuts j) 1) e ≡ some (cutBy cuts i e) (j + 1)
       on h e g true b =
           let q : cutLink cuts j ≡ e = eqb-true (cutLink cuts j) e b in
           let s : cutBy cuts i e j ≡ true = rw (b, h) in

@@ -1,3 +1,2 @@
-pub mod Some
 pub mod Downs
 pub mod Pairs

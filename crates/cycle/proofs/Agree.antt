@@ -24,11 +24,12 @@ use Rattle.table.specs.Table.{Table, entryAt}
 use Rattle.table.proofs.Entries.{no-link}
 use Rattle.cuts.specs.Down.{cutBelow}
 use Rattle.cuts.specs.Pairs.{isTwice}
-use Rattle.cuts.proofs.Some.{some-no, none-before}
+use Rattle.scope.proofs.Some.{none, none-below}
 
 -- a cycle looks at a slot's links and entries only in that slot
 module _ (rank : ℕ → ℕ) (down down′ : ℕ → ℕ → Bool) (owner owner′ : ℕ → ℕ → ℕ) where
-  pub slot-same : (i : ℕ) (ps : List S.Position) → down i ≡ down′ i → owner i ≡ owner′ i → slot rank down owner i ps ≡ slot rank down′ owner′ i ps
+  pub slot-same : (i : ℕ) (ps : List S.Position) → down i ≡ down′ i → owner i ≡ owner′ i →
+      slot rank down owner i ps ≡ slot rank down′ owner′ i ps
   unfolding slot
   slot-same i ps p q = rw (p, q)
 
@@ -38,7 +39,8 @@ module _ (rank : ℕ → ℕ) (down down′ : ℕ → ℕ → Bool) (owner owner
   positions-same zero i ps h = refl
   positions-same (suc n) i ps h =
       let s : slot rank down owner i ps ≡ slot rank down′ owner′ i ps = slot-same i ps (h i (omega arith) .0) (h i (omega arith) .1) in
-      positions-same n (i + 1) (nexts (slot rank down owner i ps)) (λ j l. h j (omega arith)) ∙ ap (λ u. positions rank down′ owner′ (i + 1) n (nexts u)) s
+      positions-same n (i + 1) (nexts (slot rank down owner i ps)) (λ j l. h j (omega arith)) ∙
+      ap (λ u. positions rank down′ owner′ (i + 1) n (nexts u)) s
 
   pub events-same : (n i : ℕ) (ps : List S.Position) → ((j : ℕ) → j < i + n → (down j ≡ down′ j) × (owner j ≡ owner′ j)) →
       events rank down owner i n ps ≡ events rank down′ owner′ i n ps
@@ -63,7 +65,8 @@ module _ (plan : Plan) (cuts : List ℕ) (n : ℕ) (good : checkCuts plan cuts �
   unfolding checkCuts
   none-bad = by (some (badPair plan cuts) (pairs cuts)) refl good
     where
-      by : (t : Bool) → some (badPair plan cuts) (pairs cuts) ≡ t → cond t (refuse 12 (lowest (badPair plan cuts) (pairs cuts))) (gives (pairs cuts)) ≡ gives n →
+      by : (t : Bool) → some (badPair plan cuts) (pairs cuts) ≡ t → cond t (refuse 12 (lowest (badPair plan cuts) (pairs cuts)))
+          (gives (pairs cuts)) ≡ gives n →
           some (badPair plan cuts) (pairs cuts) ≡ false
       by true e g = not-both g
       by false e g = e
@@ -73,14 +76,14 @@ module _ (plan : Plan) (cuts : List ℕ) (n : ℕ) (good : checkCuts plan cuts �
       let a = eqb (length cuts) (2 * j + 1) in
       let b = not (ltb (cutSlot cuts j) (plan .timeout)) in
       let l = ltb (cutLink cuts j) (length (plan .links)) in
-      let f : badPair plan cuts j ≡ false = none-before (badPair plan cuts) (pairs cuts) j none-bad h in
+      let f : badPair plan cuts j ≡ false = none-below (badPair plan cuts) (pairs cuts) none-bad j h in
       let g = or-left (a || b || not l) (falls cuts j) (or-left (a || b || not l || falls cuts j) (isTwice cuts j) f) in
       ltb-true (cutLink cuts j) (length (plan .links)) (not-false l (or-right (a || b) (not l) g))
 
   pub cut-none : (i e : ℕ) → length (plan .links) ≤ e → isCut plan cuts i e ≡ false
   unfolding isCut
   cut-none i e h =
-      some-no (λ j. cutsLink plan (cutLink cuts j) e && leb (cutSlot cuts j) i) (pairs cuts)
+      none (λ j. cutsLink plan (cutLink cuts j) e && leb (cutSlot cuts j) i) (pairs cuts)
       (λ j l.
       let s = link-small j l in
       let f : eqb (cutLink cuts j) e ≡ false = ne-eqb (cutLink cuts j) e (λ q. omega arith) in
@@ -109,7 +112,7 @@ module _ (row : List ℕ) (lies : PlanLies row) where
   unfolding tableOf
   table-none i e h =
       let s : some (λ m. holds e i (pathOf (planOf row) m)) (length (planOf row .messages)) ≡ false =
-      some-no (λ m. holds e i (pathOf (planOf row) m)) (length (planOf row .messages))
+      none (λ m. holds e i (pathOf (planOf row) m)) (length (planOf row .messages))
       (λ m l. one m (omega (arith, message-count row))) in
       rw s
     where

@@ -8,7 +8,7 @@ use borrow.Author.Tests.{le-leb, lt-leb}
 use Rattle.scope.specs.declared.Answer.{Answer}
 use Rattle.scope.specs.declared.Answer.the-variants.{Gives, Refused}
 use Rattle.scope.specs.declared.Refusal.{Refusal}
-use Rattle.scope.proofs.Outcomes.{not-both}
+use Rattle.scope.proofs.Outcomes.{not-both, same-answer}
 use Rattle.scope.specs.Outcome.{Outcome, outcomeOf, gives, refused, refuse, andThen, room}
 use Rattle.scope.specs.Lines.{refusedLine}
 use Rattle.scope.specs.Questions.{after}
@@ -36,7 +36,8 @@ module _ {text b : List ℕ} {n : ℕ} (p : Puts text [] b 0 n) where
         buffer = rw (is, counted);
       }
 
-  pub prints-whole : (entry : List ℕ) {c : List ℕ} {m : ℕ} → n ≤ length (b ++ entry) → Puts text (b ++ entry) c 0 m → Prints text entry c (Gives n)
+  pub prints-whole : (entry : List ℕ) {c : List ℕ} {m : ℕ} → n ≤ length (b ++ entry) → Puts text (b ++ entry) c 0 m →
+      Prints text entry c (Gives n)
   unfolding after
   prints-whole entry h q =
       let room : length text ≤ length entry = omega (arith, needed, same entry) in
@@ -54,7 +55,8 @@ pub says-as : {may may′ : Outcome} {text text′ entry exit : List ℕ} {r : A
     Says may text entry exit r → Says may′ text′ entry exit r
 says-as d e p = rw (d, e) at p
 
-pub says-given : {may : Outcome} {text entry exit : List ℕ} {r : Answer} (n : ℕ) → may ≡ gives n → Prints text entry exit r → Says may text entry exit r
+pub says-given : {may : Outcome} {text entry exit : List ℕ} {r : Answer} (n : ℕ) → may ≡ gives n → Prints text entry exit r →
+    Says may text entry exit r
 says-given {may} {text} {entry} n e p =
     record { answer = p .answer ∙ sym (ap (λ (o : Outcome). andThen o (λ _. room (length text) (length entry))) e); buffer = p .buffer }
 
@@ -96,13 +98,8 @@ module _ (text entry : List ℕ) (fits : length text ≤ length entry) where
     printed-refused r e line {exit′} {b} p = subst (λ (t : List ℕ). Printed t entry exit′ b) is (refuses may line r (rw e at s) p)
 
 -- two outcomes that the statement allows are equal
-same-answer : (r s : Answer) → outcomeOf r ≡ outcomeOf s → r ≡ s
-same-answer (Gives n) (Gives m) e = cc
-same-answer (Gives n) (Refused y) e = not-both (sym e)
-same-answer (Refused x) (Gives m) e = not-both e
-same-answer (Refused x) (Refused y) e = ap Refused (let f : x ≡ y = cc in f)
-
-pub says-only : {may : Outcome} {text entry exit exit′ : List ℕ} {r r′ : Answer} → Says may text entry exit r → Says may text entry exit′ r′ → (r ≡ r′) × (exit ≡ exit′)
+pub says-only : {may : Outcome} {text entry exit exit′ : List ℕ} {r r′ : Answer} → Says may text entry exit r → Says may text entry exit′ r′ →
+    (r ≡ r′) × (exit ≡ exit′)
 says-only {may} {text} {entry} {exit} {exit′} {r} {r′} p q =
     let e : outcomeOf r ≡ outcomeOf r′ = p .answer ∙ sym (q .answer) in
     (same-answer r r′ e, p .buffer ∙ ap (λ (o : Outcome). after o text entry) e ∙ sym (q .buffer))

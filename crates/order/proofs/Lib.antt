@@ -1,4 +1,3 @@
-pub mod Some
 pub mod Parts
 pub mod Pairs
 pub mod Prefix

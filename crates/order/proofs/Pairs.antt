@@ -12,7 +12,7 @@ use Rattle.scope.specs.Plan.{Plan}
 use Rattle.scope.specs.Cuts.{pairs, cutSlot, cutLink, pairBefore, falls, badPair, isCutList}
 use Rattle.scope.proofs.Cuts.{slot-below, link-below, rising, once, even}
 use Rattle.order.specs.Search.{code, codeAt}
-use Rattle.order.proofs.Some.{none, none-below}
+use Rattle.scope.proofs.Some.{none, none-below}
 use Rattle.order.proofs.Parts.{slot-left, link-left, slot-right, link-right}
 
 -- pairs rise as their codes do
@@ -41,7 +41,8 @@ pub is-cut-list : (plan : Plan) (cuts : List ℕ) → ((i : ℕ) → i < pairs c
 is-cut-list plan cuts h = rw (none (badPair plan cuts) (pairs cuts) h)
 
 -- a pair that breaks no rule
-rises-not-falls : (cuts : List ℕ) (i : ℕ) → ((j : ℕ) → j < i + 1 → cutLink cuts j < mostLinks) → ((j : ℕ) → j + 1 ≡ i → codeAt cuts j < codeAt cuts i) →
+rises-not-falls : (cuts : List ℕ) (i : ℕ) → ((j : ℕ) → j < i + 1 → cutLink cuts j < mostLinks) →
+    ((j : ℕ) → j + 1 ≡ i → codeAt cuts j < codeAt cuts i) →
     falls cuts i ≡ false
 rises-not-falls cuts zero links rise = refl
 rises-not-falls cuts (suc i) links rise =
@@ -49,7 +50,8 @@ rises-not-falls cuts (suc i) links rise =
     rw (
       lt-ltb 0 (suc i) (omega arith),
       e,
-      before-code (cutSlot cuts i) (cutLink cuts i) (cutSlot cuts (suc i)) (cutLink cuts (suc i)) (links i (omega arith)) (links (suc i) (omega arith))
+      before-code (cutSlot cuts i) (cutLink cuts i) (cutSlot cuts (suc i)) (cutLink cuts (suc i)) (links i (omega arith))
+          (links (suc i) (omega arith))
           (rise i (omega arith)),
     )
 
@@ -163,6 +165,13 @@ module _ (plan : Plan) (small : length (plan .links) ≤ mostLinks) (pre : List 
             even = λ z. omega (arith, length-append pre y);
             slot = rw sd (n .slot);
             links = λ j g. links j (omega arith) (ltb j d) refl;
-            rise = λ j g. omega (arith, sd, ld, n .rises j (omega arith), slot-left pre y d long j (omega arith), link-left pre y d long j (omega arith));
+            rise = λ j g. omega (
+              arith,
+              sd,
+              ld,
+              n .rises j (omega arith),
+              slot-left pre y d long j (omega arith),
+              link-left pre y d long j (omega arith),
+            );
             once = λ j g same. n .new j (omega arith) (sym (link-left pre y d long j (omega arith)) ∙ same ∙ ld);
           }

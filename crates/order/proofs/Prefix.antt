@@ -12,7 +12,7 @@ use Rattle.scope.specs.Plan.{Plan}
 use Rattle.scope.specs.Cuts.{pairs, cutSlot, cutLink, isCut, cutsLink}
 use Rattle.scope.specs.Cycle.{orderOf, tableOf, start, positions}
 use Rattle.laws.proofs.Replay.{positions-follow, depends-on-these-slots}
-use Rattle.order.proofs.Some.{some-same, some-more}
+use Rattle.scope.proofs.Some.{some-same, some-more}
 use Rattle.order.proofs.Parts.{slot-left, link-left, slot-right, link-right, pairs-both}
 
 -- what a list with one pair more cuts

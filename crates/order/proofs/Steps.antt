@@ -31,7 +31,8 @@ split {P} a b lower other = by (ltb a b) refl
     by false e = other (ltb-false a b e)
 
 -- a list with one pair more, at the place where the next one is to be chosen
-pub picked : (plan : Plan) → length (plan .links) ≤ mostLinks → (pre : List ℕ) (d lo s e : ℕ) → Chosen plan pre d lo → lo ≤ code s e → s < plan .timeout →
+pub picked : (plan : Plan) → length (plan .links) ≤ mostLinks → (pre : List ℕ) (d lo s e : ℕ) → Chosen plan pre d lo →
+    lo ≤ code s e → s < plan .timeout →
     e < length (plan .links) → ((j : ℕ) → j < d → cutLink pre j ≡ e → ⊥) → Chosen plan (pre ++ s ∷ e ∷ []) (d + 1) (code s (e + 1))
 picked plan small pre d lo s e c h hs he new =
     let y : List ℕ = s ∷ e ∷ [] in
@@ -40,7 +41,8 @@ picked plan small pre d lo s e c h hs he new =
     let ld : cutLink (pre ++ y) d ≡ e = rw z at (link-right pre y d (c .long) 0) in
     record {
       long = omega (arith, c .long, length-append pre y);
-      good = one-more plan small pre d (c .long) s e (c .good) (record { slot = hs; link = he; new = new; rises = λ j g. omega (arith, c .next j g) });
+      good = one-more plan small pre d (c .long) s e (c .good)
+          (record { slot = hs; link = he; new = new; rises = λ j g. omega (arith, c .next j g) });
       none = λ g. absurd (omega arith);
       next = λ j g.
           let at : j ≡ d = omega arith in
@@ -60,7 +62,8 @@ module _ (plan : Plan) (Answers : List ℕ → Type 0) (pre : List ℕ) where
       first [] long e g it = absurd (true≢false (sym (rw (append-nil pre) at e) ∙ earlier-self pre))
       first (a ∷ x) long e g it = absurd (omega arith)
 
-module _ (plan : Plan) (Answers : List ℕ → Type 0) (small : length (plan .links) ≤ mostLinks) (pre : List ℕ) (d start : ℕ) (chosen : Chosen plan pre d start)
+module _ (plan : Plan) (Answers : List ℕ → Type 0) (small : length (plan .links) ≤ mostLinks) (pre : List ℕ) (d start : ℕ)
+    (chosen : Chosen plan pre d start)
     (k : ℕ) where
   pub after : (a b : ℕ) (x : List ℕ) → isCutList plan (pre ++ a ∷ b ∷ x) ≡ true → Next plan pre d a b
   after = next-pair plan small pre d (chosen .long)
@@ -75,7 +78,8 @@ module _ (plan : Plan) (Answers : List ℕ → Type 0) (small : length (plan .li
 
   -- links passed over in a slot, none of which leads to a list that answers
   pub passed : (lo s e f : ℕ) → f ≤ mostLinks → NoneIn plan Answers pre k lo (code s e) →
-      ((b : ℕ) → e ≤ b → b < f → (x : List ℕ) → length x ≡ 2 * k → Not plan Answers (pre ++ s ∷ b ∷ x)) → NoneIn plan Answers pre k lo (code s f)
+      ((b : ℕ) → e ≤ b → b < f → (x : List ℕ) → length x ≡ 2 * k → Not plan Answers (pre ++ s ∷ b ∷ x)) →
+      NoneIn plan Answers pre k lo (code s f)
   passed lo s e f h before here a b x long low high good =
       let n = after a b x good in
       split (code a b) (code s e) (λ less. before a b x long low less good)
@@ -88,7 +92,8 @@ module _ (plan : Plan) (Answers : List ℕ → Type 0) (small : length (plan .li
   cut-already s b j h same x good it = after s b x good .new j h same
 
   -- the lists that go on with one pair
-  pub no-list-here : (s e : ℕ) → NoneOf plan Answers (pre ++ s ∷ e ∷ []) k → (x : List ℕ) → length x ≡ 2 * k → Not plan Answers (pre ++ s ∷ e ∷ x)
+  pub no-list-here : (s e : ℕ) → NoneOf plan Answers (pre ++ s ∷ e ∷ []) k → (x : List ℕ) → length x ≡ 2 * k →
+      Not plan Answers (pre ++ s ∷ e ∷ x)
   no-list-here s e all x long =
       let same : (pre ++ s ∷ e ∷ []) ++ x ≡ pre ++ s ∷ e ∷ x = append-assoc pre (s ∷ e ∷ []) x in
       subst (Not plan Answers) same (all x long)
@@ -129,7 +134,8 @@ module _ (plan : Plan) (Answers : List ℕ → Type 0) (small : length (plan .li
   joined lo mid hi one two a b x long low high =
       split (code a b) mid (λ less. one a b x long low less) (λ more. two a b x long more high)
 
-  pub first-in-slot : (lo mid : ℕ) (r : List ℕ) → NoneIn plan Answers pre k lo mid → FirstFrom plan Answers pre k mid r → FirstFrom plan Answers pre k lo r
+  pub first-in-slot : (lo mid : ℕ) (r : List ℕ) → NoneIn plan Answers pre k lo mid → FirstFrom plan Answers pre k mid r →
+      FirstFrom plan Answers pre k lo r
   first-in-slot lo mid r before f =
       record {
         slot = f .slot;

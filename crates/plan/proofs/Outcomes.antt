@@ -1,28 +1,20 @@
 -- How outcomes are chained, one law for each way that an answer can come about, and what a good row is.
 use Prim.Native.Nat.{ℕ, _≤_, _<_}
-use mathlib.Core.Path.{_≡_, refl, sym, _∙_, ap}
+use mathlib.Core.Path.{_≡_, refl, sym, _∙_}
 use mathlib.Core.Bool.{Bool, true, false, cond}
 use mathlib.Core.List.{List, _++_}
 use lib.ListN.{length, drop}
 use lib.Dec.{ltb}
 use borrow.Author.Tests.{le-leb, lt-leb}
 use Rattle.scope.specs.declared.Answer.{Answer}
-use Rattle.scope.specs.declared.Answer.the-variants.{Gives, Refused}
 use Rattle.scope.specs.declared.Refusal.{Refusal}
 use Rattle.scope.specs.Lowest.{lowest}
-use Rattle.scope.proofs.Outcomes.{not-both}
+use Rattle.scope.proofs.Outcomes.{not-both, same-answer}
 use Rattle.scope.specs.Outcome.{Outcome, outcomeOf, gives, refused, refuse, andThen, unlessSome, room}
 use Rattle.scope.specs.Plan.{Plan}
 use Rattle.scope.specs.Good.{badEnds, repeats, badFirstPath, badSlots, badTable, badSecondPath, rules}
 use Rattle.scope.specs.Questions.{after}
 use Rattle.plan.specs.Answers.{Answers}
-
--- an answer is known by its outcome
-pub same-answer : (a b : Answer) → outcomeOf a ≡ outcomeOf b → a ≡ b
-same-answer (Gives m) (Gives n) e = ap Gives (let f : m ≡ n = cc in f)
-same-answer (Gives m) (Refused r) e = not-both (sym e)
-same-answer (Refused r) (Gives n) e = not-both e
-same-answer (Refused r) (Refused s) e = ap Refused (let f : r ≡ s = cc in f)
 
 -- two outcomes that a statement allows are equal, the answer and the buffer
 pub only-one : (o : Outcome) (written entry exit exit′ : List ℕ) (r r′ : Answer) →
@@ -73,10 +65,12 @@ pub after-refused : (o : Outcome) (r : Refusal) (written buffer : List ℕ) → 
 unfolding after
 after-refused o r written buffer e = rw e
 
-pub after-gives : (o : Outcome) (n : ℕ) (written buffer : List ℕ) → o ≡ gives n → written ++ drop (length written) buffer ≡ after o written buffer
+pub after-gives : (o : Outcome) (n : ℕ) (written buffer : List ℕ) → o ≡ gives n →
+    written ++ drop (length written) buffer ≡ after o written buffer
 unfolding after
 after-gives o n written buffer e = rw e
 
 -- so an answer that refuses as the outcome does, beside a buffer that is left as it was
-pub refuses : (o : Outcome) (written entry : List ℕ) (r : Refusal) (a : Answer) → o ≡ refused r → outcomeOf a ≡ refused r → Answers o written entry entry a
+pub refuses : (o : Outcome) (written entry : List ℕ) (r : Refusal) (a : Answer) → o ≡ refused r → outcomeOf a ≡ refused r →
+    Answers o written entry entry a
 refuses o written entry r a e is = record { answer = is ∙ sym e; buffer = after-refused o r written entry e }

@@ -1,12 +1,12 @@
 -- What a caller of `plan::read_file` and `plan::write_file` learns: the outcome, that the front of the buffer is the row, that the row is
 -- good, and that what was written lies in the buffer.
 use Prim.Native.Nat.{ℕ, _≤_}
-use mathlib.Core.Path.{_≡_, refl, sym, _∙_, ap}
+use mathlib.Core.Path.{_≡_, refl, sym, _∙_, ap, subst}
 use mathlib.Core.Bool.{Bool, true, false, cond}
 use mathlib.Core.List.{List, _++_}
 use native.Mathlib.Omega.{arith}
 use lib.ListN.{length, take, drop, length-append}
-use lib.Seq.{take-at}
+use lib.Seq.{take-at, length-take-le}
 use lib.Dec.{leb}
 use borrow.Author.Tests.{leb-true}
 use Rattle.scope.specs.declared.Answer.{Answer}
@@ -19,9 +19,9 @@ use Rattle.scope.specs.Plan.{planOf}
 use Rattle.scope.specs.Good.{rules}
 use Rattle.scope.specs.Questions.{after, judge, readFile, writeFile}
 use Rattle.forms.proofs.Theorems.{file-row}
-use Rattle.plan.specs.Answers.{Reads, Writes}
+use Rattle.plan.specs.Answers.{GoodRow, Reads, Writes}
 use Rattle.plan.proofs.Outcomes.{then-back}
-use Rattle.plan.proofs.Ways.{gave, refused-as}
+use Rattle.plan.proofs.Ways.{gave, refused-as, good-row}
 
 room-back : (needed lent n : ℕ) → room needed lent ≡ gives n → (n ≡ needed) × (needed ≤ lent)
 room-back needed lent n e = by (leb needed lent) refl e
@@ -46,6 +46,9 @@ read-judged file lent n e =
     let r = then-back (rules (planOf (rowOf file))) (λ _. room (length (rowOf file)) lent) n (w .2) in
     rw (file-row file (w .0) (w .1), r .1)
 
+pub read-good : (file row : List ℕ) (lent n : ℕ) → readFile file lent ≡ gives n → row ≡ rowOf file → GoodRow row
+read-good file row lent n e is = subst GoodRow (sym is) (good-row (rowOf file) (length (rowOf file)) (read-judged file lent n e))
+
 -- a file that was read
 module _ (file entry exit : List ℕ) (a : Answer) (h : Reads file entry exit a) where
   pub read-given : (lent n : ℕ) → length entry ≡ lent → a ≡ Gives n → readFile file lent ≡ gives n
@@ -67,6 +70,9 @@ module _ (file entry exit : List ℕ) (a : Answer) (h : Reads file entry exit a)
 
     pub read-fit : n ≤ length exit
     read-fit = omega (arith, simp length-append at (ap length written), count)
+
+    pub read-long : n ≡ length (take n exit)
+    read-long = sym (length-take-le n exit read-fit)
 
 -- a row that was written
 write-room : (row : List ℕ) (lent n : ℕ) → writeFile row lent ≡ gives n → n ≡ length (fileOf row)

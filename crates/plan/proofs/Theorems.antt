@@ -15,7 +15,8 @@ use Rattle.bits.proofs.Laws.{AreBytes}
 use Rattle.scope.specs.Limits.{longestRow, longestFile}
 use Rattle.forms.proofs.Theorems.{file-row-file, file-row, row-file-row, row-file, file-most, row-most, row-file-most}
 use Rattle.plan.specs.Answers.{GoodRow, Reads, Writes}
-use Rattle.plan.proofs.Outcomes.{then-back, rules-give, room-there, same-answer, only-one}
+use Rattle.scope.proofs.Outcomes.{same-answer}
+use Rattle.plan.proofs.Outcomes.{then-back, rules-give, room-there, only-one}
 use Rattle.plan.proofs.Ways.{good-row}
 
 -- what reading a file gives, taken apart: its form is right, and its row is good
@@ -41,7 +42,8 @@ file-back file lent n bytes e =
 
 -- a good row, written and read back: its file is accepted, and its row is the same numbers
 pub row-back : (row : List ℕ) (n : ℕ) → judge row ≡ gives n →
-    (rowOf (fileOf row) ≡ row) × (readFile (fileOf row) (length row) ≡ gives (length row)) × (length row ≤ longestRow) × (length (fileOf row) ≤ longestFile)
+    (rowOf (fileOf row) ≡ row) × (readFile (fileOf row) (length row) ≡ gives (length row)) × (length row ≤ longestRow) ×
+    (length (fileOf row) ≤ longestFile)
 unfolding readFile
 row-back row n e =
     let g = good-row row n e in
@@ -56,7 +58,8 @@ row-back row n e =
 pub one-judgement : (row : List ℕ) (a b : Answer) → outcomeOf a ≡ judge row → outcomeOf b ≡ judge row → a ≡ b
 one-judgement row a b h g = same-answer a b (h ∙ sym g)
 
-pub one-reading : (file entry exit exit′ : List ℕ) (a b : Answer) → Reads file entry exit a → Reads file entry exit′ b → (a ≡ b) × (exit ≡ exit′)
+pub one-reading : (file entry exit exit′ : List ℕ) (a b : Answer) → Reads file entry exit a → Reads file entry exit′ b →
+    (a ≡ b) × (exit ≡ exit′)
 one-reading file entry exit exit′ a b h g = only-one _ _ entry exit exit′ a b h g
 
 pub one-writing : (row entry exit exit′ : List ℕ) (a b : Answer) → Writes row entry exit a → Writes row entry exit′ b → (a ≡ b) × (exit ≡ exit′)

@@ -1,7 +1,7 @@
 -- Laws of the text: a listing looks only at the events of its plan, 65 lines of an input are as many as can matter, and the plan's refusal
 -- comes first.
 use Prim.Native.Nat.{ℕ, zero, suc, _+_, _*_, _/_, _≤_}
-use mathlib.Core.Path.{_≡_, refl, sym, _∙_, ap, subst}
+use mathlib.Core.Path.{_≡_, refl, sym, _∙_, ap}
 use mathlib.Core.List.{List, [], _++_}
 use native.Mathlib.Omega.{arith}
 use native.Mathlib.Nat.{mul-assoc}
@@ -25,9 +25,6 @@ use Rattle.listing.specs.Prints.{Says, Prints}
 use Rattle.listing.proofs.Printing.{prints-as, says-as, says-given, says-refused}
 use Rattle.cut_replay.specs.Replay.{Replays}
 use Rattle.cut_replay.proofs.Ways.{numbers-needed}
-use Rattle.plan.specs.Answers.{GoodRow}
-use Rattle.plan.proofs.Ways.{good-row}
-use Rattle.plan.proofs.Reading.{read-judged}
 use Rattle.replay_text.specs.Text.{textOf, mayList}
 
 -- what stands behind the events is not looked at
@@ -67,7 +64,8 @@ module _ (row cuts entry exit : List ℕ) (a : Answer) (l : length entry ≡ lon
       says-given n (ap (replay row cuts) (sym l) ∙ sym (h .answer) ∙ o)
       (prints-as (ap (λ (o : Outcome). listing o (planOf row) exit) (sym o) ∙ played-text row cuts entry exit a l h) p)
 
-  pub played-refused : (r : Refusal) → a ≡ Refused r → (out : List ℕ) → Says (replay row cuts longestEvents) (textOf row cuts) out out (Refused r)
+  pub played-refused : (r : Refusal) → a ≡ Refused r → (out : List ℕ) → Says (replay row cuts longestEvents)
+      (textOf row cuts) out out (Refused r)
   played-refused r e out =
       says-refused (textOf row cuts) out r (ap (replay row cuts) (sym l) ∙ sym (h .answer) ∙ ap outcomeOf e)
 
@@ -90,11 +88,13 @@ replay-refused : (row cuts : List ℕ) (r : Refusal) → judge row ≡ refused r
 unfolding replay
 replay-refused row cuts r e = rw e
 
-cuts-refused : (row cuts : List ℕ) (n : ℕ) (r : Refusal) → judge row ≡ gives n → checkCuts (planOf row) cuts ≡ refused r → replay row cuts longestEvents ≡ refused r
+cuts-refused : (row cuts : List ℕ) (n : ℕ) (r : Refusal) → judge row ≡ gives n → checkCuts (planOf row) cuts ≡ refused r →
+    replay row cuts longestEvents ≡ refused r
 unfolding replay
 cuts-refused row cuts n r e d = rw (e, d)
 
-input-may : (row input : List ℕ) (m : ℕ) → 650 ≤ m → replay row (cutsFrom 65 (take m input) 0) longestEvents ≡ replay row (cutsOf input) longestEvents
+input-may : (row input : List ℕ) (m : ℕ) → 650 ≤ m → replay row (cutsFrom 65 (take m input) 0) longestEvents ≡ replay row
+    (cutsOf input) longestEvents
 input-may row input m h = by (judge row) refl
   where
     good : (n : ℕ) → judge row ≡ gives n → (o : Outcome) → checkCuts (planOf row) (cutsOf input) ≡ o →
@@ -113,7 +113,8 @@ lines-may row input =
     let whole : take (650 + length input) input ≡ input = take-all (650 + length input) input (omega arith) in
     ap (λ (t : List ℕ). replay row (cutsFrom 65 t 0) longestEvents) (sym whole) ∙ input-may row input (650 + length input) (omega arith)
 
-pub input-says : (row : List ℕ) {input entry exit : List ℕ} {n : ℕ} → length entry ≡ 130 → Cuts input entry exit n → {out out′ : List ℕ} {r : Answer} →
+pub input-says : (row : List ℕ) {input entry exit : List ℕ} {n : ℕ} → length entry ≡ 130 → Cuts input entry exit n →
+    {out out′ : List ℕ} {r : Answer} →
     Says (replay row (take n exit) longestEvents) (textOf row (take n exit)) out out′ r →
     Says (replay row (cutsOf input) longestEvents) (textOf row (cutsOf input)) out out′ r
 input-says row {input} {entry} {exit} {n} l h s =
@@ -129,7 +130,8 @@ pub text-given : (file input : List ℕ) (n : ℕ) → readFile file longestRow 
 unfolding replayText
 text-given file input n e = rw e
 
-pub text-row : (file input row : List ℕ) (n : ℕ) → readFile file longestRow ≡ gives n → row ≡ rowOf file → textOf row (cutsOf input) ≡ replayText file input
+pub text-row : (file input row : List ℕ) (n : ℕ) → readFile file longestRow ≡ gives n → row ≡ rowOf file →
+    textOf row (cutsOf input) ≡ replayText file input
 text-row file input row n e is = ap (λ (r : List ℕ). textOf r (cutsOf input)) is ∙ sym (text-given file input n e)
 
 pub may-refused : (file input : List ℕ) (r : Refusal) → readFile file longestRow ≡ refused r → mayList file input ≡ refused r
@@ -147,11 +149,9 @@ unfolding mayList listing
 text-line file input r may = by (readFile file longestRow) refl
   where
     by : (o : Outcome) → readFile file longestRow ≡ o → replayText file input ≡ refusedLine r
-    by (refused q) e = text-refused file input q e ∙ ap (λ (o : Outcome). listing o (planOf (rowOf file)) []) (sym (may-refused file input q e) ∙ may)
+    by (refused q) e = text-refused file input q e ∙ ap (λ (o : Outcome). listing o (planOf (rowOf file)) [])
+        (sym (may-refused file input q e) ∙ may)
     by (gives n) e =
         text-given file input n e
-        ∙ ap (λ (o : Outcome). listing o (planOf (rowOf file)) (eventRow (planOf (rowOf file)) (cutsOf input))) (may-given file input (rowOf file) n e refl ∙ may)
-
--- a row that was read is good
-pub good-read : (file row : List ℕ) (n : ℕ) → readFile file longestRow ≡ gives n → row ≡ rowOf file → GoodRow row
-good-read file row n e is = subst GoodRow (sym is) (good-row (rowOf file) (length (rowOf file)) (read-judged file longestRow n e))
+        ∙ ap (λ (o : Outcome). listing o (planOf (rowOf file)) (eventRow (planOf (rowOf file)) (cutsOf input)))
+        (may-given file input (rowOf file) n e refl ∙ may)

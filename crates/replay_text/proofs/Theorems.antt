@@ -17,8 +17,7 @@ use Rattle.scope.specs.Lines.{cutsFrom, cutsOf, replayText}
 use Rattle.scope.specs.Limits.{longestRow, longestEvents, planRoom, cutsRoom}
 use Rattle.rows.proofs.Walked.{walked}
 use Rattle.rows.proofs.Parts.{message-count, timeout-is}
-use Rattle.plan.proofs.Ways.{good-row}
-use Rattle.plan.proofs.Reading.{read-judged}
+use Rattle.plan.proofs.Reading.{read-good}
 use Rattle.listing.proofs.Lines.{refused-size}
 use Rattle.listing.proofs.Room.{listing-room}
 use Rattle.listing.proofs.Fronts.{from-front}
@@ -60,7 +59,7 @@ text-room file input = by (readFile file longestRow) refl
     by (gives n) e =
         let row = rowOf file in
         let cuts = cutsOf input in
-        let good = good-row row (length row) (read-judged file longestRow n e) in
+        let good = read-good file row longestRow n e refl in
         let lies = walked row (good .form) in
         let m = message-count row in
         let few = lies .messages in
@@ -69,7 +68,8 @@ text-room file input = by (readFile file longestRow) refl
         let r = listing-room (replay row cuts longestEvents) (planOf row) (eventRow (planOf row) cuts) (omega arith) (omega arith) time small in
         omega (arith, ap length (text-given file input n e))
 
-pub never-short : (file input entry exit : List ℕ) (r : Answer) → listingRoom ≤ length entry → Says (mayList file input) (replayText file input) entry exit r →
+pub never-short : (file input entry exit : List ℕ) (r : Answer) → listingRoom ≤ length entry →
+    Says (mayList file input) (replayText file input) entry exit r →
     outcomeOf r ≡ andThen (mayList file input) (λ _. gives (length (replayText file input)))
 never-short file input entry exit r enough s =
     let fits : length (replayText file input) ≤ length entry = omega (arith, text-room file input) in
@@ -81,7 +81,8 @@ pub one-text : (file input entry exit exit′ : List ℕ) (r r′ : Answer) → 
 one-text file input entry exit exit′ r r′ p q = says-only p q
 
 -- what the program has read prints what there is
-pub fronts : (plan cuts file input : List ℕ) (p i : ℕ) → length plan ≡ planRoom → length cuts ≡ cutsRoom → Front plan p file → Front cuts i input →
+pub fronts : (plan cuts file input : List ℕ) (p i : ℕ) → length plan ≡ planRoom → length cuts ≡ cutsRoom →
+    Front plan p file → Front cuts i input →
     replayText (take p plan) (take i cuts) ≡ replayText file input
 fronts plan cuts file input p i l m f g =
     let a : take p plan ≡ take planRoom file = f ∙ ap (λ (n : ℕ). take n file) l in

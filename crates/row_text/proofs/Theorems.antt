@@ -19,9 +19,8 @@ use Rattle.listing.proofs.Printing.{says-only}
 use Rattle.listing.proofs.Fronts.{from-front}
 use Rattle.forms.proofs.Theorems.{row-small}
 use Rattle.plan.specs.Answers.{Writes}
-use Rattle.plan.proofs.Reading.{read-room, read-judged}
+use Rattle.plan.proofs.Reading.{read-room, read-good}
 use Rattle.plan.proofs.Theorems.{one-writing}
-use Rattle.plan.proofs.Ways.{good-row}
 use Rattle.row_text.specs.Rows.{mark, rowLine, rowText, rowTextRoom, numbersFrom, numbersOf}
 use Rattle.row_text.proofs.Words.{from-digit}
 use Rattle.row_text.proofs.Ways.{text-refused, text-given}
@@ -66,7 +65,7 @@ text-room file = by (readFile file longestRow) refl
   where
     by : (o : Outcome) → readFile file longestRow ≡ o → length (rowText file) ≤ rowTextRoom
     by (gives n) e =
-        let g = good-row (rowOf file) (length (rowOf file)) (read-judged file longestRow n e) in
+        let g = read-good file (rowOf file) longestRow n e refl in
         let few = read-room file longestRow n e .1 in
         let l = line-room (rowOf file) (row-small (rowOf file) (length (rowOf file)) (g .form)) in
         omega (arith, ap length (text-given file (rowOf file) n e refl))

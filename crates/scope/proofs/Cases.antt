@@ -18,7 +18,8 @@ use Rattle.scope.proofs.First.{every, spared, before-one, before-two}
 
 -- "A: cuts (0,0), (0,2): .. this is the list for k 2, l 1"
 first-of-A : FirstFailing (planOf rowA) 2 1 (0 ∷ 0 ∷ 0 ∷ 2 ∷ [])
-unfolding every spared earlier seek isCut foremost tableOf moves slot positions arrived arrivals numbersAt linksAt placesAt afterPlaces messagesAt afterMessages planOf holds
+unfolding every spared earlier seek isCut foremost tableOf moves slot positions arrived arrivals numbersAt linksAt placesAt afterPlaces
+    messagesAt afterMessages planOf holds
 first-of-A =
     record {
       good = refl;
@@ -28,7 +29,8 @@ first-of-A =
     }
 
 first-of-late : FirstFailing (planOf rowLate) 1 2 (2 ∷ 0 ∷ [])
-unfolding every spared earlier seek isCut foremost tableOf moves slot positions arrived arrivals numbersAt linksAt placesAt afterPlaces messagesAt afterMessages planOf holds
+unfolding every spared earlier seek isCut foremost tableOf moves slot positions arrived arrivals numbersAt linksAt placesAt afterPlaces
+    messagesAt afterMessages planOf holds
 first-of-late =
     record {
       good = refl;
@@ -38,7 +40,8 @@ first-of-late =
     }
 
 first-of-order : FirstFailing (planOf rowOrder) 1 3 (0 ∷ 3 ∷ [])
-unfolding every spared earlier seek isCut foremost tableOf moves slot positions arrived arrivals numbersAt linksAt placesAt afterPlaces messagesAt afterMessages planOf holds
+unfolding every spared earlier seek isCut foremost tableOf moves slot positions arrived arrivals numbersAt linksAt placesAt afterPlaces
+    messagesAt afterMessages planOf holds
 first-of-order =
     record {
       good = refl;
@@ -48,7 +51,10 @@ first-of-order =
     }
 
 pub cases : All table
-unfolding seek bitsOf bits numberFrom bytesOf walkBits fieldsOf zeros endsAt walkFile rowOf packed fileOf walkFrom walkRow numbersAt linksAt placesAt afterPlaces messagesAt afterMessages planOf has different areLinks joins visited slotsRise holds taken goodSeconds rules checkCuts isCut foremost tableOf moves slot numbers positions events arrived arrivals eventRow entriesOf entries hasSecondThrough lowerThrough delay judge readFile writeFile replay mayJudge maySpare slack
+unfolding seek bitsOf bits numberFrom bytesOf walkBits fieldsOf zeros endsAt walkFile rowOf packed fileOf walkFrom walkRow numbersAt linksAt
+    placesAt afterPlaces messagesAt afterMessages planOf has different areLinks joins visited slotsRise holds taken goodSeconds rules checkCuts
+    isCut foremost tableOf moves slot numbers positions events arrived arrivals eventRow entriesOf entries hasSecondThrough lowerThrough delay
+    judge readFile writeFile replay mayJudge maySpare slack
 cases = (
   (refl, refl, refl, refl),
   (
@@ -97,5 +103,8 @@ cases = (
 )
 
 pub own-cases : All ownTable
-unfolding seek bitsOf bits numberFrom bytesOf walkBits fieldsOf zeros endsAt walkFile rowOf packed fileOf walkFrom walkRow numbersAt linksAt placesAt afterPlaces messagesAt afterMessages planOf has different areLinks joins visited slotsRise holds taken goodSeconds rules checkCuts isCut foremost tableOf moves slot numbers positions events arrived arrivals eventRow entriesOf entries hasSecondThrough lowerThrough delay judge readFile writeFile replay mayJudge maySpare slack
+unfolding seek bitsOf bits numberFrom bytesOf walkBits fieldsOf zeros endsAt walkFile rowOf packed fileOf walkFrom walkRow numbersAt linksAt
+    placesAt afterPlaces messagesAt afterMessages planOf has different areLinks joins visited slotsRise holds taken goodSeconds rules checkCuts
+    isCut foremost tableOf moves slot numbers positions events arrived arrivals eventRow entriesOf entries hasSecondThrough lowerThrough delay
+    judge readFile writeFile replay mayJudge maySpare slack
 own-cases = ((refl, first-of-late), ((refl, first-of-order), ((refl, refl), ((refl, refl), (refl, ((refl, refl), ((refl, refl), tt)))))))

@@ -41,7 +41,8 @@ as-many cuts others h e = rw (le-ltb (pairs cuts) (pairs others) (omega arith), 
 unfoldable pub spared : Plan → ℕ → List ℕ → List ℕ → Bool
 spared plan l cuts others = not (earlier others cuts) || leb l (arrivals plan others)
 
-not-earlier : (plan : Plan) (l : ℕ) (cuts others : List ℕ) → spared plan l cuts others ≡ true → arrivals plan others < l → earlier others cuts ≡ false
+not-earlier : (plan : Plan) (l : ℕ) (cuts others : List ℕ) → spared plan l cuts others ≡ true → arrivals plan others < l →
+    earlier others cuts ≡ false
 unfolding spared
 not-earlier plan l cuts others s f = by (earlier others cuts) (leb l (arrivals plan others)) refl s
   where
@@ -64,7 +65,8 @@ module _ (plan : Plan) (l e t : ℕ) (links : length (plan .links) ≡ e) (slots
       (at-each (λ x. every (λ y. test (x ∷ y ∷ [])) e) t h a (rw slots at (slot-below plan (a ∷ b ∷ []) g 0 (lit< tt))))
       b (rw links at (link-below plan (a ∷ b ∷ []) g 0 (lit< tt)))
 
-  at-two : (test : List ℕ → Bool) → twos test ≡ true → (a b c d : ℕ) → isCutList plan (a ∷ b ∷ c ∷ d ∷ []) ≡ true → test (a ∷ b ∷ c ∷ d ∷ []) ≡ true
+  at-two : (test : List ℕ → Bool) → twos test ≡ true → (a b c d : ℕ) → isCutList plan (a ∷ b ∷ c ∷ d ∷ []) ≡ true →
+      test (a ∷ b ∷ c ∷ d ∷ []) ≡ true
   at-two test h a b c d g =
       at-each (λ y. test (a ∷ b ∷ c ∷ y ∷ [])) e
       (at-each (λ x. every (λ y. test (a ∷ b ∷ x ∷ y ∷ [])) e) t
@@ -75,7 +77,8 @@ module _ (plan : Plan) (l e t : ℕ) (links : length (plan .links) ≡ e) (slots
       d (rw links at (link-below plan (a ∷ b ∷ c ∷ d ∷ []) g 1 (lit< tt)))
 
   -- no failing list goes before one of one pair
-  pub before-one : (x y : ℕ) → ones (spared plan l (x ∷ y ∷ [])) ≡ true → (others : List ℕ) → isCutList plan others ≡ true → arrivals plan others < l →
+  pub before-one : (x y : ℕ) → ones (spared plan l (x ∷ y ∷ [])) ≡ true → (others : List ℕ) → isCutList plan others ≡ true →
+      arrivals plan others < l →
       goesBefore others (x ∷ y ∷ []) ≡ false
   before-one x y h [] g f = absurd (omega arith)
   before-one x y h (a ∷ []) g f = absurd (omega (arith, even plan (a ∷ []) g))

@@ -6,3 +6,4 @@ pub mod Order
 pub mod First
 pub mod Cases
 pub mod Seek
+pub mod Some

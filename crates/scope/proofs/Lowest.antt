@@ -66,7 +66,8 @@ module _ (test : ℕ → Bool) where
       at : (k : ℕ) → i ≡ k → test i ≡ false → test k ≡ false
       at k e t = rw e at t
 
-      split : (b : Bool) → ltb i j ≡ b → test i ≡ false → j < seek test n (i + 1) → (i + 1 ≤ j → j < seek test n (i + 1) → test j ≡ false) → test j ≡ false
+      split : (b : Bool) → ltb i j ≡ b → test i ≡ false → j < seek test n (i + 1) →
+          (i + 1 ≤ j → j < seek test n (i + 1) → test j ≡ false) → test j ≡ false
       split true b e g r = let l : i < j = ltb-true i j b in r (omega arith) g
       split false b e g r = let l : j ≤ i = ltb-false i j b in at j (omega arith) e
 

@@ -1,4 +1,5 @@
--- "Examples": the cases that document 01 marks P, as rows of one table. What it says of a row is `Holds`, and proofs/Cases.antt proves the table.
+-- "Examples": the cases that document 01 marks P, as rows of one table. What it says of a row is `Holds`, and proofs/Cases.antt proves the
+-- table.
 use Prim.Native.Nat.{ℕ, _-_, _*_}
 use mathlib.Core.Path.{_≡_}
 use mathlib.Core.Bool.{Bool, true, false, _&&_}
@@ -73,7 +74,8 @@ brief i e = eqb i 0 && eqb e 0
 -- message m is at its target at a time
 abbrev pub thereAt : List ℕ → List ℕ → ℕ → ℕ → Bool
 thereAt row cuts m time =
-    atTarget (getD (positions (orderOf (planOf row)) (isCut (planOf row) cuts) (tableOf (planOf row)) 0 time (start (planOf row))) m (onSecond (0 ∷ [])))
+    atTarget (getD (positions (orderOf (planOf row)) (isCut (planOf row) cuts) (tableOf (planOf row)) 0 time
+    (start (planOf row))) m (onSecond (0 ∷ [])))
 
 -- a row of the table: a question with its answer
 pub data Case : Type 0 where
@@ -95,7 +97,8 @@ pub data Case : Type 0 where
 abbrev pub Holds : Case → Type 0
 Holds (reads file lent says) = readFile file lent ≡ says
 Holds (same file row) =
-    (rowOf file ≡ row) × (fileOf row ≡ file) × (readFile file (length row) ≡ gives (length row)) × (writeFile row (length file) ≡ gives (length file))
+    (rowOf file ≡ row) × (fileOf row ≡ file) × (readFile file (length row) ≡ gives (length row)) ×
+    (writeFile row (length file) ≡ gives (length file))
 Holds (plays row cuts n told) =
     (replay row cuts (length told) ≡ gives n) × (eventRow (planOf row) cuts ≡ told)
 Holds (arrives row cuts m time) = (thereAt row cuts m (time - 1) ≡ false) × (thereAt row cuts m time ≡ true)

@@ -5,7 +5,8 @@ use mathlib.Core.Bool.{cond}
 use lib.Dec.{eqb}
 use Rattle.scope.specs.declared.Fields.{Fields}
 use Rattle.scope.specs.declared.Field.{Field}
-use Rattle.scope.specs.declared.Field.the-variants.{Vertices, Links, Messages, Timeout, From, To, Length, Link, Slot, Flag, SecondLength, SecondLink, End}
+use Rattle.scope.specs.declared.Field.the-variants.{Vertices, Links, Messages, Timeout, From, To, Length, Link, Slot, Flag, SecondLength}
+use Rattle.scope.specs.declared.Field.the-variants.{SecondLink, End}
 
 -- "edition, 4 bits, always 1"
 abbrev pub editionWidth : ℕ

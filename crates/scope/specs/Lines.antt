@@ -127,7 +127,8 @@ refusedLine r =
 -- `slot message kind number`
 abbrev pub header : List ℕ
 header =
-    115 ∷ 108 ∷ 111 ∷ 116 ∷ 32 ∷ 109 ∷ 101 ∷ 115 ∷ 115 ∷ 97 ∷ 103 ∷ 101 ∷ 32 ∷ 107 ∷ 105 ∷ 110 ∷ 100 ∷ 32 ∷ 110 ∷ 117 ∷ 109 ∷ 98 ∷ 101 ∷ 114 ∷ 10 ∷ []
+    115 ∷ 108 ∷ 111 ∷ 116 ∷ 32 ∷ 109 ∷ 101 ∷ 115 ∷ 115 ∷ 97 ∷ 103 ∷ 101 ∷ 32 ∷ 107 ∷ 105 ∷ 110 ∷ 100 ∷ 32 ∷ 110 ∷ 117 ∷ 109 ∷
+    98 ∷ 101 ∷ 114 ∷ 10 ∷ []
 
 -- "one line an event": slot, message, kind and number
 abbrev pub eventLine : ℕ → ℕ → ℕ → ℕ → List ℕ

@@ -15,7 +15,7 @@ use Rattle.laws.proofs.Cuts.{cut-pair}
 use Rattle.cuts.specs.Down.{isDown}
 use Rattle.step.specs.declared.Standing.{Standing}
 use Rattle.order.specs.Search.{code}
-use Rattle.order.proofs.Some.{some-one}
+use Rattle.scope.proofs.Some.{some-one}
 use Rattle.order.proofs.Prefix.{cut-more, same-before}
 use Rattle.order.proofs.Steps.{picked}
 use Rattle.search.specs.declared.Asked.{Asked}

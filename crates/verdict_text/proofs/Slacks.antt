@@ -31,7 +31,7 @@ use Rattle.spare.proofs.Bounds.{asked, answered, answer-lies}
 use Rattle.text.specs.Text.{Puts}
 use Rattle.text.proofs.Laid.{laid-nil}
 use Rattle.verdict_text.specs.Layout.{slackAt}
-use Rattle.verdict_text.proofs.Verdicts.{judged}
+use Rattle.plan.proofs.Theorems.{judged}
 
 module _ (plan : Plan) (m p : ℕ) (here : Place) where
   none : (es : List ℕ) → noSecond es ≡ true → slackLineOf plan m p here es ≡ []
@@ -91,7 +91,8 @@ module _ (plan : Plan) (m : ℕ) where
 
   -- the messages, at m
   pub messages-more : m < length (plan .messages) →
-      slackLines plan m (drop m (plan .messages)) ≡ messageSlacks plan m 0 (pathOf plan m) ++ slackLines plan (m + 1) (drop (m + 1) (plan .messages))
+      slackLines plan m (drop m (plan .messages)) ≡ messageSlacks plan m 0 (pathOf plan m) ++ slackLines plan (m + 1)
+      (drop (m + 1) (plan .messages))
   unfolding slackLines
   messages-more h =
       ap (slackLines plan m) (drop-cons (plan .messages) m [] h) ∙
@@ -102,7 +103,8 @@ module _ (plan : Plan) (m : ℕ) where
   messages-done h = rw (drop-of-length-le (plan .messages) h)
 
 -- how many places a message has
-place-count : (row : List ℕ) (m i n : ℕ) → m < messageCount row → i ≡ messageIndex row m → n ≡ placeCount row i → length (pathOf (planOf row) m) ≡ n
+place-count : (row : List ℕ) (m i n : ℕ) → m < messageCount row → i ≡ messageIndex row m → n ≡ placeCount row i →
+    length (pathOf (planOf row) m) ≡ n
 place-count row m i n h index count =
     ap length (path-at row m h) ∙ places-length row (messageIndex row m + 1) (placeCount row (messageIndex row m)) ∙
     sym (count ∙ ap (placeCount row) index)

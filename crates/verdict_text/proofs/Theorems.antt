@@ -23,9 +23,7 @@ use Rattle.listing.proofs.Lines.{refused-size}
 use Rattle.listing.specs.Prints.{Prints, Front}
 use Rattle.listing.proofs.Printing.{prints-as, says-only, printed}
 use Rattle.listing.proofs.Fronts.{from-front}
-use Rattle.plan.specs.Answers.{GoodRow}
-use Rattle.plan.proofs.Ways.{good-row}
-use Rattle.plan.proofs.Reading.{read-judged}
+use Rattle.plan.proofs.Reading.{read-good}
 use Rattle.verdict_text.specs.Texts.{DeepText, highestOr, TextUpTo}
 use Rattle.verdict_text.specs.Layout.{verdictRoom, LinesUnder, Lays, PrintsOne, PrintedOne}
 use Rattle.verdict_text.proofs.Composing.{highest-few, lays-prints}
@@ -44,7 +42,8 @@ under-once : (plan : Plan) (k : ℕ) (Rest : List ℕ → Type 0) → ((a b : Li
 unfolding UnderK
 under-once plan k Rest once l zero a b u v = once a b u v
 under-once plan k Rest once l (suc n) a b u v =
-    u .3 ∙ ap₂ _++_ (line-once plan k l (u .0) (v .0) (u .2) (v .2)) (under-once plan k Rest once (l + 1) n (u .1) (v .1) (u .4) (v .4)) ∙ sym (v .3)
+    u .3 ∙ ap₂ _++_ (line-once plan k l (u .0) (v .0) (u .2) (v .2))
+    (under-once plan k Rest once (l + 1) n (u .1) (v .1) (u .4) (v .4)) ∙ sym (v .3)
 
 lines-once : (plan : Plan) (k n : ℕ) (a b : List ℕ) → VerdictLines plan k n a → VerdictLines plan k n b → a ≡ b
 unfolding VerdictLines
@@ -57,14 +56,11 @@ pub one-lines : (plan : Plan) (k most at next next′ : ℕ) (entry exit exit′
     Lays (LinesUnder plan k) most entry exit′ at next′ → (next ≡ next′) × (exit ≡ exit′)
 one-lines plan k most at next next′ entry exit exit′ p q =
     let same : p .text ≡ q .text =
-    under-once plan k (λ (rest : List ℕ). rest ≡ []) (λ a b e f. e ∙ sym f) 0 (length (plan .messages) + 1) (p .text) (q .text) (p .kind) (q .kind) in (
+    under-once plan k (λ (rest : List ℕ). rest ≡ []) (λ a b e f. e ∙ sym f) 0 (length (plan .messages) + 1) (p .text) (q .text)
+    (p .kind) (q .kind) in (
       p .puts .ends ∙ ap (λ (t : List ℕ). at + length t) same ∙ sym (q .puts .ends),
       p .puts .buffer ∙ ap (laid entry at) same ∙ sym (q .puts .buffer),
     )
-
--- a row that was read is good
-pub read-good : (file row : List ℕ) (n : ℕ) → readFile file longestRow ≡ gives n → row ≡ rowOf file → GoodRow row
-read-good file row n e is = subst GoodRow (sym is) (good-row (rowOf file) (length (rowOf file)) (read-judged file longestRow n e))
 
 -- the text by what reading the file gives
 module _ (large : ℕ) where
@@ -88,11 +84,18 @@ module _ (large : ℕ) where
   back-given file text n e v = rw e at v
 
   -- what is printed for a file
-  pub prints-refused : (file entry exit : List ℕ) (a : Answer) (r : Refusal) → readFile file longestRow ≡ refused r → Prints (refusedLine r) entry exit a →
+  pub prints-refused : (file entry exit : List ℕ) (a : Answer) (r : Refusal) → readFile file longestRow ≡ refused r →
+      Prints (refusedLine r) entry exit a →
       PrintsOne (TextUpTo large file) entry exit a
-  prints-refused file entry exit a r e prints = record { text = refusedLine r; kind = text-refused file (refusedLine r) r e refl; prints = prints }
+  prints-refused file entry exit a r e prints = record {
+    text = refusedLine r;
+    kind =
+        text-refused file (refusedLine r) r e refl;
+    prints = prints;
+  }
 
-  pub prints-given : (file row entry exit : List ℕ) (n count : ℕ) → readFile file longestRow ≡ gives n → row ≡ rowOf file → verdictRoom ≤ length entry →
+  pub prints-given : (file row entry exit : List ℕ) (n count : ℕ) → readFile file longestRow ≡ gives n → row ≡ rowOf file →
+      verdictRoom ≤ length entry →
       Lays (VerdictLines (planOf row) 0 (1 + highestOr large (planOf row))) verdictRoom entry exit 0 count →
       PrintsOne (TextUpTo large file) entry exit (Gives count)
   prints-given file row entry exit n count e is room lays =
@@ -168,13 +171,15 @@ under-size plan k most Rest h rest l (suc n) text few u =
     let e = ap length (u .3) ∙ length-append (u .0) (u .1) in
     omega arith
 
-lines-room : (plan : Plan) (k n : ℕ) (text : List ℕ) → k + n ≤ 4 → length (plan .messages) ≤ 32 → length (slackLines plan 0 (plan .messages)) ≤ 17408 →
+lines-room : (plan : Plan) (k n : ℕ) (text : List ℕ) → k + n ≤ 4 → length (plan .messages) ≤ 32 →
+    length (slackLines plan 0 (plan .messages)) ≤ 17408 →
     VerdictLines plan k n text → length text ≤ 4323 * n + 17408
 unfolding VerdictLines
 lines-room plan k zero text h few slacks u = omega (arith, ap length u)
 lines-room plan k (suc n) text h few slacks u =
     let r =
-    under-size plan k (4323 * n + 17408) (VerdictLines plan (k + 1) n) (omega arith) (λ rest v. lines-room plan (k + 1) n rest (omega arith) few slacks v)
+    under-size plan k (4323 * n + 17408) (VerdictLines plan (k + 1) n) (omega arith)
+    (λ rest v. lines-room plan (k + 1) n rest (omega arith) few slacks v)
     0 (length (plan .messages) + 1) text (omega arith) u in
     omega arith
 
@@ -203,7 +208,7 @@ module _ (large : ℕ) (Kind : List ℕ → List ℕ → Type 0) (goes : GoesTo 
       by : (o : Outcome) → readFile file longestRow ≡ o → length text ≤ verdictRoom
       by (refused r) e = omega (arith, refused-size r, ap length (back-refused large file text r e (goes .back file text u)))
       by (gives n) e =
-          let g = read-good file (rowOf file) n e refl in
+          let g = read-good file (rowOf file) longestRow n e refl in
           let plan = planOf (rowOf file) in
           let high = highest-few large plan (goes .few) in
           let r =

@@ -14,13 +14,13 @@ use Rattle.scope.specs.declared.Answer.{Answer}
 use Rattle.scope.specs.Outcome.{Outcome, gives}
 use Rattle.scope.specs.Plan.{Plan, planOf}
 use Rattle.scope.specs.Cuts.{pairs, badPair, isCutList}
-use Rattle.scope.specs.Questions.{judge}
 use Rattle.scope.specs.Lines.{resistantLine, failingLine, VerdictLine, resistant, failing, UnderK}
 use Rattle.rows.specs.Lies.{PlanLies}
 use Rattle.rows.proofs.Walked.{walked}
 use Rattle.rows.proofs.Parts.{message-count}
 use Rattle.plan.specs.Answers.{GoodRow}
-use Rattle.order.proofs.Some.{none-below}
+use Rattle.plan.proofs.Theorems.{judged}
+use Rattle.scope.proofs.Some.{none-below}
 use Rattle.all_verdicts.specs.Answers.{Says, SaysResistant, SaysFailing, seven, needed, mayAnswer, AllSaid, After, AnswersAll}
 use Rattle.text.specs.Text.{Told, Puts}
 use Rattle.verdict_text.specs.Layout.{lineOf, linesOf, Sevens, LinesUnder}
@@ -72,7 +72,8 @@ pub part-told : (k : ℕ) (all : List ℕ) (count l at : ℕ) → Sevens all cou
     × Told at (lineOf k l (take (7 * l + 7 - 7 * l) (drop (7 * l) all)))
 part-told k all count l at s h t = rw (part-seven all l) (part-pairs all count l s h, t)
 
-pub part-puts : (k : ℕ) (all : List ℕ) (l : ℕ) {b c : List ℕ} {i j : ℕ} → Puts (lineOf k l (take (7 * l + 7 - 7 * l) (drop (7 * l) all))) b c i j →
+pub part-puts : (k : ℕ) (all : List ℕ) (l : ℕ) {b c : List ℕ} {i j : ℕ} → Puts
+    (lineOf k l (take (7 * l + 7 - 7 * l) (drop (7 * l) all))) b c i j →
     Puts (lineOf k l (seven l all)) b c i j
 part-puts k all l p = rw (part-seven all l) at p
 
@@ -95,7 +96,8 @@ even plan cuts good = by (eqb (length cuts) (2 * (length cuts / 2) + 1)) refl
 module _ (plan : Plan) (k l : ℕ) where
   resists : (numbers : List ℕ) → SaysResistant plan k l numbers → VerdictLine plan k l (lineOf k l numbers)
   resists numbers s =
-      subst (VerdictLine plan k l) (sym (line-resists k l 0 numbers (sym (ap (λ (x : List ℕ). getD x 0 0) (s .is))) refl)) (resistant (s .resists))
+      subst (VerdictLine plan k l) (sym (line-resists k l 0 numbers (sym (ap (λ (x : List ℕ). getD x 0 0) (s .is))) refl))
+      (resistant (s .resists))
 
   list-is : (numbers : List ℕ) (s : SaysFailing plan k l numbers) → take (2 * (pairs (s .cuts) + 1) - 1 - 1) (drop 1 numbers) ≡ s .cuts
   list-is numbers s =
@@ -139,10 +141,6 @@ module _ (plan : Plan) (k : ℕ) (all : List ℕ) (each : (l : ℕ) → l ≤ le
   sevens count h e few room = record { few = few; room = room; pairs = λ l below. says-few plan k l (seven l all) h (each l (omega arith)) }
 
 -- what `all_verdicts` says of a good row
-pub judged : (row : List ℕ) → GoodRow row → judge row ≡ gives (length row)
-unfolding judge
-judged row g = rw (g .form, g .keeps)
-
 module _ (row : List ℕ) (g : GoodRow row) where
   pub few-messages : length (planOf row .messages) ≤ 32
   few-messages = let lies : PlanLies row = walked row (g .form) in omega (arith, message-count row, lies .messages)
