@@ -1,5 +1,6 @@
 // A field of up to 16 bits at any bit of a slice of bytes, most significant bit first: read as a number, and written. Each takes the
-// three bytes that such a field can touch as one number, so the work does not grow with the width. It leans on scope's `Bits`.
+// three bytes that such a field can touch as one number, so the work does not grow with the width; and the byte at an index, for all who
+// read bytes. It leans on scope's `Bits`.
 ghost use mathlib.Core.Path.{_≡_};
 ghost use Prim.Native.Nat.{_+_, _%_, _^_, _≤_, _<_};
 ghost use lib.ListN.{set};
@@ -16,7 +17,7 @@ pub fn power(k: usize) -> usize
 }
 
 // The byte at an index, 0 past the end.
-fn byte(bytes: &[u8], i: usize) -> usize
+pub fn byte(bytes: &[u8], i: usize) -> usize
     ensures { λ r. ⌜ Byte (now (bytes .entry)) i r ⌝ }
 {
     if i < bytes.len() {

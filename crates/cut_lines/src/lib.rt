@@ -7,8 +7,8 @@ ghost use mathlib.Core.Path.{_≡_};
 ghost use mathlib.Core.Bool.{true};
 ghost use Rattle.cut_lines.specs.Reads.{Found, Size, End, Cuts};
 ghost use Rattle.scope.specs.Lines.{isCutLine, isDigit, linkIndex, numberAt, numberSize};
+use bits::byte;
 use text::Number;
-use text::byte;
 use text::number_at;
 use text::stands;
 

@@ -12,22 +12,22 @@ ghost use Rattle.listing.specs.Prints.{Says, Prints};
 ghost use Rattle.plan.specs.Answers.{Writes};
 ghost use Rattle.row_text.specs.Rows.{mark, rowLine, numbersOf};
 ghost use Rattle.row_text.specs.Rows.{ends as Rows·ends, rowText as Rows·rowText};
+use bits::byte;
 use rows::number;
 use scope::Answer;
 use scope::limits;
 use scope::refuse;
-use text::byte;
 use text::number_at;
 use text::put_number;
 
 // Bytes enough for the longest row as text, or for a refusal, with at most six bytes a number.
-pub const ROOM: usize = 62430;
+pub const ROOM: usize = 6 * limits::ROW;
 
 // A number more than the longest row has, so that a longer row is seen to be too long (proofs/Front), and six bytes for each number: five
 // digits and the mark behind them.
-const ROW_ROOM: usize = 10406;
+const ROW_ROOM: usize = limits::ROW + 1;
 
-pub const TEXT_ROOM: usize = 62436;
+pub const TEXT_ROOM: usize = 6 * ROW_ROOM;
 
 // What a word counts as that is no number of 16 bits: no field can hold it.
 const NO_NUMBER: u16 = 65535;
@@ -72,7 +72,8 @@ fn listed(row: &[u16], out: &mut [u8]) -> Answer
 
 // The row of a plan file as text: how many bytes, or refusal 1, 2, 4 to 10, 13, and then nothing is written.
 pub fn row_text(file: &[u8], out: &mut [u8]) -> Answer
-    ensures { λ r. ⌜ Says (readFile (now (file .entry)) longestRow) (Rows·rowText (now (file .entry))) (now (out .entry)) (now (out .exit)) r ⌝ }
+    ensures { λ r. ⌜ Says (readFile (now (file .entry)) longestRow) (Rows·rowText (now (file .entry))) (now (out .entry))
+        (now (out .exit)) r ⌝ }
 {
     let mut row = [0u16; limits::ROW];
     let read = plan::read_file(file, &mut row);

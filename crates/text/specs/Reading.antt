@@ -1,5 +1,5 @@
 -- A number "in decimal without needless zeros", of at most `most`, read from a text: as many digits as go on with it.
-use Prim.Native.Nat.{ℕ, suc, _+_, _-_, _*_, _≤_, _<_}
+use Prim.Native.Nat.{ℕ, suc, _+_, _-_, _*_, _≤_}
 use mathlib.Core.Path.{_≡_}
 use mathlib.Core.Bool.{Bool, true, false, not, cond, _&&_, _||_}
 use mathlib.Core.List.{List, [], _∷_}
@@ -7,11 +7,6 @@ use lib.ListN.{length, drop}
 use lib.Dec.{ltb, leb, eqb}
 use Rattle.scope.specs.Lines.{byteAt, isDigit}
 use Rattle.text.specs.declared.Number.{Number}
-
--- r is the byte at an index of a text
-pub record Byte (text : List ℕ) (i r : ℕ) : Type 0 where
-  pub is : r ≡ byteAt text i
-  pub small : r < 256
 
 -- `begun` says that a number has begun, and a is what its digits say so far: a byte is a digit that goes on with it
 abbrev pub goesOn : ℕ → Bool → ℕ → ℕ → Bool

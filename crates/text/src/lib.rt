@@ -1,15 +1,17 @@
 // Text into lent bytes and out of them. What writes, a byte, a word and a number in decimal, lays its text over the buffer from an index
 // on, as far as the buffer goes, and gives the index after the text, so a caller learns how many bytes a text has even where there is no
-// room for it; each asks that this index can be told in 64 bits (`Told`). What reads finds a byte, a word and a number in decimal at an
-// index. That a number printed is read back, and that what is read was printed so, is in proofs/Read. It leans on specs/Lines of `scope`.
+// room for it; each asks that this index can be told in 64 bits (`Told`). What reads finds a word and a number in decimal at an index. That
+// a number printed is read back, and that what is read was printed so, is in proofs/Read. It leans on specs/Lines of `scope`, and on
+// `bits` for the byte at an index.
 ghost use mathlib.Core.Path.{_≡_};
 ghost use Prim.Native.Nat.{_+_, _≤_, _<_, _^_};
 ghost use lib.ListN.{length};
 ghost use mathlib.Core.List.{[], _∷_, _++_};
 ghost use Rattle.text.specs.Text.{Puts, Told};
-ghost use Rattle.text.specs.Reading.{Byte, goesOn, Reads};
+ghost use Rattle.text.specs.Reading.{goesOn, Reads};
 ghost use Rattle.text.specs.Reading.{stands as Reading·stands};
 ghost use Rattle.scope.specs.Lines.{decimal};
+use bits::byte;
 
 // One byte.
 pub fn put_byte(out: &mut [u8], at: usize, b: u8) -> usize
@@ -56,13 +58,6 @@ pub fn put_number(out: &mut [u8], at: usize, n: usize, mark: u8) -> usize
 {
     let next = put_decimal(out, at, n);
     put_byte(out, next, mark)
-}
-
-// The byte at an index, 0 past the end.
-pub fn byte(text: &[u8], i: usize) -> usize
-    ensures { λ r. ⌜ Byte (now (text .entry)) i r ⌝ }
-{
-    if i < text.len() { text[i] as usize } else { 0 }
 }
 
 // A word stands at an index.

@@ -6,9 +6,6 @@ use lib.ListN.{List·getD-eq-default}
 use Rattle.bits.proofs.byte.Statement.{statement}
 use Rattle.bits.proofs.byte.Tie as tie
 
-shared-slice-read-result : tie.Need-shared-slice-read-result
-shared-slice-read-result c = search needs
-
 cast-result : tie.Need-cast-result
 cast-result c = omega (arith, c .shared-slice-known .given (c .before .before .args .i))
 
@@ -27,4 +24,5 @@ returns-2 c =
     }
 
 pub byte-spec : {M : Type 1} → statement M
-byte-spec = tie.close (tie.spec shared-slice-read-result cast-result returns returns-2)
+byte-spec =
+    tie.close (tie.spec (λ c. search needs) cast-result returns returns-2)
