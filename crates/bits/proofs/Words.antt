@@ -188,7 +188,8 @@ module _ (s : List ℕ) (p w : ℕ) (fits : Within s p w) (bytes : AreBytes s) w
         drop-at (bitsOf w x) back w fieldLength,
         append-assoc,
       ) in
-      let all : bits (sets (pad s) i cs) ≡ sets (bits (pad s)) p (bitsOf w v) = after ∙ sym put ∙ ap (λ (t : List ℕ). sets t p (bitsOf w v)) (sym parted) in
+      let all : bits (sets (pad s) i cs) ≡ sets (bits (pad s)) p (bitsOf w v) = after ∙ sym put ∙
+      ap (λ (t : List ℕ). sets t p (bitsOf w v)) (sym parted) in
       ap (λ (t : List ℕ). bits (sets t i cs)) (sym pads)
       ∙ ap bits (sym (take-sets (length s) (pad s) i cs))
       ∙ bits-take (length s) (sets (pad s) i cs)

@@ -14,7 +14,8 @@ use Rattle.scope.proofs.Outcomes.{not-both}
 use Rattle.scope.specs.Outcome.{Outcome, gives, refuse, unlessSome}
 use Rattle.scope.specs.Plan.{Plan}
 use Rattle.scope.specs.Cuts.{pairs, cutSlot, cutLink, falls, badPair, checkCuts}
-use Rattle.scope.specs.Lines.{byteAt, isDigit, numberAt, numberSize, hasWord, isCutLine, slotIndex, spaceIndex, linkIndex, feedIndex, cutsFrom, cutsOf}
+use Rattle.scope.specs.Lines.{byteAt, isDigit, numberAt, numberSize, hasWord, isCutLine, slotIndex, spaceIndex, linkIndex, feedIndex, cutsFrom}
+use Rattle.scope.specs.Lines.{cutsOf}
 use Rattle.scope.proofs.Lowest.{seek-low, seek-same}
 use Rattle.cut_lines.proofs.Forms.{sizeOf, valueOf}
 use Rattle.cut_lines.proofs.Lines.{cuts-end, cuts-most}
@@ -24,7 +25,8 @@ use Rattle.cut_lines.proofs.Pigeons.{pigeons}
 
 size-most : (text : List ℕ) (i : ℕ) → numberSize text i ≤ 2
 size-most text i =
-    by (isDigit (byteAt text i)) (isDigit (byteAt text (i + 1))) (ltb 48 (byteAt text i) && leb ((byteAt text i - 48) * 10 + (byteAt text (i + 1) - 48)) 63)
+    by (isDigit (byteAt text i)) (isDigit (byteAt text (i + 1)))
+    (ltb 48 (byteAt text i) && leb ((byteAt text i - 48) * 10 + (byteAt text (i + 1) - 48)) 63)
   where
     by : (t u v : Bool) → cond t (cond u (cond v 2 0) 1) 0 ≤ 2
     by true true true = omega arith
@@ -44,11 +46,13 @@ module _ (text : List ℕ) (m : ℕ) where
 
   size-taken : (i : ℕ) → i + 1 < m → numberSize (take m text) i ≡ numberSize text i
   size-taken i h =
-      ap (λ (x : ℕ). sizeOf x (byteAt (take m text) (i + 1))) (byte-taken i (omega arith)) ∙ ap (λ (x : ℕ). sizeOf (byteAt text i) x) (byte-taken (i + 1) h)
+      ap (λ (x : ℕ). sizeOf x (byteAt (take m text) (i + 1))) (byte-taken i (omega arith)) ∙
+      ap (λ (x : ℕ). sizeOf (byteAt text i) x) (byte-taken (i + 1) h)
 
   value-taken : (i : ℕ) → i + 1 < m → numberAt (take m text) i ≡ numberAt text i
   value-taken i h =
-      ap (λ (x : ℕ). valueOf x (byteAt (take m text) (i + 1))) (byte-taken i (omega arith)) ∙ ap (λ (x : ℕ). valueOf (byteAt text i) x) (byte-taken (i + 1) h)
+      ap (λ (x : ℕ). valueOf x (byteAt (take m text) (i + 1))) (byte-taken i (omega arith)) ∙
+      ap (λ (x : ℕ). valueOf (byteAt text i) x) (byte-taken (i + 1) h)
 
   length-taken : (i : ℕ) → i < m → ltb i (length (take m text)) ≡ ltb i (length text)
   length-taken i h = by (ltb m (length text)) refl
@@ -71,7 +75,8 @@ module _ (text : List ℕ) (m : ℕ) where
         ap (λ (k : ℕ). numberSize (take m text) k) link-taken ∙ size-taken (linkIndex text i) (omega arith)
 
     feed-taken : feedIndex (take m text) i ≡ feedIndex text i
-    feed-taken = ap (λ (k : ℕ). k + numberSize (take m text) (linkIndex (take m text) i)) link-taken ∙ ap (λ (k : ℕ). linkIndex text i + k) link-size
+    feed-taken = ap (λ (k : ℕ). k + numberSize (take m text) (linkIndex (take m text) i)) link-taken ∙
+        ap (λ (k : ℕ). linkIndex text i + k) link-size
 
     slot-value : numberAt (take m text) (slotIndex i) ≡ numberAt text (slotIndex i)
     slot-value = value-taken (i + 4) (omega arith)
@@ -104,7 +109,8 @@ module _ (text : List ℕ) (m : ℕ) where
         five word-taken (ap (ltb 0) (size-taken (i + 4) (omega arith))) (ap (λ (k : ℕ). eqb k 32) space-byte) (ap (ltb 0) link-size)
         (ap (λ (k : ℕ). eqb k 10) feed-byte)
       where
-        five : {w w′ x x′ e e′ l l′ f f′ : Bool} → w ≡ w′ → x ≡ x′ → e ≡ e′ → l ≡ l′ → f ≡ f′ → (w && x && e && l && f) ≡ (w′ && x′ && e′ && l′ && f′)
+        five : {w w′ x x′ e e′ l l′ f f′ : Bool} → w ≡ w′ → x ≡ x′ → e ≡ e′ → l ≡ l′ → f ≡ f′ →
+            (w && x && e && l && f) ≡ (w′ && x′ && e′ && l′ && f′)
         five a b c d g = rw (a, b, c, d, g)
 
 -- n lines need no more than 10 bytes each
@@ -117,7 +123,8 @@ cuts-taken text m (suc n) i h =
     let rest : cutsFrom n (take m text) (feedIndex (take m text) i + 1) ≡ cutsFrom n text (feedIndex text i + 1) =
     ap (λ (k : ℕ). cutsFrom n (take m text) k) end ∙ cuts-taken text m n (feedIndex text i + 1) (omega arith)
     in
-    same (length-taken text m i (omega arith)) (line-taken text m i (omega arith)) (slot-value text m i (omega arith)) (link-value text m i (omega arith)) rest
+    same (length-taken text m i (omega arith)) (line-taken text m i (omega arith)) (slot-value text m i (omega arith))
+    (link-value text m i (omega arith)) rest
   where
     same : {t t′ u u′ : Bool} {s s′ e e′ : ℕ} {l l′ : List ℕ} → t ≡ t′ → u ≡ u′ → s ≡ s′ → e ≡ e′ → l ≡ l′ →
         cond t (cond u (s ∷ e ∷ l) (0 ∷ [])) [] ≡ cond t′ (cond u′ (s′ ∷ e′ ∷ l′) (0 ∷ [])) []
@@ -165,7 +172,8 @@ module _ (text : List ℕ) where
           let l = ltb-false 65 (length text) e in
           let n : 65 ≡ length text + (65 - length text) = omega arith in
           let most = cuts-most text (length text) 0 in
-          ap (λ (k : ℕ). cutsFrom k text 0) n ∙ cuts-all (length text) (65 - length text) 0 (omega arith) ∙ sym (take-all 130 (cutsOf text) (omega arith))
+          ap (λ (k : ℕ). cutsFrom k text 0) n ∙ cuts-all (length text) (65 - length text) 0 (omega arith) ∙
+          sym (take-all 130 (cutsOf text) (omega arith))
 
 -- what is found among the first numbers is found among more
 seek-more : (test : ℕ → Bool) (n k i : ℕ) → seek test n i < i + n → seek test (n + k) i ≡ seek test n i
@@ -175,7 +183,8 @@ seek-more test (suc n) k i h =
     let e : suc n + k ≡ suc (n + k) = omega arith in
     rw e (by (test i) h (seek-more test n k (i + 1)))
   where
-    by : (t : Bool) → cond t i (seek test n (i + 1)) < i + suc n → (seek test n (i + 1) < i + 1 + n → seek test (n + k) (i + 1) ≡ seek test n (i + 1)) →
+    by : (t : Bool) → cond t i (seek test n (i + 1)) < i + suc n →
+        (seek test n (i + 1) < i + 1 + n → seek test (n + k) (i + 1) ≡ seek test n (i + 1)) →
         cond t i (seek test (n + k) (i + 1)) ≡ cond t i (seek test n (i + 1))
     by true h r = refl
     by false h r = r (omega arith)
@@ -192,7 +201,8 @@ bad-front plan cuts many j h =
     (ap (λ (k : ℕ). not (ltb k (plan .timeout))) (slot j h))
     (ap (λ (k : ℕ). not (ltb k (length (plan .links)))) (link j h))
     falls-same
-    (ap (λ (k : ℕ). ltb k j) (seek-same (λ x. eqb (cutLink (take 130 cuts) x) (cutLink (take 130 cuts) j)) (λ x. eqb (cutLink cuts x) (cutLink cuts j)) j 0
+    (ap (λ (k : ℕ). ltb k j) (seek-same (λ x. eqb (cutLink (take 130 cuts) x) (cutLink (take 130 cuts) j))
+    (λ x. eqb (cutLink cuts x) (cutLink cuts j)) j 0
     (λ x a b. ap (λ (k : ℕ). eqb k (cutLink (take 130 cuts) j)) (link x (omega arith)) ∙ ap (eqb (cutLink cuts x)) (link j h))))
   where
     slot : (i : ℕ) → i < 65 → cutSlot (take 130 cuts) i ≡ cutSlot cuts i
@@ -204,7 +214,8 @@ bad-front plan cuts many j h =
     falls-same : falls (take 130 cuts) j ≡ falls cuts j
     falls-same = rw (slot j h, link j h, slot (j - 1) (omega arith), link (j - 1) (omega arith))
 
-    five : {a a′ b b′ c c′ d d′ e e′ : Bool} → a ≡ a′ → b ≡ b′ → c ≡ c′ → d ≡ d′ → e ≡ e′ → (a || b || c || d || e) ≡ (a′ || b′ || c′ || d′ || e′)
+    five : {a a′ b b′ c c′ d d′ e e′ : Bool} → a ≡ a′ → b ≡ b′ → c ≡ c′ → d ≡ d′ → e ≡ e′ →
+        (a || b || c || d || e) ≡ (a′ || b′ || c′ || d′ || e′)
     five p q r s t = rw (p, q, r, s, t)
 
 refuses : (test : ℕ → Bool) (n j : ℕ) (after : Outcome) → lowest test n ≡ j → j < n → unlessSome 12 test n after ≡ refuse 12 j
@@ -215,7 +226,8 @@ module _ (plan : Plan) (few : length (plan .links) ≤ 64) where
   bad-some : (cuts : List ℕ) → lowest (badPair plan cuts) 65 < 65
   bad-some cuts = by (ltb (lowest (badPair plan cuts) 65) 65) refl
     where
-      parts : (i : ℕ) → badPair plan cuts i ≡ false → (cutLink cuts i < length (plan .links)) × (i ≤ lowest (λ j. eqb (cutLink cuts j) (cutLink cuts i)) i)
+      parts : (i : ℕ) → badPair plan cuts i ≡ false → (cutLink cuts i < length (plan .links)) ×
+          (i ≤ lowest (λ j. eqb (cutLink cuts j) (cutLink cuts i)) i)
       parts i h =
           let twice = some (λ j. eqb (cutLink cuts j) (cutLink cuts i)) i in
           let odd = eqb (length cuts) (2 * i + 1) in
@@ -261,7 +273,8 @@ module _ (plan : Plan) (few : length (plan .links) ≤ 64) where
   front-refused cuts many =
       let size = length-take-le 130 cuts (omega arith) in
       let n : pairs (take 130 cuts) ≡ 65 = omega arith in
-      refuses (badPair plan (take 130 cuts)) (pairs (take 130 cuts)) _ (gives (pairs (take 130 cuts))) (ap (λ (m : ℕ). lowest (badPair plan (take 130 cuts)) m) n)
+      refuses (badPair plan (take 130 cuts)) (pairs (take 130 cuts)) _ (gives (pairs (take 130 cuts)))
+      (ap (λ (m : ℕ). lowest (badPair plan (take 130 cuts)) m) n)
       (let low = bad-some (take 130 cuts) in omega arith)
 
   check-front : (cuts : List ℕ) → checkCuts plan (take 130 cuts) ≡ checkCuts plan cuts

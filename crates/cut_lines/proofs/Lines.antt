@@ -38,7 +38,9 @@ module _ (text : List ℕ) where
 
     pub cuts-bad : isCutLine text i ≡ false → cutsFrom (suc n) text i ≡ 0 ∷ []
     unfolding cutsFrom
-    cuts-bad e = passed (ltb i (length text)) (isCutLine text i) (numberAt text (slotIndex i) ∷ numberAt text (linkIndex text i) ∷ cutsFrom n text (feedIndex text i + 1)) (0 ∷ []) [] (lt-ltb i (length text) h) e
+    cuts-bad e = passed (ltb i (length text)) (isCutLine text i)
+        (numberAt text (slotIndex i) ∷ numberAt text (linkIndex text i) ∷ cutsFrom n text (feedIndex text i + 1)) (0 ∷ []) []
+        (lt-ltb i (length text) h) e
 
   -- n lines give at most n pairs
   pub cuts-most : (n i : ℕ) → length (cutsFrom n text i) ≤ 2 * n
@@ -47,7 +49,8 @@ module _ (text : List ℕ) where
   cuts-most (suc n) i = by (ltb i (length text)) (isCutLine text i) (cuts-most n (feedIndex text i + 1))
     where
       by : (t u : Bool) → length (cutsFrom n text (feedIndex text i + 1)) ≤ 2 * n →
-          length (cond t (cond u (numberAt text (slotIndex i) ∷ numberAt text (linkIndex text i) ∷ cutsFrom n text (feedIndex text i + 1)) (0 ∷ [])) []) ≤ 2 * suc n
+          length (cond t (cond u (numberAt text (slotIndex i) ∷ numberAt text (linkIndex text i) ∷ cutsFrom n text (feedIndex text i + 1))
+          (0 ∷ [])) []) ≤ 2 * suc n
       by true true r = omega arith
       by true false r = omega arith
       by false u r = omega arith

@@ -84,7 +84,8 @@ module _ (text : List ℕ) (i : ℕ) where
           let d : isDigit (byteAt text i) ≡ true = ap isDigit first ∙ digit-is (r .value) h in
           by (isDigit (byteAt text (i + 1))) refl first d next
         where
-          by : (t : Bool) → isDigit (byteAt text (i + 1)) ≡ t → byteAt text i ≡ 48 + r .value → isDigit (byteAt text i) ≡ true → r .next ≡ i + 1 → Meets text i r
+          by : (t : Bool) → isDigit (byteAt text (i + 1)) ≡ t → byteAt text i ≡ 48 + r .value → isDigit (byteAt text i) ≡ true →
+              r .next ≡ i + 1 → Meets text i r
           by false u first d next =
               let s : numberSize text i ≡ 1 = size-one (byteAt text i) (byteAt text (i + 1)) d u in
               let v : numberAt text i ≡ byteAt text i - 48 = value-one (byteAt text i) (byteAt text (i + 1)) u in
@@ -93,7 +94,8 @@ module _ (text : List ℕ) (i : ℕ) where
               let low = digit-low (byteAt text (i + 1)) u in
               let inside : r .next < length text = inside-of (ltb (r .next) (length text)) refl low next in
               let other : goesOn 63 true (r .value) (byteAt text (i + 1)) ≡ false = rw next at (behind true (lt-ltb 0 size some) inside) in
-              cut-off (small (ltb 0 (r .value)) (leb (r .value * 10 + (byteAt text (i + 1) - 48)) 63) refl refl first d u (rw u at other)) next u
+              cut-off (small (ltb 0 (r .value)) (leb (r .value * 10 + (byteAt text (i + 1) - 48)) 63) refl refl first d u
+              (rw u at other)) next u
             where
               inside-of : (t : Bool) → ltb (r .next) (length text) ≡ t → 48 ≤ byteAt text (i + 1) → r .next ≡ i + 1 → r .next < length text
               inside-of true e low next = ltb-true (r .next) (length text) e
@@ -129,7 +131,8 @@ module _ (text : List ℕ) (i : ℕ) where
           let d : isDigit (byteAt text i) ≡ true = ap isDigit first ∙ digit-is (r .value / 10) (omega arith) in
           let u : isDigit (byteAt text (i + 1)) ≡ true = ap isDigit second ∙ digit-is (r .value % 10) (omega arith) in
           let s : numberSize text i ≡ 2 = size-two (byteAt text i) (byteAt text (i + 1)) d u (omega arith) (omega arith) in
-          let v : numberAt text i ≡ (byteAt text i - 48) * 10 + (byteAt text (i + 1) - 48) = value-two (byteAt text i) (byteAt text (i + 1)) u in
+          let v : numberAt text i ≡ (byteAt text i - 48) * 10 + (byteAt text (i + 1) - 48) =
+          value-two (byteAt text i) (byteAt text (i + 1)) u in
           two s (omega arith) (omega arith)
 
     pub meets : Meets text i r

@@ -22,7 +22,8 @@ use Rattle.scope.specs.Lines.{cutsFrom, cutsOf, listing, refusedLine}
 use Rattle.cut_lines.proofs.Enough.{enough, enough-cuts}
 
 -- a row whose fields are in form has at most 64 links
-walk-more : (s : Fields) (i v : ℕ) (vs : List ℕ) (n : ℕ) → walkFrom s i (v ∷ vs) ≡ gives n → (v < 2 ^ width s) × (walkFrom (step s v) (i + 1) vs ≡ gives n)
+walk-more : (s : Fields) (i v : ℕ) (vs : List ℕ) (n : ℕ) → walkFrom s i (v ∷ vs) ≡ gives n → (v < 2 ^ width s) ×
+    (walkFrom (step s v) (i + 1) vs ≡ gives n)
 unfolding walkFrom
 walk-more s i v vs n h = by (eqb (width s) 0) (ltb v (2 ^ width s)) refl h
   where
@@ -53,7 +54,8 @@ pub few-links : (row : List ℕ) (n : ℕ) → judge row ≡ gives n → length 
 unfolding judge planOf
 few-links row n h = by (walkRow row) refl h
   where
-    by : (o : Outcome) → walkRow row ≡ o → andThen o (λ n. andThen (rules (planOf row)) (λ _. gives n)) ≡ gives n → length (linksAt row firstLink (linkCount row)) ≤ 64
+    by : (o : Outcome) → walkRow row ≡ o → andThen o (λ n. andThen (rules (planOf row)) (λ _. gives n)) ≡ gives n →
+        length (linksAt row firstLink (linkCount row)) ≤ 64
     by (gives m) e h =
         let l = few-first row m e in
         let c = count-links row firstLink (linkCount row) in
@@ -79,7 +81,8 @@ text-refused : (row : List ℕ) (lent : ℕ) (cuts : List ℕ) (r : Refusal) →
 unfolding replay listing
 text-refused row lent cuts r e = rw e
 
-text-given : (row : List ℕ) (lent : ℕ) (cuts : List ℕ) (n : ℕ) → judge row ≡ gives n → textOf row lent cuts ≡ finish row lent cuts (checkCuts (planOf row) cuts)
+text-given : (row : List ℕ) (lent : ℕ) (cuts : List ℕ) (n : ℕ) → judge row ≡ gives n →
+    textOf row lent cuts ≡ finish row lent cuts (checkCuts (planOf row) cuts)
 unfolding replay finish
 text-given row lent cuts n e = rw e
 

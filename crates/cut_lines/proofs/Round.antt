@@ -9,7 +9,8 @@ use lib.ListN.{length, getD, take, drop, length-append, length-drop, List·getD-
 use lib.Seq.{getD-append-add, getD-take, getD-drop, ext-getD, length-take-le}
 use lib.Dec.{ltb, leb, eqb}
 use borrow.Author.Tests.{le-leb, ltb-true, ltb-false, leb-true, eqb-true}
-use Rattle.scope.specs.Lines.{byteAt, decimal, isDigit, numberAt, numberSize, hasWord, cutWord, cutLine, isCutLine, slotIndex, spaceIndex, linkIndex, feedIndex, cutsFrom, cutsOf, cutLines}
+use Rattle.scope.specs.Lines.{byteAt, decimal, isDigit, numberAt, numberSize, hasWord, cutWord, cutLine, isCutLine, slotIndex, spaceIndex}
+use Rattle.scope.specs.Lines.{linkIndex, feedIndex, cutsFrom, cutsOf, cutLines}
 use Rattle.text.proofs.Decimal.{decimal-small, decimal-large}
 use Rattle.cut_lines.proofs.Forms.{size-one, size-two, value-one, value-two, digit-low, digit-high, is-line, feed-is}
 use Rattle.cut_lines.proofs.Lines.{cuts-end, cuts-line}
@@ -154,12 +155,15 @@ module _ (text : List ℕ) (i : ℕ) where
   line-here : (s e : ℕ) → s ≤ 63 → e ≤ 63 → Bytes text i (cutLine s e) → Line text i s e
   line-here s e g f h =
       let h₁ : Bytes text (i + 4) (afterWord s e) = bytes-right text i cutWord (afterWord s e) h in
-      let one : Number text (i + 4) s = number-here text (i + 4) s 32 g refl (bytes-number text (i + 4) (decimal s) 32 (decimal e ++ (10 ∷ [])) h₁) in
+      let one : Number text (i + 4) s = number-here text (i + 4) s 32 g refl
+      (bytes-number text (i + 4) (decimal s) 32 (decimal e ++ (10 ∷ [])) h₁) in
       let h₂ : Bytes text (i + 4 + length (decimal s)) (32 ∷ (decimal e ++ (10 ∷ []))) = bytes-right text (i + 4) (decimal s) _ h₁ in
       let gap : byteAt text (i + 4 + length (decimal s)) ≡ 32 = bytes-first text (i + 4 + length (decimal s)) 32 (decimal e ++ (10 ∷ [])) h₂ in
-      let h₃ : Bytes text (i + 4 + length (decimal s) + 1) (decimal e ++ (10 ∷ [])) = bytes-next text (i + 4 + length (decimal s)) 32 (decimal e ++ (10 ∷ [])) h₂ in
+      let h₃ : Bytes text (i + 4 + length (decimal s) + 1) (decimal e ++ (10 ∷ [])) =
+      bytes-next text (i + 4 + length (decimal s)) 32 (decimal e ++ (10 ∷ [])) h₂ in
       let two : Number text (i + 4 + length (decimal s) + 1) e = number-here text (i + 4 + length (decimal s) + 1) e 10 f refl h₃ in
-      let h₄ : Bytes text (i + 4 + length (decimal s) + 1 + length (decimal e)) (10 ∷ []) = bytes-right text (i + 4 + length (decimal s) + 1) (decimal e) (10 ∷ []) h₃ in
+      let h₄ : Bytes text (i + 4 + length (decimal s) + 1 + length (decimal e)) (10 ∷ []) =
+      bytes-right text (i + 4 + length (decimal s) + 1) (decimal e) (10 ∷ []) h₃ in
       let end = bytes-first text (i + 4 + length (decimal s) + 1 + length (decimal e)) 10 [] h₄ in
       let link : linkIndex text i ≡ i + 4 + length (decimal s) + 1 = ap (λ (k : ℕ). i + 4 + k + 1) (one .size) in
       let some = decimal-some s g in
@@ -256,7 +260,8 @@ module _ (text : List ℕ) (i : ℕ) where
           let low = digit-low (byteAt text (i + 1)) q in
           let high = digit-high (byteAt text (i + 1)) q in
           let size : numberSize text i ≡ 2 = size-two (byteAt text i) (byteAt text (i + 1)) p q f g in
-          let value : numberAt text i ≡ (byteAt text i - 48) * 10 + (byteAt text (i + 1) - 48) = value-two (byteAt text i) (byteAt text (i + 1)) q in
+          let value : numberAt text i ≡ (byteAt text i - 48) * 10 + (byteAt text (i + 1) - 48) =
+          value-two (byteAt text i) (byteAt text (i + 1)) q in
           let front : 48 + numberAt text i / 10 ≡ byteAt text i = omega arith in
           let back : 48 + numberAt text i % 10 ≡ byteAt text (i + 1) = omega arith in
           let digits : decimal (numberAt text i) ≡ byteAt text i ∷ byteAt text (i + 1) ∷ [] =
@@ -265,12 +270,14 @@ module _ (text : List ℕ) (i : ℕ) where
           record {
             most = omega arith;
             size = size ∙ sym (ap length digits);
-            bytes = rw digits (bytes-cons text i (byteAt text i) (byteAt text (i + 1) ∷ []) refl (bytes-one text (i + 1) (byteAt text (i + 1)) refl));
+            bytes = rw digits (bytes-cons text i (byteAt text i) (byteAt text (i + 1) ∷ []) refl
+                (bytes-one text (i + 1) (byteAt text (i + 1)) refl));
           }
 
       by : (t u v w : Bool) → isDigit (byteAt text i) ≡ t → isDigit (byteAt text (i + 1)) ≡ u → ltb 48 (byteAt text i) ≡ v →
           leb ((byteAt text i - 48) * 10 + (byteAt text (i + 1) - 48)) 63 ≡ w → 0 < cond t (cond u (cond (v && w) 2 0) 1) 0 → Printed text i
-      by true true true true p q r x h = two p q (ltb-true 48 (byteAt text i) r) (leb-true ((byteAt text i - 48) * 10 + (byteAt text (i + 1) - 48)) 63 x)
+      by true true true true p q r x h = two p q (ltb-true 48 (byteAt text i) r)
+          (leb-true ((byteAt text i - 48) * 10 + (byteAt text (i + 1) - 48)) 63 x)
       by true true true false p q r x h = absurd (omega arith)
       by true true false w p q r x h = absurd (omega arith)
       by true false v w p q r x h = one p q
@@ -326,13 +333,17 @@ line-slot text i s e c = line-here text i s e (c .slot) (c .link) (stand-bytes t
 pub line-link : (text : List ℕ) (i s e : ℕ) → CutLineAt text i s e → numberAt text (linkIndex text i) ≡ e
 line-link text i s e c = line-here text i s e (c .slot) (c .link) (stand-bytes text i (cutLine s e) (c .stands)) .link
 
-pub line-stands : (text : List ℕ) (i : ℕ) → isCutLine text i ≡ true → CutLineAt text i (numberAt text (slotIndex i)) (numberAt text (linkIndex text i))
+pub line-stands : (text : List ℕ) (i : ℕ) → isCutLine text i ≡ true → CutLineAt text i (numberAt text (slotIndex i))
+    (numberAt text (linkIndex text i))
 line-stands text i h =
-    let t₅ = and-split (hasWord text i && ltb 0 (numberSize text (slotIndex i)) && eqb (byteAt text (spaceIndex text i)) 32 && ltb 0 (numberSize text (linkIndex text i))) (eqb (byteAt text (feedIndex text i)) 10) h in
-    let t₄ = and-split (hasWord text i && ltb 0 (numberSize text (slotIndex i)) && eqb (byteAt text (spaceIndex text i)) 32) (ltb 0 (numberSize text (linkIndex text i))) (t₅ .0) in
+    let t₅ = and-split (hasWord text i && ltb 0 (numberSize text (slotIndex i)) && eqb (byteAt text (spaceIndex text i)) 32 && ltb 0
+    (numberSize text (linkIndex text i))) (eqb (byteAt text (feedIndex text i)) 10) h in
+    let t₄ = and-split (hasWord text i && ltb 0 (numberSize text (slotIndex i)) && eqb (byteAt text (spaceIndex text i)) 32)
+    (ltb 0 (numberSize text (linkIndex text i))) (t₅ .0) in
     let t₃ = and-split (hasWord text i && ltb 0 (numberSize text (slotIndex i))) (eqb (byteAt text (spaceIndex text i)) 32) (t₄ .0) in
     let t₂ = and-split (hasWord text i) (ltb 0 (numberSize text (slotIndex i))) (t₃ .0) in
-    let w₄ = and-split (eqb (byteAt text i) 99 && eqb (byteAt text (i + 1)) 117 && eqb (byteAt text (i + 2)) 116) (eqb (byteAt text (i + 3)) 32) (t₂ .0) in
+    let w₄ = and-split (eqb (byteAt text i) 99 && eqb (byteAt text (i + 1)) 117 && eqb (byteAt text (i + 2)) 116)
+    (eqb (byteAt text (i + 3)) 32) (t₂ .0) in
     let w₃ = and-split (eqb (byteAt text i) 99 && eqb (byteAt text (i + 1)) 117) (eqb (byteAt text (i + 2)) 116) (w₄ .0) in
     let w₂ = and-split (eqb (byteAt text i) 99) (eqb (byteAt text (i + 1)) 117) (w₃ .0) in
     let s = number-there text (slotIndex i) (ltb-true 0 (numberSize text (slotIndex i)) (t₂ .1)) in
@@ -343,7 +354,8 @@ line-stands text i h =
     let n = numberAt text (linkIndex text i) in
     let space : spaceIndex text i ≡ i + 4 + length (decimal m) = ap (λ (k : ℕ). i + 4 + k) (s .size) in
     let link : linkIndex text i ≡ i + 4 + length (decimal m) + 1 = ap (λ (k : ℕ). k + 1) space in
-    let last : feedIndex text i ≡ i + 4 + length (decimal m) + 1 + length (decimal n) = ap (λ (k : ℕ). linkIndex text i + k) (e .size) ∙ ap (λ (k : ℕ). k + length (decimal n)) link in
+    let last : feedIndex text i ≡ i + 4 + length (decimal m) + 1 + length (decimal n) = ap (λ (k : ℕ). linkIndex text i + k) (e .size) ∙
+    ap (λ (k : ℕ). k + length (decimal n)) link in
     let inside = byte-inside text (feedIndex text i) 10 feed (omega arith) in
     let size = line-size m n in
     record {
@@ -352,7 +364,8 @@ line-stands text i h =
       stands =
           bytes-stand text i (cutLine m n) (omega arith)
           (assemble text i m n
-          (eqb-true (byteAt text i) 99 (w₂ .0)) (eqb-true (byteAt text (i + 1)) 117 (w₂ .1)) (eqb-true (byteAt text (i + 2)) 116 (w₃ .1)) (eqb-true (byteAt text (i + 3)) 32 (w₄ .1))
+          (eqb-true (byteAt text i) 99 (w₂ .0)) (eqb-true (byteAt text (i + 1)) 117 (w₂ .1)) (eqb-true (byteAt text (i + 2)) 116 (w₃ .1))
+          (eqb-true (byteAt text (i + 3)) 32 (w₄ .1))
           (s .bytes) (sym (ap (byteAt text) space) ∙ gap)
           (λ k g. ap (λ (x : ℕ). byteAt text (x + k)) (sym link) ∙ e .bytes k g)
           (sym (ap (byteAt text) last) ∙ feed));

@@ -59,7 +59,8 @@ row-length row cuts =
     ∙ ap (λ k. planOf row .timeout * (2 * k)) (length-map (planOf row .messages) S.onFirst ∙ message-count row)
     ∙ ap (λ k. k * (2 * messageCount row)) (timeout-is row)
 
-pub few-numbers : (row : List ℕ) → GoodRow row → (t n : ℕ) → t ≡ timeoutOf row → n ≡ messageCount row → t * (2 * n) ≤ mostSlots * (2 * mostMessages)
+pub few-numbers : (row : List ℕ) → GoodRow row → (t n : ℕ) → t ≡ timeoutOf row → n ≡ messageCount row →
+    t * (2 * n) ≤ mostSlots * (2 * mostMessages)
 few-numbers row j t n e f =
     let l = good-lies row j in
     let a : t ≤ mostSlots = omega (arith, l .timeout) in
@@ -86,13 +87,15 @@ module _ (row cuts entry : List ℕ) (good : Checked row cuts) (needed : ℕ) (n
   unfolding replay
   replay-short a h is =
       let l : length (eventRow (planOf row) cuts) ≡ needed = row-length row cuts ∙ sym n in
-      let o : replay row cuts (length entry) ≡ refuse 13 needed = rw (judged row (good .judged), good .good, l, lt-leb needed (length entry) h) in
+      let o : replay row cuts (length entry) ≡ refuse 13 needed =
+      rw (judged row (good .judged), good .good, l, lt-leb needed (length entry) h) in
       refuses _ _ entry _ a o is
 
   -- the arrivals, with the row of events
   module _ (h : needed ≤ length entry) (table exit : List ℕ) (count : ℕ) (t : Table (tableOf (planOf row)) table)
       (p : Played row table cuts entry exit count) where
-    same : (j : ℕ) → j < 0 + timeoutOf row → (cutBelow (planOf row) cuts j ≡ isCut (planOf row) cuts j) × (entryAt table j ≡ tableOf (planOf row) j)
+    same : (j : ℕ) → j < 0 + timeoutOf row → (cutBelow (planOf row) cuts j ≡ isCut (planOf row) cuts j) ×
+        (entryAt table j ≡ tableOf (planOf row) j)
     same j g =
         let l = good-lies row (good .judged) in
         let k : j < mostSlots = omega (arith, l .timeout) in (
@@ -104,14 +107,19 @@ module _ (row cuts entry : List ℕ) (good : Checked row cuts) (needed : ℕ) (n
     unfolding arrivals
     ends =
         p .arrivals
-        ∙ ap arrived (positions-same (orderOf (planOf row)) (cutBelow (planOf row) cuts) (isCut (planOf row) cuts) (entryAt table) (tableOf (planOf row)) (timeoutOf row) 0 (start (planOf row)) same)
-        ∙ ap (λ u. arrived (positions (orderOf (planOf row)) (isCut (planOf row) cuts) (tableOf (planOf row)) 0 u (start (planOf row)))) (sym (timeout-is row))
+        ∙ ap arrived (positions-same (orderOf (planOf row)) (cutBelow (planOf row) cuts) (isCut (planOf row) cuts) (entryAt table)
+        (tableOf (planOf row)) (timeoutOf row) 0 (start (planOf row)) same)
+        ∙ ap (λ u. arrived (positions (orderOf (planOf row)) (isCut (planOf row) cuts) (tableOf (planOf row)) 0 u
+        (start (planOf row)))) (sym (timeout-is row))
 
-    tells-row : events (orderOf (planOf row)) (cutBelow (planOf row) cuts) (entryAt table) 0 (timeoutOf row) (start (planOf row)) ≡ eventRow (planOf row) cuts
+    tells-row : events (orderOf (planOf row)) (cutBelow (planOf row) cuts) (entryAt table) 0 (timeoutOf row) (start (planOf row)) ≡
+        eventRow (planOf row) cuts
     unfolding eventRow
     tells-row =
-        events-same (orderOf (planOf row)) (cutBelow (planOf row) cuts) (isCut (planOf row) cuts) (entryAt table) (tableOf (planOf row)) (timeoutOf row) 0 (start (planOf row)) same
-        ∙ ap (λ u. events (orderOf (planOf row)) (isCut (planOf row) cuts) (tableOf (planOf row)) 0 u (start (planOf row))) (sym (timeout-is row))
+        events-same (orderOf (planOf row)) (cutBelow (planOf row) cuts) (isCut (planOf row) cuts) (entryAt table) (tableOf (planOf row))
+        (timeoutOf row) 0 (start (planOf row)) same
+        ∙ ap (λ u. events (orderOf (planOf row)) (isCut (planOf row) cuts) (tableOf (planOf row)) 0 u
+        (start (planOf row))) (sym (timeout-is row))
 
     pub replay-gives : Replays row cuts entry exit (Gives count)
     unfolding replay
@@ -127,4 +135,5 @@ module _ (row cuts entry : List ℕ) (good : Checked row cuts) (needed : ℕ) (n
 -- two outcomes that the statement allows are equal
 pub replays-one : (row cuts entry exit exit′ : List ℕ) (r r′ : Answer) → Replays row cuts entry exit r → Replays row cuts entry exit′ r′ →
     (r ≡ r′) × (exit ≡ exit′)
-replays-one row cuts entry exit exit′ r r′ a b = only-one (replay row cuts (length entry)) (eventRow (planOf row) cuts) entry exit exit′ r r′ a b
+replays-one row cuts entry exit exit′ r r′ a b = only-one (replay row cuts (length entry)) (eventRow (planOf row) cuts)
+    entry exit exit′ r r′ a b

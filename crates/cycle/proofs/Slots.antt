@@ -126,14 +126,16 @@ module _ (row : List ℕ) (n : ℕ) (rank : ℕ → ℕ) (down : ℕ → ℕ →
             let f : length (drop at out) ≤ length out - at = omega (arith, length-drop at out) in
             let mid : take (length out - at) (drop at out) ≡ drop at out = take-all (length out - at) (drop at out) f in
             let nil : drop (length out - at) (drop at out) ≡ [] = drop-of-length-le (drop at out) f in
-            let p : part ≡ ns ++ drop (at + 2 * n) out = d .events ∙ ap (λ u. ns ++ drop (2 * n) u) mid ∙ ap (λ u. ns ++ u) (drop-drop (2 * n) at out) in
+            let p : part ≡ ns ++ drop (at + 2 * n) out = d .events ∙ ap (λ u. ns ++ drop (2 * n) u) mid ∙
+            ap (λ u. ns ++ u) (drop-drop (2 * n) at out) in
             e ∙ ap (λ u. take at out ++ (part ++ u)) nil ∙ ap (λ u. take at out ++ u) (append-nil part) ∙ ap (λ u. take at out ++ u) p
             ∙ sym (append-assoc (take at out) ns (drop (at + 2 * n) out))
 
         front : length (take at out ++ numbers (slot rank down owner i (positionsOf row n new))) ≡ at + 2 * n
         front =
             length-append (take at out) (numbers (slot rank down owner i (positionsOf row n new)))
-            ∙ ap (λ k. k + length (numbers (slot rank down owner i (positionsOf row n new)))) (length-take-le at out (omega (arith, running-room h)))
+            ∙ ap (λ k. k + length (numbers (slot rank down owner i (positionsOf row n new))))
+            (length-take-le at out (omega (arith, running-room h)))
             ∙ ap (λ k. at + k) told
 
         len : length out′ ≡ length out
@@ -144,7 +146,8 @@ module _ (row : List ℕ) (n : ℕ) (rank : ℕ → ℕ) (down : ℕ → ℕ →
             ∙ ap (λ k. at + 2 * n + k) (length-drop (at + 2 * n) out)
             ∙ omega (arith, running-room h)
 
-        tell : numbers (slot rank down owner i (positionsOf row n new)) ++ events rank down owner (i + 1) (t - (i + 1)) (positionsOf row n (s .positions)) ≡
+        tell : numbers (slot rank down owner i (positionsOf row n new)) ++ events rank down owner (i + 1) (t - (i + 1))
+            (positionsOf row n (s .positions)) ≡
             events rank down owner i (t - i) (positionsOf row n new)
         tell =
             ap (λ u. numbers (slot rank down owner i (positionsOf row n new)) ++ events rank down owner (i + 1) (t - (i + 1)) u) (d .next .is)
@@ -179,7 +182,8 @@ module _ (row : List ℕ) (n : ℕ) (rank : ℕ → ℕ) (down : ℕ → ℕ →
         Ran row n (positions rank down owner 0 t (positionsOf row n old)) (events rank down owner 0 t (positionsOf row n old)) buffer out s
     running-done s same h =
         let w : take at out ≡ events rank down owner 0 t (positionsOf row n old) =
-        sym (append-nil (take at out)) ∙ ap (λ u. take at out ++ u) (sym (events-none rank down owner t i (positionsOf row n new) h)) ∙ g .written in
+        sym (append-nil (take at out)) ∙ ap (λ u. take at out ++ u)
+        (sym (events-none rank down owner t i (positionsOf row n new) h)) ∙ g .written in
         let l : at ≡ length (events rank down owner 0 t (positionsOf row n old)) =
         sym (length-take-le at out (omega (arith, g .enough))) ∙ ap length w in
         record {

@@ -62,13 +62,15 @@ module _ (row : List ℕ) (n : ℕ) where
     -- the message ends within the row's end, and its position with it
     pub starting-ends : afterMessage row at < 65536
     starting-ends =
-        let e : afterMessages row (afterMessage row at) (n - (m + 1)) ≡ afterMessages row at (n - m) = messages-next row at n m (afterMessage row at) h refl in
+        let e : afterMessages row (afterMessage row at) (n - (m + 1)) ≡ afterMessages row at (n - m) =
+        messages-next row at n m (afterMessage row at) h refl in
         omega (arith, messages-least (afterMessage row at) (n - (m + 1)), s .ends, s .may .fit)
 
     pub starting-fits : at + 1 + placeCount row at < 65536
     starting-fits = omega (arith, starting-ends, after-least row (at + 1) (placeCount row at))
 
-    pub starting-more : (left next : ℕ) → left ≡ placeCount row at → next ≡ afterMessage row at → Starting (m + 1) next (set ps m (begins at left))
+    pub starting-more : (left next : ℕ) → left ≡ placeCount row at → next ≡ afterMessage row at →
+        Starting (m + 1) next (set ps m (begins at left))
     starting-more left next e f =
         let l : m < length ps = omega (arith, s .long, s .may .few) in
         record {
@@ -103,7 +105,8 @@ module _ (row : List ℕ) (n : ℕ) where
             let z : k ≡ m → ⊥ = eqb-false k m b in
             rw (getD-set-other ps m k (begins at left) home z) (s .fit k (omega (arith, z)))
 
-  pub starting-done : (m at : ℕ) (ps : List Position) → Starting m at ps → n ≤ m → Become row n (map S.onFirst (messagesAt row (firstMessage row) n)) ps
+  pub starting-done : (m at : ℕ) (ps : List Position) → Starting m at ps → n ≤ m →
+      Become row n (map S.onFirst (messagesAt row (firstMessage row) n)) ps
   unfolding messagesAt
   starting-done m at ps s h = by (omega (arith, s .few))
     where
@@ -116,7 +119,8 @@ module _ (row : List ℕ) (n : ℕ) where
 
       by : m ≡ n → Become row n (map S.onFirst (messagesAt row (firstMessage row) n)) ps
       by e =
-          let i : positionsOf row n ps ++ map S.onFirst (messagesAt row at (n - n)) ≡ map S.onFirst (messagesAt row (firstMessage row) n) = rw e at (s .is) in
+          let i : positionsOf row n ps ++ map S.onFirst (messagesAt row at (n - n)) ≡ map S.onFirst
+          (messagesAt row (firstMessage row) n) = rw e at (s .is) in
           record {
             is = sym (ap (λ u. positionsOf row n ps ++ map S.onFirst u) none ∙ nil (positionsOf row n ps)) ∙ i;
             stand = record { few = s .may .few; fit = λ k g. s .fit k (omega arith) };

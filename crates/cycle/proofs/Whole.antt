@@ -54,7 +54,8 @@ module _ (row table cuts : List ℕ) (n t : ℕ) (e : n ≡ messageCount row) (f
       record { first = b .time; stand = b .next .stand; long = b .long; short = h; enough = rw l (m .enough) }
 
   pub played : (r : Standing) (buffer out : List ℕ) (count : ℕ) →
-      Ran row n (endsWith row table cuts 0 t (positionsOf row n (s .positions))) (tells row table cuts 0 t (positionsOf row n (s .positions))) buffer out r →
+      Ran row n (endsWith row table cuts 0 t (positionsOf row n (s .positions)))
+      (tells row table cuts 0 t (positionsOf row n (s .positions))) buffer out r →
       count ≡ arrived (positionsOf row n (r .positions)) → Played row table cuts buffer out count
   played r buffer out count ran c =
       let k : positionsOf row n (r .positions) ≡ endsWith row table cuts 0 (timeoutOf row) (start (planOf row)) =

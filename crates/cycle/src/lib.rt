@@ -97,7 +97,8 @@ fn run_slot(
     out: &mut [u16],
 ) -> Standing
     requires { ⌜ MayRunSlot (now row) n standing (i .0) (length (now out)) ⌝ }
-    ensures { λ r. ⌜ Done (now (row .entry)) n (i .0) (doIn (now (row .entry)) (now (table .entry)) (now (cuts .entry)) (i .0) (positionsOf (now (row .entry)) n (standing .positions))) (now (out .entry)) (now (out .exit)) r ⌝ }
+    ensures { λ r. ⌜ Done (now (row .entry)) n (i .0) (doIn (now (row .entry)) (now (table .entry)) (now (cuts .entry)) (i .0)
+        (positionsOf (now (row .entry)) n (standing .positions))) (now (out .entry)) (now (out .exit)) r ⌝ }
 {
     let down = cuts::down_in(cuts, i.number());
     standing.tell(i, n, row, table, &down, out);
@@ -114,8 +115,12 @@ fn run(
     cuts: &[u16],
     out: &mut [u16],
 ) -> Standing
-    requires { ⌜ MayRun (now row) first n timeout (tells (now row) (now table) (now cuts) 0 timeout (positionsOf (now row) n (first .positions))) (length (now out)) ⌝ }
-    ensures { λ r. ⌜ Ran (now (row .entry)) n (endsWith (now (row .entry)) (now (table .entry)) (now (cuts .entry)) 0 timeout (positionsOf (now (row .entry)) n (first .positions))) (tells (now (row .entry)) (now (table .entry)) (now (cuts .entry)) 0 timeout (positionsOf (now (row .entry)) n (first .positions))) (now (out .entry)) (now (out .exit)) r ⌝ }
+    requires { ⌜ MayRun (now row) first n timeout (tells (now row) (now table) (now cuts) 0 timeout
+        (positionsOf (now row) n (first .positions))) (length (now out)) ⌝ }
+    ensures { λ r. ⌜ Ran (now (row .entry)) n (endsWith (now (row .entry)) (now (table .entry)) (now (cuts .entry)) 0 timeout
+        (positionsOf (now (row .entry)) n (first .positions)))
+        (tells (now (row .entry)) (now (table .entry)) (now (cuts .entry)) 0 timeout (positionsOf (now (row .entry)) n (first .positions)))
+        (now (out .entry)) (now (out .exit)) r ⌝ }
 {
     let mut standing = first;
     let mut at = 0;

@@ -9,7 +9,8 @@ use lib.Pow.{pow-mono}
 use borrow.Author.Tests.{ne-eqb}
 use Rattle.scope.specs.declared.Fields.{Fields}
 use Rattle.scope.specs.declared.Field.{Field}
-use Rattle.scope.specs.declared.Field.the-variants.{Vertices, Links, Messages, Timeout, From, To, Length, Link, Slot, Flag, SecondLength, SecondLink, End}
+use Rattle.scope.specs.declared.Field.the-variants.{Vertices, Links, Messages, Timeout, From, To, Length, Link, Slot, Flag, SecondLength}
+use Rattle.scope.specs.declared.Field.the-variants.{SecondLink, End}
 use Rattle.scope.specs.Fields.{widthOf, width, step, following, nextMessage, nextPlace, nextLink, nextSecond, afterFlag, opening}
 
 module _ (cost : ℕ → ℕ) (slot : ℕ) where
@@ -63,7 +64,8 @@ module _ (cost : ℕ → ℕ) (slot : ℕ) where
   after-flag (suc zero) p m = omega arith
   after-flag (suc (suc v)) p m = rw (ne-eqb (suc (suc v)) 1 (λ e. omega arith)) (omega (arith, after-place p m))
 
-  pub falls-of : (n : Field) (v : ℕ) → (widthOf slot n ≡ 0 → ⊥) → v < 2 ^ widthOf slot n → cost (widthOf slot n) + mostOf (following n v) ≤ mostOf n
+  pub falls-of : (n : Field) (v : ℕ) → (widthOf slot n ≡ 0 → ⊥) → v < 2 ^ widthOf slot n →
+      cost (widthOf slot n) + mostOf (following n v) ≤ mostOf n
   unfolding link second place message
   falls-of Vertices v h l = omega arith
   falls-of Links v h l = omega (arith, mul-le-mul-right link l)

@@ -21,7 +21,8 @@ form-refused file r e = rw e
 
 -- so what holds of the front holds of the file, if it goes from one to the other where both are refused alike
 pub from-front : (P : List ℕ → Type 0) (file : List ℕ) →
-    ((r : Refusal) → readFile (take planRoom file) longestRow ≡ refused r → readFile file longestRow ≡ refused r → P (take planRoom file) → P file) →
+    ((r : Refusal) → readFile (take planRoom file) longestRow ≡ refused r → readFile file longestRow ≡ refused r →
+    P (take planRoom file) → P file) →
     P (take planRoom file) → P file
 from-front P file both h = by (ltb longestFile (length file)) refl
   where

@@ -20,18 +20,21 @@ event-room i m k n p q r s =
     let d = decimal-most n 4 (omega arith) in
     simp length-append (omega arith)
 
-lines-room : (m t : ℕ) (row : List ℕ) → 0 < m → m ≤ 32 → t ≤ 64 → ((i : ℕ) → getD row i 0 < 65536) → (j n : ℕ) → j + n ≤ t * m → length (eventLines m row j n) ≤ n * 18
+lines-room : (m t : ℕ) (row : List ℕ) → 0 < m → m ≤ 32 → t ≤ 64 → ((i : ℕ) → getD row i 0 < 65536) → (j n : ℕ) → j + n ≤ t * m →
+    length (eventLines m row j n) ≤ n * 18
 unfolding eventLines
 lines-room m t row z h g small j zero l = omega arith
 lines-room m t row z h g small j (suc n) l =
     let rest = lines-room m t row z h g small (j + 1) n (omega arith) in
     let slot : j / m < t = div-lt-iff-lt-mul z .1 (omega arith) in
     let message : j % m < m = mod-lt j z in
-    let line = event-room (j / m) (j % m) (getD row (2 * j) 0) (getD row (2 * j + 1) 0) (omega arith) (omega arith) (small (2 * j)) (small (2 * j + 1)) in
+    let line = event-room (j / m) (j % m) (getD row (2 * j) 0) (getD row (2 * j + 1) 0) (omega arith) (omega arith)
+    (small (2 * j)) (small (2 * j + 1)) in
     let a = length-append (eventLine (j / m) (j % m) (getD row (2 * j) 0) (getD row (2 * j + 1) 0)) (eventLines m row (j + 1) n) in
     omega arith
 
-pub listing-room : (o : Outcome) (plan : Plan) (row : List ℕ) → 0 < length (plan .messages) → length (plan .messages) ≤ 32 → plan .timeout ≤ 64 →
+pub listing-room : (o : Outcome) (plan : Plan) (row : List ℕ) → 0 < length (plan .messages) →
+    length (plan .messages) ≤ 32 → plan .timeout ≤ 64 →
     ((i : ℕ) → getD row i 0 < 65536) → length (listing o plan row) ≤ listingRoom
 unfolding listing
 listing-room (gives n) plan row z h g small =

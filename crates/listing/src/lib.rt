@@ -79,7 +79,8 @@ fn refused_line(out: &mut [u8], refusal: Refusal) -> usize
 
 // The listing of a replay with n arrivals: the header, its events and the arrivals.
 fn replayed(out: &mut [u8], n: usize, row: &[u16], events: &[u16]) -> usize
-    ensures { λ r. ⌜ Puts (Lines·listing (gives n) (planOf (now (row .entry))) (now (events .entry))) (now (out .entry)) (now (out .exit)) 0 r ⌝ }
+    ensures { λ r. ⌜ Puts (Lines·listing (gives n) (planOf (now (row .entry))) (now (events .entry))) (now (out .entry))
+        (now (out .exit)) 0 r ⌝ }
 {
     let messages = number(row, 3) + 1;
     let timeout = number(row, 4) + 1;
@@ -93,7 +94,8 @@ pub const ROOM: usize = 36942;
 
 // The listing of a replay of a plan's row with n arrivals and these events: how many bytes, or refusal 13 with the bytes needed.
 pub fn listing(n: usize, row: &[u16], events: &[u16], out: &mut [u8]) -> Answer
-    ensures { λ r. ⌜ Prints (Lines·listing (gives n) (planOf (now (row .entry))) (now (events .entry))) (now (out .entry)) (now (out .exit)) r ⌝ }
+    ensures { λ r. ⌜ Prints (Lines·listing (gives n) (planOf (now (row .entry))) (now (events .entry))) (now (out .entry))
+        (now (out .exit)) r ⌝ }
 {
     let needed = replayed(&mut out[..0], n, row, events);
     if out.len() < needed {

@@ -116,7 +116,8 @@ answer-named : (row : List ℕ) (k lent : ℕ) → Numbered (mayAnswer row k len
 unfolding mayAnswer
 answer-named row k lent =
     chain (judge row) _ (judged row)
-    (λ n e. pick (ltb 3 k) (refuse 11 0) (room (needed (planOf row)) lent) (named 11 0 (λ e. omega arith)) (room-named (needed (planOf row)) lent))
+    (λ n e. pick (ltb 3 k) (refuse 11 0) (room (needed (planOf row)) lent) (named 11 0 (λ e. omega arith))
+    (room-named (needed (planOf row)) lent))
 
 spare-named : (row : List ℕ) (m q : ℕ) → Numbered (maySpare row m q)
 unfolding maySpare
@@ -143,6 +144,7 @@ zero-says-none =
       answers = answer-named;
       spares = spare-named;
       lists = list-named;
-      prints = λ file needed lent. chain (readFile file longestRow) (λ _. room needed lent) (read-named file longestRow) (λ n e. room-named needed lent);
+      prints = λ file needed lent. chain (readFile file longestRow) (λ _. room needed lent) (read-named file longestRow)
+          (λ n e. room-named needed lent);
       rooms = room-named;
     }

@@ -31,7 +31,8 @@ module _ {n p v n′ p′ v′ : ℕ} where
   pub one-told : (o : Outcome) → Told o n p v → Told o n′ p′ v′ → (n ≡ n′) × (p ≡ p′) × (v ≡ v′)
   one-told o a b = (a .number ∙ sym (b .number), a .place ∙ sym (b .place), a .result ∙ sym (b .result))
 
-  pub one-telling : (o : Outcome) (written entry exit exit′ : List ℕ) → Tells o written entry exit n p v → Tells o written entry exit′ n′ p′ v′ →
+  pub one-telling : (o : Outcome) (written entry exit exit′ : List ℕ) → Tells o written entry exit n p v →
+      Tells o written entry exit′ n′ p′ v′ →
       ((n ≡ n′) × (p ≡ p′) × (v ≡ v′)) × (exit ≡ exit′)
   one-telling o written entry exit exit′ a b = (one-told o (a .told) (b .told), a .buffer ∙ sym (b .buffer))
 

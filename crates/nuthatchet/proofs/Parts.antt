@@ -45,13 +45,16 @@ module _ (row : List ℕ) (m q n : ℕ) (count : n ≡ length (secondPath row m 
     good (refused r) e = absurd (some (count ∙ ap length (sym (shown-none row m q r e))))
     good (gives k) e =
         let h = has (hasSecond row m q) refl (shown-part row m q k e) in
-        let both = and-left (ltb m (messageCount row) && ltb q (placeCount row (messageIndex row m))) (flagged row (placeIndex row m q)) (h .0) in
+        let both = and-left (ltb m (messageCount row) && ltb q (placeCount row (messageIndex row m)))
+        (flagged row (placeIndex row m q)) (h .0) in
         record {
           lies = walked row (good-row row k e .form);
           message = ltb-true m (messageCount row) (and-left (ltb m (messageCount row)) (ltb q (placeCount row (messageIndex row m))) both);
           place =
-              ltb-true q (placeCount row (messageIndex row m)) (and-right (ltb m (messageCount row)) (ltb q (placeCount row (messageIndex row m))) both);
-          second = and-right (ltb m (messageCount row) && ltb q (placeCount row (messageIndex row m))) (flagged row (placeIndex row m q)) (h .0);
+              ltb-true q (placeCount row (messageIndex row m))
+              (and-right (ltb m (messageCount row)) (ltb q (placeCount row (messageIndex row m))) both);
+          second = and-right (ltb m (messageCount row) && ltb q (placeCount row (messageIndex row m)))
+              (flagged row (placeIndex row m q)) (h .0);
           is = h .1;
         }
 
@@ -73,5 +76,6 @@ module _ (row : List ℕ) (m q n : ℕ) (count : n ≡ length (secondPath row m 
         let lies : secondStart (placeIndex row m q) + secondCount row (placeIndex row m q) ≤ length row =
         s .lies .message m (s .message) .place q (s .place) .second (s .second) .lies in
         let long : secondCount row (placeIndex row m q) ≡ n =
-        sym (length-take-le (secondCount row (placeIndex row m q)) (drop (secondStart (placeIndex row m q)) row) (rw length-drop (omega arith))) ∙ ap length (s .is) ∙ sym count in
+        sym (length-take-le (secondCount row (placeIndex row m q)) (drop (secondStart (placeIndex row m q)) row) (rw length-drop (omega arith)))
+        ∙ ap length (s .is) ∙ sym count in
         record { count = count; begins = rw (ne-eqb n 0 some, e); part = rw (e, ← long) (s .is) }

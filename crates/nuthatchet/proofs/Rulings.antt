@@ -24,7 +24,8 @@ use Rattle.nuthatchet.specs.Told.{Told}
 use Rattle.nuthatchet.specs.Ruled.{ruled, TellsRuling}
 
 module _ (row : List ℕ) (k l : ℕ) (entry exit : List ℕ) where
-  within : (t : Bool) → (ltb 3 k || ltb (length (planOf row .messages)) l) ≡ t → cond t (refuse 11 0) (room (2 * k) (length entry)) ≡ gives (2 * k) →
+  within : (t : Bool) → (ltb 3 k || ltb (length (planOf row .messages)) l) ≡ t →
+      cond t (refuse 11 0) (room (2 * k) (length entry)) ≡ gives (2 * k) →
       l ≤ length (planOf row .messages)
   within true e h = not-both h
   within false e h = ltb-false (length (planOf row .messages)) l (or-right (ltb 3 k) (ltb (length (planOf row .messages)) l) e)
@@ -33,8 +34,10 @@ module _ (row : List ℕ) (k l : ℕ) (entry exit : List ℕ) where
   unfolding mayJudge
   no-cut-fails e f =
       let b =
-      then-back (judge row) (λ _. cond (ltb 3 k || ltb (length (planOf row .messages)) l) (refuse 11 0) (room (2 * k) (length entry))) (2 * k) e in
-      let all : arrivals (planOf row) [] ≡ length (planOf row .messages) = all-arrive-without-cuts (planOf row) (good-row row (b .0) (b .1) .keeps) in
+      then-back (judge row) (λ _. cond (ltb 3 k || ltb (length (planOf row .messages)) l) (refuse 11 0)
+      (room (2 * k) (length entry))) (2 * k) e in
+      let all : arrivals (planOf row) [] ≡ length (planOf row .messages) = all-arrive-without-cuts (planOf row)
+      (good-row row (b .0) (b .1) .keeps) in
       let low : l ≤ length (planOf row .messages) = within (ltb 3 k || ltb (length (planOf row .messages)) l) refl (b .2) in
       let less : arrivals (planOf row) [] < l = f .fails in
       omega arith

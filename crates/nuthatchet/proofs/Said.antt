@@ -18,7 +18,8 @@ module _ (row : List ℕ) (k l : ℕ) (entry exit : List ℕ) (p : ℕ) where
   none-refused : (r : Refusal) → 0 ≡ r .no → mayJudge row k l (length entry) ≡ refused r → ⊥
   none-refused r is e = zero-says-none .rules row k l (length entry) r e (sym is)
 
-  resists : (r : Ruling) → Answered row k l entry exit r → Told (ruled r) 0 p 0 → ((i : ℕ) → r ≡ Failing i → 0 < i) → IsResistant row k l entry exit
+  resists : (r : Ruling) → Answered row k l entry exit r → Told (ruled r) 0 p 0 → ((i : ℕ) → r ≡ Failing i → 0 < i) →
+      IsResistant row k l entry exit
   resists Resistant a t s = a
   resists (Failing i) a t s =
       let some : 0 < i = s i refl in

@@ -24,4 +24,5 @@ pub record TellsRuling (row : List ℕ) (k l : ℕ) (entry exit : List ℕ) (n p
 -- so, with the number 0, no pairs say that the plan is resistant, and some pairs how many the first failing list has
 pub record PairsSay : Type 0 where
   pub resistant : (row : List ℕ) (k l : ℕ) (entry exit : List ℕ) (p : ℕ) → TellsRuling row k l entry exit 0 p 0 → IsResistant row k l entry exit
-  pub failing : (row : List ℕ) (k l : ℕ) (entry exit : List ℕ) (p v : ℕ) → TellsRuling row k l entry exit 0 p (suc v) → IsFailing row k l entry exit (suc v)
+  pub failing : (row : List ℕ) (k l : ℕ) (entry exit : List ℕ) (p v : ℕ) → TellsRuling row k l entry exit 0 p (suc v) →
+      IsFailing row k l entry exit (suc v)

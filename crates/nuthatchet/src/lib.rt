@@ -125,7 +125,8 @@ pub extern "C" fn nuthatchet_replay(
     place: &mut usize,
     result: &mut usize,
 ) -> usize
-    ensures { λ r. ⌜ TellsReplay (now (row .entry)) (now (cuts .entry)) (now (events .entry)) (now (events .exit)) r (now (place .exit)) (now (result .exit)) ⌝ }
+    ensures { λ r. ⌜ TellsReplay (now (row .entry)) (now (cuts .entry)) (now (events .entry)) (now (events .exit)) r (now (place .exit))
+        (now (result .exit)) ⌝ }
 {
     let answer = cut_replay::replay(row, cuts, events);
     tell(answer, place, result)
@@ -198,7 +199,8 @@ pub extern "C" fn nuthatchet_replay_text(
     place: &mut usize,
     result: &mut usize,
 ) -> usize
-    ensures { λ r. ⌜ TellsText (mayList (now (file .entry)) (now (input .entry))) (replayText (now (file .entry)) (now (input .entry))) (now (out .entry)) (now (out .exit)) r (now (place .exit)) (now (result .exit)) ⌝ }
+    ensures { λ r. ⌜ TellsText (mayList (now (file .entry)) (now (input .entry))) (replayText (now (file .entry)) (now (input .entry)))
+        (now (out .entry)) (now (out .exit)) r (now (place .exit)) (now (result .exit)) ⌝ }
 {
     let answer = replay_text::replay_text(file, input, out);
     tell(answer, place, result)
@@ -212,7 +214,8 @@ pub extern "C" fn nuthatchet_row_text(
     place: &mut usize,
     result: &mut usize,
 ) -> usize
-    ensures { λ r. ⌜ TellsText (readFile (now (file .entry)) longestRow) (rowText (now (file .entry))) (now (out .entry)) (now (out .exit)) r (now (place .exit)) (now (result .exit)) ⌝ }
+    ensures { λ r. ⌜ TellsText (readFile (now (file .entry)) longestRow) (rowText (now (file .entry))) (now (out .entry)) (now (out .exit)) r
+        (now (place .exit)) (now (result .exit)) ⌝ }
 {
     let answer = row_text::row_text(file, out);
     tell(answer, place, result)
@@ -227,7 +230,8 @@ pub extern "C" fn nuthatchet_refusal_text(
     place: &mut usize,
     result: &mut usize,
 ) -> usize
-    ensures { λ r. ⌜ TellsText (gives 0) (refusedLine (refusalAt number at)) (now (out .entry)) (now (out .exit)) r (now (place .exit)) (now (result .exit)) ⌝ }
+    ensures { λ r. ⌜ TellsText (gives 0) (refusedLine (refusalAt number at)) (now (out .entry)) (now (out .exit)) r (now (place .exit))
+        (now (result .exit)) ⌝ }
 {
     let answer = listing::refusal_text(refusal_at(number, at), out);
     tell(answer, place, result)
@@ -241,7 +245,8 @@ pub extern "C" fn nuthatchet_pack_text(
     place: &mut usize,
     result: &mut usize,
 ) -> usize
-    ensures { λ r. ⌜ TellsWritten (numbersOf (now (text .entry))) (now (file .entry)) (now (file .exit)) r (now (place .exit)) (now (result .exit)) ⌝ }
+    ensures { λ r. ⌜ TellsWritten (numbersOf (now (text .entry))) (now (file .entry)) (now (file .exit)) r (now (place .exit))
+        (now (result .exit)) ⌝ }
 {
     let answer = row_text::pack_text(text, file);
     tell(answer, place, result)

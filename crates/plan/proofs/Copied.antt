@@ -11,7 +11,13 @@ module _ (from to : List ℕ) (room : length from ≤ length to) where
   pub copied-step : (i : ℕ) → i < length from → set (take i from ++ drop i to) i (getD from i 0) ≡ take (i + 1) from ++ drop (i + 1) to
   copied-step i h =
       let l : i < length to = omega arith in
-      rw (add-one, drop-cons to i 0 l, set-at (take i from) (getD to i 0) (drop (suc i) to) (getD from i 0) i (length-take-le i from (omega arith)), take-suc from i 0 h)
+      rw (
+        add-one,
+        drop-cons to i 0 l,
+        set-at (take i from) (getD to i 0) (drop (suc i) to) (getD from i 0) i
+            (length-take-le i from (omega arith)),
+        take-suc from i 0 h,
+      )
       (sym (append-assoc (take i from) (getD from i 0 ∷ []) (drop (suc i) to)))
 
   pub copied-all : (i : ℕ) → i ≡ length from → take i from ++ drop i to ≡ from ++ drop (length from) to

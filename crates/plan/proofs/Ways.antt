@@ -54,7 +54,8 @@ good-row row n e =
     record { form = form-of row (w .0) (w .1); keeps = rules-give (planOf row) (r .0) (r .1) }
 
 -- accepting a row of the right form
-pub accepted : (row entry exit : List ℕ) (z : ℕ) → rules (planOf row) ≡ gives z → length row ≤ length entry → exit ≡ row ++ drop (length row) entry →
+pub accepted : (row entry exit : List ℕ) (z : ℕ) → rules (planOf row) ≡ gives z → length row ≤ length entry →
+    exit ≡ row ++ drop (length row) entry →
     Accepts row entry exit (Gives (length row))
 accepted row entry exit z h fits written =
     let o : andThen (rules (planOf row)) (λ _. room (length row) (length entry)) ≡ gives (length row) =
@@ -133,6 +134,7 @@ pub part-shown : (row : List ℕ) (m p n : ℕ) (ptr : ℕ × ℕ) {now : List �
 part-shown row m p n ptr e q =
     record { shows = q .shows ∙ shown-part row m p n e; same = q .same; begins = omega (arith, q .begins, index-shown row m p n e) }
 
-pub part-hidden : (row : List ℕ) (m p : ℕ) (r : Refusal) (ptr : ℕ × ℕ) → judge row ≡ refused r → PartAt (secondPath row m p) (shownIndex row m p) ptr [] ptr
+pub part-hidden : (row : List ℕ) (m p : ℕ) (r : Refusal) (ptr : ℕ × ℕ) → judge row ≡ refused r →
+    PartAt (secondPath row m p) (shownIndex row m p) ptr [] ptr
 part-hidden row m p r ptr e =
     record { shows = shown-none row m p r e; same = refl; begins = omega (arith, index-hidden row m p r e) }

@@ -22,7 +22,8 @@ module _ (plan : List ℕ) (p : ℕ) (input : List ℕ) (i : ℕ) (entry exit : 
   fits : length (replayText (take p plan) (take i input)) ≤ length entry
   fits = omega (arith, text-room (take p plan) (take i input))
 
-  pub given : (n : ℕ) → a ≡ Gives n → (file cuts : List ℕ) → Front plan p file → Front input i cuts → Printed (replayText file cuts) entry exit (Gives n)
+  pub given : (n : ℕ) → a ≡ Gives n → (file cuts : List ℕ) → Front plan p file → Front input i cuts →
+      Printed (replayText file cuts) entry exit (Gives n)
   given n e file cuts f g =
       printed-given (replayText (take p plan) (take i input)) entry fits (mayList (take p plan) (take i input)) (replayText file cuts)
       (fronts plan input file cuts p i l m f g) a s n e

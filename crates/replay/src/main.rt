@@ -17,7 +17,8 @@ use scope::limits;
 fn text(plan: &[u8], p: usize, input: &[u8], i: usize, out: &mut [u8]) -> Answer
     requires { ⌜ Came planFile p (now plan) × Came standardInput i (now input) ⌝ }
     requires { ⌜ (length (now plan) ≡ planRoom) × (length (now input) ≡ cutsRoom) × (length (now out) ≡ listingRoom) ⌝ }
-    ensures { λ r. ⌜ ((file cuts : List ℕ) → Front (now (plan .entry)) p file → Front (now (input .entry)) i cuts → Printed (replayText file cuts) (now (out .entry)) (now (out .exit)) r) ⌝ }
+    ensures { λ r. ⌜ ((file cuts : List ℕ) → Front (now (plan .entry)) p file → Front (now (input .entry)) i cuts →
+        Printed (replayText file cuts) (now (out .entry)) (now (out .exit)) r) ⌝ }
 {
     let answer = replay_text::replay_text(&plan[..p], &input[..i], out);
     match answer {

@@ -7,7 +7,8 @@ use native.Mathlib.Omega.{arith}
 use lib.ListN.{length, getD, length-map, List·getD-eq-default}
 use lib.Dec.{ltb, eqb}
 use borrow.Author.Tests.{ltb-true}
-use Rattle.scope.specs.Plan.{Plan, Place, planOf, pathOf, flagged, numbersAt, secondStart, secondCount, placeAt, placeCount, messageAt, messageCount, afterPlaces}
+use Rattle.scope.specs.Plan.{Plan, Place, planOf, pathOf, flagged, numbersAt, secondStart, secondCount, placeAt, placeCount, messageAt}
+use Rattle.scope.specs.Plan.{messageCount, afterPlaces}
 use Rattle.scope.specs.SecondPath.{messageIndex}
 use Rattle.scope.specs.Lowest.{lowest}
 use Rattle.scope.specs.Good.{holds}
@@ -86,7 +87,8 @@ first-low false true p ps a = record { next = tail a; kind = omega arith; number
 first-low false false p ps a = record { next = a; kind = omega arith; number = head a .link }
 
 second-low : (s t held : Bool) (entry first e : ℕ) (es : List ℕ) → All Low (e ∷ es) → entry ≤ 64 → first < 64 →
-    LowMoved (cond s (moved (onSecond (e ∷ es)) 7 e) (cond t (moved (onSecond (e ∷ es)) 4 (entry - 1)) (cond held (moved (onSecond (e ∷ es)) 5 first) (moved (onSecond es) 3 e))))
+    LowMoved (cond s (moved (onSecond (e ∷ es)) 7 e) (cond t (moved (onSecond (e ∷ es)) 4 (entry - 1))
+    (cond held (moved (onSecond (e ∷ es)) 5 first) (moved (onSecond es) 3 e))))
 second-low true t held entry first e es a h g = record { next = a; kind = omega arith; number = head a }
 second-low false true held entry first e es a h g = record { next = a; kind = omega arith; number = omega arith }
 second-low false false true entry first e es a h g = record { next = a; kind = omega arith; number = g }
@@ -103,7 +105,8 @@ foremost-low : (rank : ℕ → ℕ) (e m j : ℕ) (tried : List ℕ) → m < 64 
 unfolding foremost
 foremost-low rank e m j [] h g = h
 foremost-low rank e m j (w ∷ tried) h g =
-    foremost-low rank e (cond (eqb w (e + 1) && ltb (rank j) (rank m)) j m) (j + 1) tried (by (eqb w (e + 1) && ltb (rank j) (rank m))) (omega arith)
+    foremost-low rank e (cond (eqb w (e + 1) && ltb (rank j) (rank m)) j m) (j + 1) tried
+    (by (eqb w (e + 1) && ltb (rank j) (rank m))) (omega arith)
   where
     by : (t : Bool) → cond t j m < 64
     by true = omega arith
@@ -144,7 +147,8 @@ module _ (rank : ℕ → ℕ) (down : ℕ → ℕ → Bool) (owner : ℕ → ℕ
       let ts = map (turn (down i)) ps in
       let n : length ts ≡ length ps = length-map ps (turn (down i)) in
       let k : length (map (tries (down i)) ts) ≡ length ts = length-map ts (tries (down i)) in
-      moves-low rank (down i) (owner i) i (map (tries (down i)) ts) (few i) (omega arith) 0 ts (all-map (turn (down i)) (turn-low (down i)) ps a) (omega arith)
+      moves-low rank (down i) (owner i) i (map (tries (down i)) ts) (few i) (omega arith) 0 ts
+      (all-map (turn (down i)) (turn-low (down i)) ps a) (omega arith)
 
   events-low : (i n : ℕ) (ps : List Position) → All LowPosition ps → length ps ≤ 64 → All Low (events rank down owner i n ps)
   unfolding events
@@ -206,4 +210,5 @@ module _ (row : List ℕ) where
       let few : (j e : ℕ) → tableOf (planOf row) j e ≤ 64 = λ j e. omega (arith, table-low (planOf row) j e) in
       let l : length (start (planOf row)) ≡ length (planOf row .messages) = length-map (planOf row .messages) onFirst in
       all-at (eventRow (planOf row) cuts)
-      (events-low (orderOf (planOf row)) (isCut (planOf row) cuts) (tableOf (planOf row)) few 0 (planOf row .timeout) (start (planOf row)) (start-low h) (omega arith)) i
+      (events-low (orderOf (planOf row)) (isCut (planOf row) cuts) (tableOf (planOf row)) few 0 (planOf row .timeout) (start (planOf row))
+      (start-low h) (omega arith)) i

@@ -54,7 +54,8 @@ module _ {s b c : List ℕ} {n : ℕ} (p : Puts s b c 0 n) where
       p .buffer
       ∙ ap (laid b 0) (sym (take-append-drop (length b) s))
       ∙ laid-append b 0 (take (length b) s) (drop (length b) s)
-      ∙ laid-none (laid b 0 (take (length b) s)) (0 + length (take (length b) s)) (drop (length b) s) (omega (arith, length-laid b 0 (take (length b) s)))
+      ∙ laid-none (laid b 0 (take (length b) s)) (0 + length (take (length b) s)) (drop (length b) s)
+      (omega (arith, length-laid b 0 (take (length b) s)))
       ∙ laid-front b (take (length b) s) (omega arith)
       ∙ ap (λ (t : List ℕ). take (length b) s ++ t) none
       ∙ append-nil (take (length b) s)

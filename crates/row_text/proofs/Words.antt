@@ -23,7 +23,8 @@ from-digit begun a b text g = rw g
 
 module _ (text : List ℕ) (begun : Bool) (a i : ℕ) where
   module _ (h : i < length text) (b : ℕ) (is : b ≡ getD text i 0) where
-    pub from-ends : goesOn 65535 begun a b ≡ false → ends begun b ≡ true → numbersFrom begun a (drop i text) ≡ (a ∷ []) ++ numbersFrom false 0 (drop (i + 1) text)
+    pub from-ends : goesOn 65535 begun a b ≡ false → ends begun b ≡ true → numbersFrom begun a (drop i text) ≡ (a ∷ []) ++ numbersFrom
+        false 0 (drop (i + 1) text)
     unfolding numbersFrom
     from-ends g e = rw (drop-more text i h, ← is, g, e)
 
@@ -63,7 +64,8 @@ module _ (text : List ℕ) (i : ℕ) (r : Number) (p : Reads 65535 text i r) whe
   word-none h e =
       let n = p .next in
       let none : ltb 0 size ≡ false = le-ltb 0 size (omega arith) in
-      along false none ∙ from-bad text false (r .value) (r .next) (omega arith) (byteAt text (r .next)) refl (stops false none (omega arith)) refl
+      along false none ∙ from-bad text false (r .value) (r .next) (omega arith) (byteAt text (r .next)) refl
+      (stops false none (omega arith)) refl
 
   module _ (some : r .next ≡ i → ⊥) where
     begun : ltb 0 size ≡ true

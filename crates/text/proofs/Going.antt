@@ -61,7 +61,8 @@ module _ (most : ℕ) (text : List ℕ) (at : ℕ) where
         let is : valueFrom most (ltb at next) value (b ∷ drop (next + 1) text) ≡ valueAt most text at = rw cons at (g .is) in
         let size : next + sizeFrom most (ltb at next) value (b ∷ drop (next + 1) text) ≡ at + sizeAt most text at = rw cons at (g .size) in
         let is′ : valueFrom most true (value * 10 + (b - 48)) (drop (next + 1) text) ≡ valueAt most text at = rw goes at is in
-        let size′ : next + suc (sizeFrom most true (value * 10 + (b - 48)) (drop (next + 1) text)) ≡ at + sizeAt most text at = rw goes at size in
+        let size′ : next + suc (sizeFrom most true (value * 10 + (b - 48)) (drop (next + 1) text)) ≡ at + sizeAt most
+        text at = rw goes at size in
         record {
           from = omega arith;
           within = omega arith;

@@ -34,7 +34,8 @@ module _ {A : Type 0} (most : ℕ) (f : Bool → ℕ → List ℕ → A)
   along (suc k) n s h u l = by (ltb n 10) refl (along k (n / 10) ((48 + n % 10) ∷ s))
     where
       by : (t : Bool) → ltb n 10 ≡ t →
-          (n / 10 < 10 ^ suc k → n / 10 < 2 ^ 64 → n / 10 ≤ most → f false 0 (decimal (n / 10) ++ ((48 + n % 10) ∷ s)) ≡ f true (n / 10) ((48 + n % 10) ∷ s)) →
+          (n / 10 < 10 ^ suc k → n / 10 < 2 ^ 64 → n / 10 ≤ most → f false 0 (decimal (n / 10) ++ ((48 + n % 10) ∷ s)) ≡ f true
+          (n / 10) ((48 + n % 10) ∷ s)) →
           f false 0 (decimal n ++ s) ≡ f true n s
       by true e rest =
           let small = ltb-true n 10 e in
@@ -58,8 +59,10 @@ module _ {A : Type 0} (most : ℕ) (f : Bool → ℕ → List ℕ → A)
   run-along begun a (b ∷ s) = by begun (goesOn most begun a b) refl (run-along true (a * 10 + (b - 48)) s)
     where
       by : (begun t : Bool) → goesOn most begun a b ≡ t →
-          f true (a * 10 + (b - 48)) s ≡ f true (valueFrom most true (a * 10 + (b - 48)) s) (drop (sizeFrom most true (a * 10 + (b - 48)) s) s) →
-          f begun a (b ∷ s) ≡ f (begun || ltb 0 (sizeFrom most begun a (b ∷ s))) (valueFrom most begun a (b ∷ s)) (drop (sizeFrom most begun a (b ∷ s)) (b ∷ s))
+          f true (a * 10 + (b - 48)) s ≡ f true (valueFrom most true (a * 10 + (b - 48)) s)
+          (drop (sizeFrom most true (a * 10 + (b - 48)) s) s) →
+          f begun a (b ∷ s) ≡ f (begun || ltb 0 (sizeFrom most begun a (b ∷ s))) (valueFrom most begun a (b ∷ s))
+          (drop (sizeFrom most begun a (b ∷ s)) (b ∷ s))
       by true true g rest = step true a b s g ∙ rw g rest
       by true false g rest = rw g
       by false true g rest =
@@ -97,7 +100,8 @@ other-stops most begun a b e = rw e
 -- a number that is printed before another byte is read as that number, and whole
 module _ (most n mark : ℕ) (s : List ℕ) (u : n < 2 ^ 64) (l : n ≤ most) (m : isDigit mark ≡ false) where
   pub value-back : valueFrom most false 0 (decimal n ++ (mark ∷ s)) ≡ n
-  value-back = number-along most (valueFrom most) (value-step most) n (mark ∷ s) u l ∙ value-stop most true n mark s (other-stops most true n mark m)
+  value-back = number-along most (valueFrom most) (value-step most) n (mark ∷ s) u l ∙
+      value-stop most true n mark s (other-stops most true n mark m)
 
   abbrev left : Bool → ℕ → List ℕ → ℕ
   left begun a t = length t - sizeFrom most begun a t
@@ -121,7 +125,8 @@ module _ (most : ℕ) (u : most < 2 ^ 64) where
     where
       by : (t : Bool) → goesOn most true a b ≡ t →
           (a * 10 + (b - 48) ≤ most →
-          decimal (a * 10 + (b - 48)) ++ take (sizeFrom most true (a * 10 + (b - 48)) s) s ≡ decimal (valueFrom most true (a * 10 + (b - 48)) s)) →
+          decimal (a * 10 + (b - 48)) ++ take (sizeFrom most true (a * 10 + (b - 48)) s) s ≡ decimal
+          (valueFrom most true (a * 10 + (b - 48)) s)) →
           decimal a ++ take (sizeFrom most true a (b ∷ s)) (b ∷ s) ≡ decimal (valueFrom most true a (b ∷ s))
       by true g rest =
           let d = goes-digit most true a b g in
@@ -151,7 +156,8 @@ module _ (most : ℕ) (u : most < 2 ^ 64) where
           let is : 0 * 10 + (b - 48) ≡ b - 48 = omega arith in
           let back : 48 + (b - 48) ≡ b = omega arith in
           let digits : decimal (b - 48) ≡ b ∷ [] = decimal-small (b - 48) (omega arith) ∙ rw back in
-          rw (g, is) (ap (λ (t : List ℕ). t ++ take (sizeFrom most true (b - 48) s) s) (sym digits) ∙ more-printed (b - 48) s (omega (arith, d .fits)))
+          rw (g, is) (ap (λ (t : List ℕ). t ++ take (sizeFrom most true (b - 48) s) s) (sym digits) ∙
+          more-printed (b - 48) s (omega (arith, d .fits)))
       by false g k = absurd (omega arith)
 
 -- the byte behind a number does not go on with it
@@ -165,9 +171,11 @@ number-stops most begun a (b ∷ s) h = by begun (goesOn most begun a b) refl (n
         (sizeFrom most true (a * 10 + (b - 48)) s < length s →
         goesOn most true (valueFrom most true (a * 10 + (b - 48)) s) (getD s (sizeFrom most true (a * 10 + (b - 48)) s) 0) ≡ false) →
         sizeFrom most begun a (b ∷ s) < suc (length s) →
-        goesOn most (begun || ltb 0 (sizeFrom most begun a (b ∷ s))) (valueFrom most begun a (b ∷ s)) (getD (b ∷ s) (sizeFrom most begun a (b ∷ s)) 0) ≡ false
+        goesOn most (begun || ltb 0 (sizeFrom most begun a (b ∷ s))) (valueFrom most begun a (b ∷ s))
+        (getD (b ∷ s) (sizeFrom most begun a (b ∷ s)) 0) ≡ false
     by true true g rest h = rw g (rest (let e = size-step most true a b s g in omega arith))
     by true false g rest h = rw (g, g)
     by false true g rest h =
-        rw (g, lt-ltb 0 (suc (sizeFrom most true (a * 10 + (b - 48)) s)) (omega arith)) (rest (let e = size-step most false a b s g in omega arith))
+        rw (g, lt-ltb 0 (suc (sizeFrom most true (a * 10 + (b - 48)) s)) (omega arith))
+        (rest (let e = size-step most false a b s g in omega arith))
     by false false g rest h = rw (g, g)

@@ -39,7 +39,8 @@ module _ (plan : Plan) (n : ℕ) where
         puts = record { buffer = sym (laid-nil before 0); ends = refl };
       }
 
-  pub laid-more : {k i j : ℕ} {before now after : List ℕ} → k < n → LaidUntil plan n k before now i → Lays (LinesUnder plan k) 4323 now after i j →
+  pub laid-more : {k i j : ℕ} {before now after : List ℕ} → k < n → LaidUntil plan n k before now i →
+      Lays (LinesUnder plan k) 4323 now after i j →
       LaidUntil plan n (k + 1) before after j
   unfolding VerdictLines
   laid-more {k} {i} {j} {before} {now} {after} h a b =
@@ -71,7 +72,8 @@ module _ (plan : Plan) (n : ℕ) where
       omega arith
 
   -- and then the slack lines
-  pub laid-all : {i j : ℕ} {before now after : List ℕ} → n ≤ 4 → length (slackLines plan 0 (plan .messages)) ≤ 17408 → LaidUntil plan n n before now i →
+  pub laid-all : {i j : ℕ} {before now after : List ℕ} → n ≤ 4 → length (slackLines plan 0 (plan .messages)) ≤ 17408 →
+      LaidUntil plan n n before now i →
       Puts (slackLines plan 0 (plan .messages)) now after i j → Lays (VerdictLines plan 0 n) verdictRoom before after 0 j
   unfolding VerdictLines
   laid-all {i} {j} {before} {now} {after} few size a p =
@@ -99,8 +101,10 @@ module _ (plan : Plan) (large h : ℕ) (few : large ≤ 3) (is : h ≡ highestOr
   pub few-high : h ≤ 3
   few-high = omega (arith, highest-few large plan few)
 
-  pub laid-whole : {i j : ℕ} {before now after : List ℕ} → length (slackLines plan 0 (plan .messages)) ≤ 17408 → LaidUntil plan (1 + h) (1 + h) before now i →
-      Puts (slackLines plan 0 (plan .messages)) now after i j → Lays (VerdictLines plan 0 (1 + highestOr large plan)) verdictRoom before after 0 j
+  pub laid-whole : {i j : ℕ} {before now after : List ℕ} → length (slackLines plan 0 (plan .messages)) ≤ 17408 →
+      LaidUntil plan (1 + h) (1 + h) before now i →
+      Puts (slackLines plan 0 (plan .messages)) now after i j → Lays (VerdictLines plan 0 (1 + highestOr large plan))
+      verdictRoom before after 0 j
   laid-whole {i} {j} {before} {now} {after} size a p =
       let high = few-high in
       subst (λ (x : ℕ). Lays (VerdictLines plan 0 (1 + x)) verdictRoom before after 0 j) is (laid-all plan (1 + h) (omega arith) size a p)
@@ -109,7 +113,8 @@ pub lays-same : {Kind : List ℕ → Type 0} {most i j : ℕ} {before after : Li
 lays-same {Kind} {most} {i} {j} {before} {after} a = ap length (a .puts .buffer) ∙ length-laid before i (a .text)
 
 -- a text that was laid at the front of a buffer with room for it
-pub lays-prints : {Kind : List ℕ → Type 0} {most : ℕ} {entry exit : List ℕ} {n : ℕ} → most ≤ length entry → Lays Kind most entry exit 0 n → PrintsOne Kind entry exit (Gives n)
+pub lays-prints : {Kind : List ℕ → Type 0} {most : ℕ} {entry exit : List ℕ} {n : ℕ} → most ≤ length entry → Lays Kind most entry exit 0 n →
+    PrintsOne Kind entry exit (Gives n)
 unfolding after
 lays-prints {Kind} {most} {entry} {exit} {n} room a =
     let s = a .short in

@@ -122,7 +122,8 @@ place-size : (plan : Plan) (m p : ℕ) (here : Place) (es : List ℕ) → m < 10
 place-size plan m p here [] g h = omega arith
 place-size plan m p here (e ∷ es) g h = slack-size m p (slackOf (orderOf plan) plan m here) g h
 
-message-size : (plan : Plan) (m p : ℕ) (path : List Place) → m < 100 → p + length path ≤ 100 → length (messageSlacks plan m p path) ≤ 34 * length path
+message-size : (plan : Plan) (m p : ℕ) (path : List Place) → m < 100 → p + length path ≤ 100 →
+    length (messageSlacks plan m p path) ≤ 34 * length path
 unfolding messageSlacks
 message-size plan m p [] g h = omega arith
 message-size plan m p (here ∷ path) g h =

@@ -24,7 +24,8 @@ DeepText file text = Said (readFile file longestRow)
 abbrev pub highestOr : ℕ → Plan → ℕ
 highestOr large plan = cond (leb (length (plan .links) * plan .timeout) 64) 3 large
 
--- the text of a program that goes up to k `large` where E × t is above 64: of `verdict` for 1, of `deep` for 3 (proofs/Theorems, `verdict-text`,
+-- the text of a program that goes up to k `large` where E × t is above 64: of `verdict` for 1, of `deep` for 3 (proofs/Theorems,
+-- `verdict-text`,
 -- `deep-text`)
 unfoldable pub TextUpTo : ℕ → List ℕ → List ℕ → Type 0
 TextUpTo large file text = Said (readFile file longestRow)

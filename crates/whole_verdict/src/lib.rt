@@ -43,7 +43,8 @@ fn table(name: &[u8], row: &[u16], n: usize, start: i64, out: &mut [u8]) -> usiz
 // All lines of a good row.
 fn all_lines(name: &[u8], large: usize, row: &[u16], out: &mut [u8]) -> usize
     requires { ⌜ GoodRow (now row) × (large ≤ 3) ⌝ }
-    ensures { λ r. ⌜ Lays (VerdictLines (planOf (now (row .entry))) 0 (1 + highestOr large (planOf (now (row .entry))))) verdictRoom (now (out .entry)) (now (out .exit)) 0 r ⌝ }
+    ensures { λ r. ⌜ Lays (VerdictLines (planOf (now (row .entry))) 0 (1 + highestOr large (planOf (now (row .entry))))) verdictRoom
+        (now (out .entry)) (now (out .exit)) 0 r ⌝ }
 {
     let start = program_io::seconds();
     let next = table(name, row, 1 + verdict_text::highest(row, large), start, out);
@@ -66,7 +67,8 @@ fn whole_text(name: &[u8], large: usize, file: &[u8], out: &mut [u8]) -> Answer
 // What is printed for what was read, the first p bytes of a buffer: the text of the whole plan file, however long it is.
 pub fn text(name: &[u8], large: usize, plan: &[u8], p: usize, out: &mut [u8]) -> Answer
     requires { ⌜ (large ≤ 3) × Came planFile p (now plan) × (length (now plan) ≡ planRoom) × (length (now out) ≡ verdictRoom) ⌝ }
-    ensures { λ r. ⌜ ((file : List ℕ) → Front (now (plan .entry)) p file → PrintedOne (TextUpTo large file) (now (out .entry)) (now (out .exit)) r) ⌝ }
+    ensures { λ r. ⌜ ((file : List ℕ) → Front (now (plan .entry)) p file → PrintedOne (TextUpTo large file) (now (out .entry))
+        (now (out .exit)) r) ⌝ }
 {
     whole_text(name, large, &plan[..p], out)
 }

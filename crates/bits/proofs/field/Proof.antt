@@ -6,23 +6,8 @@ use Rattle.bits.proofs.Words.{read-law}
 use Rattle.bits.proofs.field.Statement.{statement}
 use Rattle.bits.proofs.field.Tie as tie
 
-sub-low : tie.Need-sub-low
-sub-low c = search needs
-
-sub-low-2 : tie.Need-sub-low-2
-sub-low-2 c = search needs
-
-word-requires : tie.Need-word-requires
-word-requires c κs = search needs
-
-power-requires : tie.Need-power-requires
-power-requires c κs = search needs
-
 div-result : tie.Need-div-result
 div-result c = c .power .ensures .some
-
-power-requires-2 : tie.Need-power-requires-2
-power-requires-2 c κs = search needs
 
 rem-result : tie.Need-rem-result
 rem-result c = c .power2 .ensures .some
@@ -33,19 +18,13 @@ returns c =
     let s = a .bytes .now in
     rw (c .power2 .ensures .is, c .before .power .ensures .is, c .before .before .word .ensures .0)
     (record {
-      is = read-law s (a .at) (a .width) (c .before .before .before .before .pre) (λ i. c .before .before .before .shared-slice-known .given i .fits);
+      is = read-law s (a .at) (a .width) (c .before .before .before .before .pre)
+          (λ i. c .before .before .before .shared-slice-known .given i .fits);
       small = mod-lt _ (pow-pos (a .width));
     })
 
 pub field-spec : {M : Type 1} → statement M
 field-spec =
     tie.close
-    (tie.spec
-    sub-low
-    sub-low-2
-    word-requires
-    power-requires
-    div-result
-    power-requires-2
-    rem-result
+    (tie.spec (λ c. search needs) (λ c. search needs) (λ c κs. search needs) (λ c κs. search needs) div-result (λ c κs. search needs) rem-result
     returns)

@@ -7,17 +7,8 @@ use borrow.Author.Needs.{needs}
 use Rattle.bits.proofs.mix.Statement.{statement}
 use Rattle.bits.proofs.mix.Tie as tie
 
-power-requires : tie.Need-power-requires
-power-requires c κs = search needs
-
-power-requires-2 : tie.Need-power-requires-2
-power-requires-2 c κs = search needs
-
 div-result : tie.Need-div-result
 div-result c = c .before .power .ensures .some
-
-div-result-2 : tie.Need-div-result-2
-div-result-2 c = search needs
 
 mul-result : tie.Need-mul-result
 mul-result c =
@@ -74,14 +65,5 @@ returns c = rw (c .power2 .ensures .is, c .before .power .ensures .is)
 pub mix-spec : {M : Type 1} → statement M
 mix-spec =
     tie.close
-    (tie.spec
-    power-requires
-    power-requires-2
-    div-result
-    div-result-2
-    mul-result
-    add-result
-    mul-result-2
-    rem-result
-    add-result-2
-    returns)
+    (tie.spec (λ c κs. search needs) (λ c κs. search needs) div-result (λ c. search needs) mul-result add-result mul-result-2 rem-result
+    add-result-2 returns)

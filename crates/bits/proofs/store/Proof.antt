@@ -6,20 +6,9 @@ use borrow.Author.Needs.{needs}
 use Rattle.bits.proofs.store.Statement.{statement}
 use Rattle.bits.proofs.store.Tie as tie
 
-cast-bytes : tie.Need-cast-bytes
-cast-bytes c = search needs
-
-slice-write-bytes : tie.Need-slice-write-bytes
-slice-write-bytes c = search needs
-
-same-length : tie.Need-same-length
-same-length c = search needs
-
-returns : tie.Need-returns
-returns c = search needs
-
 returns-2 : tie.Need-returns-2
 returns-2 c = sym (set-out (c .before .args .bytes .now) (c .before .args .i) (c .before .args .x % 256) (c .if1 .left))
 
 pub store-spec : {M : Type 1} → statement M
-store-spec = tie.close (tie.spec cast-bytes slice-write-bytes same-length returns returns-2)
+store-spec =
+    tie.close (tie.spec (λ c. search needs) (λ c. search needs) (λ c. search needs) (λ c. search needs) returns-2)

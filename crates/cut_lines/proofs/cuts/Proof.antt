@@ -12,7 +12,8 @@ use Rattle.cut_lines.proofs.cuts.Statement.{statement}
 use Rattle.cut_lines.proofs.cuts.Tie as tie
 
 abbrev Inv-loop : tie.InvT-loop
-Inv-loop text out₀ lines₀ i₀ n₀ out lines i n = (n + 2 * lines ≡ 2 * (length out₀ / 2)) × (length out ≡ length out₀) × Left (cutsFrom (length out₀ / 2) text 0) out₀ 0 (cutsFrom lines text i) out n
+Inv-loop text out₀ lines₀ i₀ n₀ out lines i n = (n + 2 * lines ≡ 2 * (length out₀ / 2)) × (length out ≡ length out₀) ×
+    Left (cutsFrom (length out₀ / 2) text 0) out₀ 0 (cutsFrom lines text i) out n
 
 abbrev μ-loop : tie.MeasureT-loop
 μ-loop text out₀ lines₀ i₀ n₀ out lines i n = lines
@@ -20,37 +21,18 @@ abbrev μ-loop : tie.MeasureT-loop
 loop-holds : tie.Need-loop-holds Inv-loop μ-loop
 loop-holds c = (search needs, search needs, left-first _ _ _)
 
-same-length : tie.Need-same-length Inv-loop μ-loop
-same-length c = search needs
-
 returns : tie.Need-returns Inv-loop μ-loop
 returns c = cuts-done (left-done (left-is (cuts-end _ _ _ (c .if1 .taken)) (c .before .before .loop .inv .2)))
 
-line-end-requires : tie.Need-line-end-requires Inv-loop μ-loop
-line-end-requires c κs = search needs
-
-mul-out : tie.Need-mul-out Inv-loop μ-loop
-mul-out c = search needs
-
-slice-write-out : tie.Need-slice-write-out Inv-loop μ-loop
-slice-write-out c = search needs
-
-add-result : tie.Need-add-result Inv-loop μ-loop
-add-result c = search needs
-
-same-length-2 : tie.Need-same-length-2 Inv-loop μ-loop
-same-length-2 c = search needs
-
 returns-2 : tie.Need-returns-2 Inv-loop μ-loop
 returns-2 c =
+    let s = c .before .before .before .before .before .before .before in
     let l = c .before .before .before .before .loop in
     let e = c .before .line-end in
-    let bad = end-none (c .before .before .before .before .before .before .before .args .text .now) (l .i) (e .result) (e .ensures .is) (c .if2 .taken) in
+    let bad = end-none (s .args .text .now) (l .i) (e .result) (e .ensures .is) (c .if2 .taken) in
     cuts-done
-    (left-done (left-more (left-is (line-bad (c .before .before .before .before .before .before .before .args .text .now) (l .lines) (l .i) (c .before .before .before .loop-test .taken) (c .before .before .if1 .left) bad) (l .inv .2)) (puts-one _ _ 0)))
-
-add-value-at : tie.Need-add-value-at Inv-loop μ-loop
-add-value-at c = search needs
+    (left-done (left-more (left-is (line-bad (s .args .text .now) (l .lines) (l .i) (c .before .before .before .loop-test .taken)
+    (c .before .before .if1 .left) bad) (l .inv .2)) (puts-one _ _ 0)))
 
 value-at-requires : tie.Need-value-at-requires Inv-loop μ-loop
 value-at-requires c κs =
@@ -59,12 +41,6 @@ value-at-requires c κs =
     let i = c .before .before .before .before .loop .i in
     (search needs, slot-some text i (end-line text i (e .result) (e .ensures .is) (c .if2 .left)))
 
-mul-out-2 : tie.Need-mul-out-2 Inv-loop μ-loop
-mul-out-2 c = search needs
-
-slice-write-out-2 : tie.Need-slice-write-out-2 Inv-loop μ-loop
-slice-write-out-2 c = search needs
-
 link-at-requires : tie.Need-link-at-requires Inv-loop μ-loop
 link-at-requires c κs =
     let e = c .before .before .line-end in
@@ -72,42 +48,27 @@ link-at-requires c κs =
     let i = c .before .before .before .before .before .loop .i in
     (search needs, end-line text i (e .result) (e .ensures .is) (c .before .if2 .left))
 
-add-out : tie.Need-add-out Inv-loop μ-loop
-add-out c = search needs
-
-mul-out-3 : tie.Need-mul-out-3 Inv-loop μ-loop
-mul-out-3 c = search needs
-
 slice-write-out-3 : tie.Need-slice-write-out-3 Inv-loop μ-loop
 slice-write-out-3 c = simp length-set (omega arith)
 
-add-n : tie.Need-add-n Inv-loop μ-loop
-add-n c = search needs
-
-sub-lines : tie.Need-sub-lines Inv-loop μ-loop
-sub-lines c = search needs
-
-loop-less : tie.Need-loop-less Inv-loop μ-loop
-loop-less c = search needs
-
 loop-again : tie.Need-loop-again Inv-loop μ-loop
 loop-again c =
+    let s = c .before .before .before .before .before .before .before .before .before in
     let l = c .before .before .before .before .before .before .loop in
-    let text = c .before .before .before .before .before .before .before .before .before .args .text .now in
+    let text = s .args .text .now in
     let e = c .before .before .before .line-end in
     let n = c .before .before .if2 .left in
     let line = end-line text (l .i) (e .result) (e .ensures .is) n in
     let more =
-    line-more text (l .lines) (l .i) (e .result) (c .before .value-at .result) (c .link-at .result) (c .before .before .before .before .before .loop-test .taken) (c .before .before .before .before .if1 .left) line (end-is text (l .i) (e .result) (e .ensures .is) n)
+    line-more text (l .lines) (l .i) (e .result) (c .before .value-at .result) (c .link-at .result)
+    (c .before .before .before .before .before .loop-test .taken) (c .before .before .before .before .if1 .left) line
+    (end-is text (l .i) (e .result) (e .ensures .is) n)
     (c .before .value-at .ensures) (c .link-at .ensures)
     in (
       omega arith,
       simp length-set (l .inv .1),
       left-more (left-is more (l .inv .2)) (puts-two _ _ _ _),
     )
-
-same-length-3 : tie.Need-same-length-3 Inv-loop μ-loop
-same-length-3 c = search needs
 
 returns-3 : tie.Need-returns-3 Inv-loop μ-loop
 returns-3 c =
@@ -117,29 +78,7 @@ returns-3 c =
 pub cuts-spec : {M : Type 1} → statement M
 cuts-spec =
     tie.close
-    (tie.spec
-    Inv-loop
-    μ-loop
-    loop-holds
-    same-length
-    returns
-    line-end-requires
-    mul-out
-    slice-write-out
-    add-result
-    same-length-2
-    returns-2
-    add-value-at
-    value-at-requires
-    mul-out-2
-    slice-write-out-2
-    link-at-requires
-    add-out
-    mul-out-3
-    slice-write-out-3
-    add-n
-    sub-lines
-    loop-less
-    loop-again
-    same-length-3
-    returns-3)
+    (tie.spec Inv-loop μ-loop loop-holds (λ c. search needs) returns (λ c κs. search needs) (λ c. search needs) (λ c. search needs)
+    (λ c. search needs) (λ c. search needs) returns-2 (λ c. search needs) value-at-requires (λ c. search needs) (λ c. search needs)
+    link-at-requires (λ c. search needs) (λ c. search needs) slice-write-out-3 (λ c. search needs) (λ c. search needs) (λ c. search needs)
+    loop-again (λ c. search needs) returns-3)

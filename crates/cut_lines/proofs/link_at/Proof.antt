@@ -7,21 +7,6 @@ use Rattle.cut_lines.proofs.Forms.{link-some}
 use Rattle.cut_lines.proofs.link_at.Statement.{statement}
 use Rattle.cut_lines.proofs.link_at.Tie as tie
 
-add-number-size : tie.Need-add-number-size
-add-number-size c = search needs
-
-number-size-requires : tie.Need-number-size-requires
-number-size-requires c κs = search needs
-
-add-value-at : tie.Need-add-value-at
-add-value-at c = search needs
-
-add-value-at-2 : tie.Need-add-value-at-2
-add-value-at-2 c = search needs
-
-add-value-at-3 : tie.Need-add-value-at-3
-add-value-at-3 c = search needs
-
 value-at-requires : tie.Need-value-at-requires
 value-at-requires c κs =
     let a = c .before .before .args in
@@ -35,11 +20,4 @@ returns c =
 pub link-at-spec : {M : Type 1} → statement M
 link-at-spec =
     tie.close
-    (tie.spec
-    add-number-size
-    number-size-requires
-    add-value-at
-    add-value-at-2
-    add-value-at-3
-    value-at-requires
-    returns)
+    (tie.spec (λ c. search needs) (λ c κs. search needs) (λ c. search needs) (λ c. search needs) (λ c. search needs) value-at-requires returns)

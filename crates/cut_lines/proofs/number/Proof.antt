@@ -6,21 +6,6 @@ use Rattle.cut_lines.proofs.Meets.{found-cut, found-one, found-other}
 use Rattle.cut_lines.proofs.number.Statement.{statement}
 use Rattle.cut_lines.proofs.number.Tie as tie
 
-number-at-requires : tie.Need-number-at-requires
-number-at-requires c κs = search needs
-
-add-if1 : tie.Need-add-if1
-add-if1 c = search needs
-
-add-byte : tie.Need-add-byte
-add-byte c = search needs
-
-byte-requires : tie.Need-byte-requires
-byte-requires c κs = search needs
-
-is-digit-requires : tie.Need-is-digit-requires
-is-digit-requires c κs = search needs
-
 returns : tie.Need-returns
 returns c =
     let a = c .before .before .before .before .before .before .before .args in
@@ -37,12 +22,5 @@ returns-3 c = found-other _ _ _ (c .before .before .number-at .ensures) (c .if1 
 pub number-spec : {M : Type 1} → statement M
 number-spec =
     tie.close
-    (tie.spec
-    number-at-requires
-    add-if1
-    add-byte
-    byte-requires
-    is-digit-requires
-    returns
-    returns-2
+    (tie.spec (λ c κs. search needs) (λ c. search needs) (λ c. search needs) (λ c κs. search needs) (λ c κs. search needs) returns returns-2
     returns-3)

@@ -5,37 +5,18 @@ use borrow.Author.Needs.{needs}
 use Rattle.cut_replay.proofs.replay.Statement.{statement}
 use Rattle.cut_replay.proofs.replay.Tie as tie
 
-judge-requires : tie.Need-judge-requires
-judge-requires c κs = search needs
-
-enum-known-judged : tie.Need-enum-known-judged
-enum-known-judged c = search needs
-
-enum-told : tie.Need-enum-told
-enum-told c = search needs
-
 replay-good-requires : tie.Need-replay-good-requires
 replay-good-requires c κs = good-row _ _ (gave _ (c .before .enum-told .given .1) (c .before .before .before .judge .ensures))
 
 returns : tie.Need-returns
 returns c =
-    let a = c .before .before .before .before .before .before .before .args in
-    replay-bad (a .row .now) (a .cuts .now) (a .events .now) _ (refused-as _ (c .before .judged .given .1) (c .before .before .before .judge .ensures))
-
-same-length : tie.Need-same-length
-same-length c = search needs
-
-returns-2 : tie.Need-returns-2
-returns-2 c = search needs
+    let s = c .before .before .before .before .before .before .before in
+    let a = s .args in
+    replay-bad (a .row .now) (a .cuts .now) (a .events .now) _
+    (refused-as _ (c .before .judged .given .1) (c .before .before .before .judge .ensures))
 
 pub replay-spec : {M : Type 1} → statement M
 replay-spec =
     tie.close
-    (tie.spec
-    judge-requires
-    enum-known-judged
-    enum-told
-    replay-good-requires
-    returns
-    same-length
-    returns-2)
+    (tie.spec (λ c κs. search needs) (λ c. search needs) (λ c. search needs) replay-good-requires returns (λ c. search needs)
+    (λ c. search needs))

@@ -5,37 +5,20 @@ use borrow.Author.Needs.{needs}
 use Rattle.cut_replay.proofs.replay_good.Statement.{statement}
 use Rattle.cut_replay.proofs.replay_good.Tie as tie
 
-check-requires : tie.Need-check-requires
-check-requires c κs = search needs
-
-enum-known-checked : tie.Need-enum-known-checked
-enum-known-checked c = search needs
-
-enum-told : tie.Need-enum-told
-enum-told c = search needs
-
 replay-cut-requires : tie.Need-replay-cut-requires
-replay-cut-requires c κs = record { judged = c .before .before .before .before .before .before .before .pre; count = _; good = gave _ (c .before .enum-told .given .1) (c .before .before .before .check .ensures) }
+replay-cut-requires c κs =
+    let s = c .before .before .before .before .before .before .before in
+    record { judged = s .pre; count = _; good = gave _ (c .before .enum-told .given .1) (c .before .before .before .check .ensures) }
 
 returns : tie.Need-returns
 returns c =
-    let a = c .before .before .before .before .before .before .before .args in
-    replay-cuts (a .row .now) (a .cuts .now) (a .events .now) _ (c .before .before .before .before .before .before .before .pre) (refused-as _ (c .before .checked .given .1) (c .before .before .before .check .ensures))
-
-same-length : tie.Need-same-length
-same-length c = search needs
-
-returns-2 : tie.Need-returns-2
-returns-2 c = search needs
+    let s = c .before .before .before .before .before .before .before in
+    let a = s .args in
+    replay-cuts (a .row .now) (a .cuts .now) (a .events .now) _ (s .pre)
+    (refused-as _ (c .before .checked .given .1) (c .before .before .before .check .ensures))
 
 pub replay-good-spec : {M : Type 1} → statement M
 replay-good-spec =
     tie.close
-    (tie.spec
-    check-requires
-    enum-known-checked
-    enum-told
-    replay-cut-requires
-    returns
-    same-length
-    returns-2)
+    (tie.spec (λ c κs. search needs) (λ c. search needs) (λ c. search needs) replay-cut-requires returns (λ c. search needs)
+    (λ c. search needs))

@@ -12,33 +12,32 @@ use Rattle.cuts.proofs.first_bad.Statement.{statement}
 use Rattle.cuts.proofs.first_bad.Tie as tie
 
 abbrev Inv-loop : tie.InvT-loop
-Inv-loop timeout links cuts n i₀ i = (i ≤ n) × (n ≡ pairs cuts) × (seek (isBad timeout links cuts) (n - i) i ≡ lowest (isBad timeout links cuts) (pairs cuts))
+Inv-loop timeout links cuts n i₀ i = (i ≤ n) × (n ≡ pairs cuts) ×
+    (seek (isBad timeout links cuts) (n - i) i ≡ lowest (isBad timeout links cuts) (pairs cuts))
 
 abbrev μ-loop : tie.MeasureT-loop
 μ-loop timeout links cuts n i₀ i = n - i
 
-count-requires : tie.Need-count-requires Inv-loop μ-loop
-count-requires c κs = search needs
-
 loop-holds : tie.Need-loop-holds Inv-loop μ-loop
 loop-holds c =
-    let p : c .count .result ≡ pairs (c .before .before .args .cuts .now) = c .count .ensures in
-    (search needs, p, ap (λ k. seek (isBad (c .before .before .args .timeout) (c .before .before .args .links) (c .before .before .args .cuts .now)) k 0) (omega arith))
-
-bad-pair-requires : tie.Need-bad-pair-requires Inv-loop μ-loop
-bad-pair-requires c κs = search needs
+    let p : c .count .result ≡ pairs (c .before .before .args .cuts .now) = c .count .ensures in (
+      search needs,
+      p,
+      ap (λ k. seek (isBad (c .before .before .args .timeout) (c .before .before .args .links)
+          (c .before .before .args .cuts .now)) k 0) (omega arith),
+    )
 
 returns : tie.Need-returns Inv-loop μ-loop
-returns c = sym (seek-found _ _ _ (c .before .before .loop-test .taken) (sym (c .before .bad-pair .ensures) ∙ c .if1 .taken)) ∙ c .before .before .before .loop .inv .2
-
-add-i : tie.Need-add-i Inv-loop μ-loop
-add-i c = search needs
-
-loop-less : tie.Need-loop-less Inv-loop μ-loop
-loop-less c = search needs
+returns c = sym (seek-found _ _ _ (c .before .before .loop-test .taken) (sym (c .before .bad-pair .ensures) ∙ c .if1 .taken)) ∙
+    c .before .before .before .loop .inv .2
 
 loop-again : tie.Need-loop-again Inv-loop μ-loop
-loop-again c = (search needs, c .before .before .before .loop .inv .1, sym (seek-next _ _ _ (c .before .before .loop-test .taken) (sym (c .before .bad-pair .ensures) ∙ c .if1 .left)) ∙ c .before .before .before .loop .inv .2)
+loop-again c = (
+  search needs,
+  c .before .before .before .loop .inv .1,
+  sym (seek-next _ _ _ (c .before .before .loop-test .taken) (sym (c .before .bad-pair .ensures) ∙ c .if1 .left)) ∙
+      c .before .before .before .loop .inv .2,
+)
 
 returns-2 : tie.Need-returns-2 Inv-loop μ-loop
 returns-2 c = sym (seek-done _ _ _ (c .loop-test .left)) ∙ c .before .loop .inv .2
@@ -46,14 +45,5 @@ returns-2 c = sym (seek-done _ _ _ (c .loop-test .left)) ∙ c .before .loop .in
 pub first-bad-spec : {M : Type 1} → statement M
 first-bad-spec =
     tie.close
-    (tie.spec
-    Inv-loop
-    μ-loop
-    count-requires
-    loop-holds
-    bad-pair-requires
-    returns
-    add-i
-    loop-less
-    loop-again
-    returns-2)
+    (tie.spec Inv-loop μ-loop (λ c κs. search needs) loop-holds (λ c κs. search needs) returns (λ c. search needs) (λ c. search needs)
+    loop-again returns-2)

@@ -5,14 +5,9 @@ use Rattle.cuts.proofs.Downs.{down-past}
 use Rattle.cuts.proofs.is_down.Statement.{statement}
 use Rattle.cuts.proofs.is_down.Tie as tie
 
-shared-slice-read-result : tie.Need-shared-slice-read-result
-shared-slice-read-result c = search needs
-
-returns : tie.Need-returns
-returns c = search needs
-
 returns-2 : tie.Need-returns-2
 returns-2 c = let a = c .before .args in sym (down-past (a .down .now) (a .link) (c .if1 .left))
 
 pub is-down-spec : {M : Type 1} → statement M
-is-down-spec = tie.close (tie.spec shared-slice-read-result returns returns-2)
+is-down-spec =
+    tie.close (tie.spec (λ c. search needs) (λ c. search needs) returns-2)

@@ -4,12 +4,6 @@ use Rattle.cuts.proofs.Downs as law
 use Rattle.cuts.proofs.put_pair.Statement.{statement}
 use Rattle.cuts.proofs.put_pair.Tie as tie
 
-slice-write-down : tie.Need-slice-write-down
-slice-write-down c = search needs
-
-same-length : tie.Need-same-length
-same-length c = search needs
-
 returns : tie.Need-returns
 returns c = let a = c .before .before .args in law.put-down (a .down .now) (a .at) (a .link) (a .slot) (c .before .if1 .taken)
 
@@ -20,4 +14,5 @@ returns-3 : tie.Need-returns-3
 returns-3 c = let a = c .before .args in law.put-later (a .down .now) (a .at) (a .link) (a .slot) (c .if1 .left)
 
 pub put-pair-spec : {M : Type 1} → statement M
-put-pair-spec = tie.close (tie.spec slice-write-down same-length returns returns-2 returns-3)
+put-pair-spec =
+    tie.close (tie.spec (λ c. search needs) (λ c. search needs) returns returns-2 returns-3)

@@ -6,14 +6,10 @@ use Rattle.step.specs.Stand.{positionsOf}
 use Rattle.cycle.proofs.count_home.Statement.{statement}
 use Rattle.cycle.proofs.count_home.Tie as tie
 
-positions-requires : tie.Need-positions-requires
-positions-requires c = search needs
-
-count-records-requires : tie.Need-count-records-requires
-count-records-requires c = search needs
-
 returns : tie.Need-returns
-returns c = λ row. c .count-records .ensures row ∙ ap (λ ps. arrived (positionsOf row (c .before .before .args .n) ps)) (c .before .positions .ensures)
+returns c = λ row. c .count-records .ensures row ∙ ap (λ ps. arrived (positionsOf row (c .before .before .args .n) ps))
+    (c .before .positions .ensures)
 
 pub count-home-spec : {M : Type 1} → statement M
-count-home-spec = tie.close (tie.spec positions-requires count-records-requires returns)
+count-home-spec =
+    tie.close (tie.spec (λ c. search needs) (λ c. search needs) returns)

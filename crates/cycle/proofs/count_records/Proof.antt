@@ -20,23 +20,14 @@ abbrev μ-loop : tie.MeasureT-loop
 loop-holds : tie.Need-loop-holds Inv-loop μ-loop
 loop-holds c = (omega arith, omega arith, search needs, λ row. arrived-none row (c .args .t1))
 
-mul-p : tie.Need-mul-p Inv-loop μ-loop
-mul-p c = search needs
-
-array-copy-out-p : tie.Need-array-copy-out-p Inv-loop μ-loop
-array-copy-out-p c = search needs
-
-home-one-requires : tie.Need-home-one-requires Inv-loop μ-loop
-home-one-requires c κs = search needs
-
 add-count : tie.Need-add-count Inv-loop μ-loop
-add-count c = omega (arith, c .home-one .ensures .1, c .before .before .before .loop .inv .1, c .before .before .before .loop .inv .0, c .before .before .before .before .pre)
-
-add-j : tie.Need-add-j Inv-loop μ-loop
-add-j c = search needs
-
-loop-less : tie.Need-loop-less Inv-loop μ-loop
-loop-less c = search needs
+add-count c = omega (
+  arith,
+  c .home-one .ensures .1,
+  c .before .before .before .loop .inv .1,
+  c .before .before .before .loop .inv .0,
+  c .before .before .before .before .pre,
+)
 
 loop-again : tie.Need-loop-again Inv-loop μ-loop
 loop-again c = (
@@ -44,7 +35,9 @@ loop-again c = (
   omega (arith, c .home-one .ensures .1, c .before .before .before .loop .inv .1),
   c .before .before .before .loop .inv .2,
   λ row.
-      arrived-more row (c .before .before .before .before .args .t1) (c .before .before .before .loop .j) _ _ (omega (arith, c .before .before .before .loop .inv .2, c .before .before .loop-test .taken, c .before .before .before .before .pre)) (c .before .before .before .loop .inv .3 row) (c .home-one .ensures .0),
+      arrived-more row (c .before .before .before .before .args .t1) (c .before .before .before .loop .j) _ _
+      (omega (arith, c .before .before .before .loop .inv .2, c .before .before .loop-test .taken, c .before .before .before .before .pre))
+      (c .before .before .before .loop .inv .3 row) (c .home-one .ensures .0),
 )
 
 returns : tie.Need-returns Inv-loop μ-loop
@@ -55,15 +48,5 @@ returns c =
 pub count-records-spec : {M : Type 1} → statement M
 count-records-spec =
     tie.close
-    (tie.spec
-    Inv-loop
-    μ-loop
-    loop-holds
-    mul-p
-    array-copy-out-p
-    home-one-requires
-    add-count
-    add-j
-    loop-less
-    loop-again
-    returns)
+    (tie.spec Inv-loop μ-loop loop-holds (λ c. search needs) (λ c. search needs) (λ c κs. search needs) add-count (λ c. search needs)
+    (λ c. search needs) loop-again returns)

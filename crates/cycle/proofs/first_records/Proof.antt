@@ -12,20 +12,8 @@ Inv-loop row n ps₀ at₀ m₀ ps at m = Starting row n m at ps
 abbrev μ-loop : tie.MeasureT-loop
 μ-loop row n ps₀ at₀ m₀ ps at m = n - m
 
-links-requires : tie.Need-links-requires Inv-loop μ-loop
-links-requires c κs = search needs
-
-mul-at : tie.Need-mul-at Inv-loop μ-loop
-mul-at c = search needs
-
-add-at : tie.Need-add-at Inv-loop μ-loop
-add-at c = search needs
-
 loop-holds : tie.Need-loop-holds Inv-loop μ-loop
 loop-holds c = starting-none _ _ _ _ (c .before .before .pre) (search needs) (omega (arith, c .links .ensures .is))
-
-place-count-requires : tie.Need-place-count-requires Inv-loop μ-loop
-place-count-requires c κs = search needs
 
 add-t12 : tie.Need-add-t12 Inv-loop μ-loop
 add-t12 c = omega (arith, starting-fits _ _ _ _ _ (c .before .before .loop .inv) (c .before .loop-test .taken))
@@ -45,14 +33,9 @@ array-set-from-ps c = omega (arith, c .before .before .loop .inv .may .few)
 after-message-requires : tie.Need-after-message-requires Inv-loop μ-loop
 after-message-requires c κs = omega (arith, starting-fits _ _ _ _ _ (c .before .before .loop .inv) (c .before .loop-test .taken))
 
-add-m : tie.Need-add-m Inv-loop μ-loop
-add-m c = search needs
-
-loop-less : tie.Need-loop-less Inv-loop μ-loop
-loop-less c = search needs
-
 loop-again : tie.Need-loop-again Inv-loop μ-loop
-loop-again c = starting-more _ _ _ _ _ (c .before .before .before .loop .inv) (c .before .before .loop-test .taken) _ _ (c .before .place-count .ensures .is) (c .after-message .ensures .is)
+loop-again c = starting-more _ _ _ _ _ (c .before .before .before .loop .inv) (c .before .before .loop-test .taken) _ _
+    (c .before .place-count .ensures .is) (c .after-message .ensures .is)
 
 returns : tie.Need-returns Inv-loop μ-loop
 returns c = starting-done _ _ _ _ _ (c .before .loop .inv) (c .loop-test .left)
@@ -60,21 +43,5 @@ returns c = starting-done _ _ _ _ _ (c .before .loop .inv) (c .loop-test .left)
 pub first-records-spec : {M : Type 1} → statement M
 first-records-spec =
     tie.close
-    (tie.spec
-    Inv-loop
-    μ-loop
-    links-requires
-    mul-at
-    add-at
-    loop-holds
-    place-count-requires
-    add-t12
-    cast-t13
-    cast-t14
-    mul-ps
-    array-set-from-ps
-    after-message-requires
-    add-m
-    loop-less
-    loop-again
-    returns)
+    (tie.spec Inv-loop μ-loop (λ c κs. search needs) (λ c. search needs) (λ c. search needs) loop-holds (λ c κs. search needs) add-t12 cast-t13
+    cast-t14 mul-ps array-set-from-ps after-message-requires (λ c. search needs) (λ c. search needs) loop-again returns)

@@ -5,9 +5,6 @@ use borrow.Author.Needs.{needs}
 use Rattle.cycle.proofs.home_one.Statement.{statement}
 use Rattle.cycle.proofs.home_one.Tie as tie
 
-is-home-requires : tie.Need-is-home-requires
-is-home-requires c κs = search needs
-
 returns : tie.Need-returns
 returns c = (rw (sym (c .before .is-home .ensures) ∙ c .if1 .taken), omega arith)
 
@@ -15,4 +12,5 @@ returns-2 : tie.Need-returns-2
 returns-2 c = (rw (sym (c .before .is-home .ensures) ∙ c .if1 .left), omega arith)
 
 pub home-one-spec : {M : Type 1} → statement M
-home-one-spec = tie.close (tie.spec is-home-requires returns returns-2)
+home-one-spec =
+    tie.close (tie.spec (λ c κs. search needs) returns returns-2)

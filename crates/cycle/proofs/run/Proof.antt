@@ -15,7 +15,8 @@ use Rattle.cycle.proofs.run.Tie as tie
 
 abbrev Inv-loop : tie.InvT-loop
 Inv-loop n timeout row table cuts out₀ standing₀ at₀ out standing at =
-    Running row n (orderOf (planOf row)) (cutBelow (planOf row) cuts) (entryAt table) timeout (standing .time .0) at (standing₀ .positions) (standing .positions) out₀ out
+    Running row n (orderOf (planOf row)) (cutBelow (planOf row) cuts) (entryAt table) timeout (standing .time .0) at (standing₀ .positions)
+    (standing .positions) out₀ out
 
 abbrev μ-loop : tie.MeasureT-loop
 μ-loop n timeout row table cuts out₀ standing₀ at₀ out standing at = timeout - standing .time .0
@@ -25,25 +26,17 @@ loop-holds c =
     let p = c .before .before .before .before .pre in
     running-none _ _ _ _ _ _ _ _ _ (p .first) (p .stand) (p .long) (p .short) (p .enough)
 
-time-requires : tie.Need-time-requires Inv-loop μ-loop
-time-requires c κs = search needs
-
-number-requires : tie.Need-number-requires Inv-loop μ-loop
-number-requires c κs = search needs
-
 same-length : tie.Need-same-length Inv-loop μ-loop
 same-length c = c .before .before .before .loop .inv .same
 
 returns : tie.Need-returns Inv-loop μ-loop
 returns c =
-    let n : c .before .number .result ≡ c .before .before .before .loop .standing .time .0 = c .before .number .ensures ∙ ap (λ t. t .0) (c .before .before .time .ensures) in
+    let n : c .before .number .result ≡ c .before .before .before .loop .standing .time .0 = c .before .number .ensures ∙
+    ap (λ t. t .0) (c .before .before .time .ensures) in
     running-done _ _ _ _ _ _ _ _ _ _ _ _ (c .before .before .before .loop .inv) _ refl (omega (arith, n, c .if1 .taken))
 
 begins-requires : tie.Need-begins-requires Inv-loop μ-loop
 begins-requires c κs = omega (arith, c .before .number .ensures, c .if1 .left)
-
-mul-run-slot : tie.Need-mul-run-slot Inv-loop μ-loop
-mul-run-slot c = search needs
 
 sub-run-slot : tie.Need-sub-run-slot Inv-loop μ-loop
 sub-run-slot c = omega (arith, c .before .before .before .before .loop .inv .enough)
@@ -51,15 +44,15 @@ sub-run-slot c = omega (arith, c .before .before .before .before .loop .inv .eno
 part-run-slot-start : tie.Need-part-run-slot-start Inv-loop μ-loop
 part-run-slot-start c = omega (arith, c .before .before .before .before .loop .inv .enough)
 
-part-run-slot-end : tie.Need-part-run-slot-end Inv-loop μ-loop
-part-run-slot-end c = search needs
-
 run-slot-requires : tie.Need-run-slot-requires Inv-loop μ-loop
 run-slot-requires c κs =
+    let s = c .before .before .before .before .before .before .before .before .before .before in
     let l = c .before .before .before .before .before .loop in
-    let t : c .before .begins .result .0 ≡ l .standing .time .0 = c .before .begins .ensures ∙ ap (λ t. t .0) (c .before .before .before .before .time .ensures) in
-    let n : c .before .before .before .number .result ≡ l .standing .time .0 = c .before .before .before .number .ensures ∙ ap (λ t. t .0) (c .before .before .before .before .time .ensures) in
-    let e : l .standing .time .0 < c .before .before .before .before .before .before .before .before .before .before .args .timeout = omega (arith, n, c .before .before .if1 .left) in
+    let t : c .before .begins .result .0 ≡ l .standing .time .0 = c .before .begins .ensures ∙
+    ap (λ t. t .0) (c .before .before .before .before .time .ensures) in
+    let n : c .before .before .before .number .result ≡ l .standing .time .0 = c .before .before .before .number .ensures ∙
+    ap (λ t. t .0) (c .before .before .before .before .time .ensures) in
+    let e : l .standing .time .0 < s .args .timeout = omega (arith, n, c .before .before .if1 .left) in
     let f : length (drop (l .at) (l .out)) ≡ length (l .out) - l .at = length-drop (l .at) (l .out) in
     let k : length (take (length (l .out) - l .at) (drop (l .at) (l .out))) ≡ length (l .out) - l .at =
     length-take-le (length (l .out) - l .at) (drop (l .at) (l .out)) (omega arith) in
@@ -73,44 +66,40 @@ mul-at c = omega (arith, c .before .before .before .before .before .before .befo
 
 add-at : tie.Need-add-at Inv-loop μ-loop
 add-at c =
+    let s = c .before .before .before .before .before .before .before .before .before .before .before .before .before in
     let l = c .before .before .before .before .before .before .before .before .loop in
-    let n : c .before .before .before .before .before .before .number .result ≡ l .standing .time .0 = c .before .before .before .before .before .before .number .ensures ∙ ap (λ t. t .0) (c .before .before .before .before .before .before .before .time .ensures) in
-    let e : l .standing .time .0 < c .before .before .before .before .before .before .before .before .before .before .before .before .before .args .timeout = omega (arith, n, c .before .before .before .before .before .if1 .left) in
-    omega (arith, running-room _ _ _ _ _ _ _ _ _ _ _ _ (l .inv) e, l .inv .same, c .before .before .before .before .before .before .before .before .before .before .before .before .before .good)
+    let n : c .before .before .before .before .before .before .number .result ≡ l .standing .time .0 =
+    c .before .before .before .before .before .before .number .ensures ∙ ap (λ t. t .0)
+    (c .before .before .before .before .before .before .before .time .ensures) in
+    let e : l .standing .time .0 < s .args .timeout = omega (arith, n, c .before .before .before .before .before .if1 .left) in
+    omega (arith, running-room _ _ _ _ _ _ _ _ _ _ _ _ (l .inv) e, l .inv .same, s .good)
 
 loop-less : tie.Need-loop-less Inv-loop μ-loop
 loop-less c =
-    let l = c .before .before .before .before .before .before .before .before .loop in
-    let t : c .before .before .before .before .begins .result .0 ≡ l .standing .time .0 = c .before .before .before .before .begins .ensures ∙ ap (λ t. t .0) (c .before .before .before .before .before .before .before .time .ensures) in
-    let n : c .before .before .before .before .before .before .number .result ≡ l .standing .time .0 = c .before .before .before .before .before .before .number .ensures ∙ ap (λ t. t .0) (c .before .before .before .before .before .before .before .time .ensures) in
+    let s = c .before .before .before .before .before .before .before .before in
+    let l = s .loop in
+    let t : c .before .before .before .before .begins .result .0 ≡ l .standing .time .0 = c .before .before .before .before .begins .ensures ∙
+    ap (λ t. t .0) (c .before .before .before .before .before .before .before .time .ensures) in
+    let n : c .before .before .before .before .before .before .number .result ≡ l .standing .time .0 =
+    c .before .before .before .before .before .before .number .ensures ∙ ap (λ t. t .0)
+    (c .before .before .before .before .before .before .before .time .ensures) in
     omega (arith, t, n, c .before .before .before .before .before .if1 .left, c .before .before .run-slot .ensures .time)
 
 loop-again : tie.Need-loop-again Inv-loop μ-loop
 loop-again c =
+    let s = c .before .before .before .before .before .before .before .before .before .before .before .before .before in
     let l = c .before .before .before .before .before .before .before .before .loop in
-    let t : c .before .before .before .before .begins .result .0 ≡ l .standing .time .0 = c .before .before .before .before .begins .ensures ∙ ap (λ t. t .0) (c .before .before .before .before .before .before .before .time .ensures) in
-    let n : c .before .before .before .before .before .before .number .result ≡ l .standing .time .0 = c .before .before .before .before .before .before .number .ensures ∙ ap (λ t. t .0) (c .before .before .before .before .before .before .before .time .ensures) in
-    let e : l .standing .time .0 < c .before .before .before .before .before .before .before .before .before .before .before .before .before .args .timeout = omega (arith, n, c .before .before .before .before .before .if1 .left) in
-    running-more _ _ _ _ _ _ _ _ _ _ _ _ (l .inv) (c .before .before .run-slot .result) (c .before .before .run-slot .last .1 .1 .1 .1 .1 .1 .0) _ e (rw t at (c .before .before .run-slot .ensures)) refl
+    let t : c .before .before .before .before .begins .result .0 ≡ l .standing .time .0 = c .before .before .before .before .begins .ensures ∙
+    ap (λ t. t .0) (c .before .before .before .before .before .before .before .time .ensures) in
+    let n : c .before .before .before .before .before .before .number .result ≡ l .standing .time .0 =
+    c .before .before .before .before .before .before .number .ensures ∙ ap (λ t. t .0)
+    (c .before .before .before .before .before .before .before .time .ensures) in
+    let e : l .standing .time .0 < s .args .timeout = omega (arith, n, c .before .before .before .before .before .if1 .left) in
+    running-more _ _ _ _ _ _ _ _ _ _ _ _ (l .inv) (c .before .before .run-slot .result) (c .before .before .run-slot .last .1 .1 .1 .1 .1 .1 .0)
+    _ e (rw t at (c .before .before .run-slot .ensures)) refl
 
 pub run-spec : {M : Type 1} → statement M
 run-spec =
     tie.close
-    (tie.spec
-    Inv-loop
-    μ-loop
-    loop-holds
-    time-requires
-    number-requires
-    same-length
-    returns
-    begins-requires
-    mul-run-slot
-    sub-run-slot
-    part-run-slot-start
-    part-run-slot-end
-    run-slot-requires
-    mul-at
-    add-at
-    loop-less
-    loop-again)
+    (tie.spec Inv-loop μ-loop loop-holds (λ c κs. search needs) (λ c κs. search needs) same-length returns begins-requires (λ c. search needs)
+    sub-run-slot part-run-slot-start (λ c. search needs) run-slot-requires mul-at add-at loop-less loop-again)

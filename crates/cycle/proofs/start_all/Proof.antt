@@ -6,12 +6,6 @@ use Rattle.scope.specs.Limits.{mostMessages}
 use Rattle.cycle.proofs.start_all.Statement.{statement}
 use Rattle.cycle.proofs.start_all.Tie as tie
 
-first-records-requires : tie.Need-first-records-requires
-first-records-requires c κs = search needs
-
-first-requires : tie.Need-first-requires
-first-requires c κs = search needs
-
 returns : tie.Need-returns
 returns c =
     let z : length (c .before .first-records .result) ≡ mostMessages = search needs in
@@ -22,4 +16,5 @@ returns c =
     }
 
 pub start-all-spec : {M : Type 1} → statement M
-start-all-spec = tie.close (tie.spec first-records-requires first-requires returns)
+start-all-spec =
+    tie.close (tie.spec (λ c κs. search needs) (λ c κs. search needs) returns)

@@ -3,11 +3,9 @@ use borrow.Author.Needs.{needs}
 use Rattle.grammar.proofs.step.Statement.{statement}
 use Rattle.grammar.proofs.step.Tie as tie
 
-following-requires : tie.Need-following-requires
-following-requires c κs = search needs
-
 returns : tie.Need-returns
 returns c = rw (c .following .ensures)
 
 pub step-spec : {M : Type 1} → statement M
-step-spec = tie.close (tie.spec following-requires returns)
+step-spec =
+    tie.close (tie.spec (λ c κs. search needs) returns)

@@ -14,7 +14,9 @@ put-number-requires c κs =
     told-first (part (a .slot) 32) _ (rw (event-parts (a .slot) (a .message) (a .kind) (a .number)) at (s .pre))
 
 -- what is to come after the first number, the second and the third
-after : (c : tie.After-put-number) → Told (c .put-number .result) (part (c .before .before .before .args .message) 32 ++ (part (c .before .before .before .args .kind) 32 ++ part (c .before .before .before .args .number) 10))
+after : (c : tie.After-put-number) → Told (c .put-number .result)
+    (part (c .before .before .before .args .message) 32 ++ (part (c .before .before .before .args .kind) 32 ++ part
+    (c .before .before .before .args .number) 10))
 after c =
     let a = c .before .before .before .args in
     told-rest (c .put-number .ensures) _ (rw (event-parts (a .slot) (a .message) (a .kind) (a .number)) at (c .before .before .before .pre))
@@ -24,7 +26,8 @@ put-number-requires-2 c κs = told-first _ _ (after (c .before .before .before))
 
 put-number-requires-3 : tie.Need-put-number-requires-3
 put-number-requires-3 c κs =
-    told-first _ _ (told-rest (c .before .before .before .put-number2 .ensures) _ (after (c .before .before .before .before .before .before .before)))
+    let s = c .before .before .before .before .before .before .before in
+    told-first _ _ (told-rest (c .before .before .before .put-number2 .ensures) _ (after (s)))
 
 put-number-requires-4 : tie.Need-put-number-requires-4
 put-number-requires-4 c κs =
@@ -32,25 +35,18 @@ put-number-requires-4 c κs =
     (told-rest (c .before .before .before .before .before .before .before .put-number2 .ensures) _
     (after (c .before .before .before .before .before .before .before .before .before .before .before)))
 
-same-length : tie.Need-same-length
-same-length c = search needs
-
 returns : tie.Need-returns
 returns c =
-    let s = c .before .before .before .before .before .before .before .before .before .before .before .before .before .before .before .before .before in
+    let start =
+    c .before .before .before .before .before .before .before .before .before .before .before .before .before .before .before .before .before in
+    let s = start in
     let a = s .args in
     rw (event-parts (a .slot) (a .message) (a .kind) (a .number))
-    (then (c .before .before .before .before .before .before .before .before .before .before .before .before .before .before .put-number .ensures)
+    (then
+    (c .before .before .before .before .before .before .before .before .before .before .before .before .before .before .put-number .ensures)
     (then (c .before .before .before .before .before .before .before .before .before .before .put-number2 .ensures)
     (then (c .before .before .before .before .before .before .put-number3 .ensures) (c .before .before .put-number4 .ensures))))
 
 pub event-line-spec : {M : Type 1} → statement M
 event-line-spec =
-    tie.close
-    (tie.spec
-    put-number-requires
-    put-number-requires-2
-    put-number-requires-3
-    put-number-requires-4
-    same-length
-    returns)
+    tie.close (tie.spec put-number-requires put-number-requires-2 put-number-requires-3 put-number-requires-4 (λ c. search needs) returns)

@@ -17,48 +17,25 @@ abbrev μ-loop : tie.MeasureT-loop
 loop-holds : tie.Need-loop-holds Inv-loop μ-loop
 loop-holds c = (search needs, left-is (lines-first _ _ _) (left-first _ _ _))
 
-mul-number : tie.Need-mul-number Inv-loop μ-loop
-mul-number c = search needs
-
-number-requires : tie.Need-number-requires Inv-loop μ-loop
-number-requires c κs = search needs
-
-mul-number-2 : tie.Need-mul-number-2 Inv-loop μ-loop
-mul-number-2 c = search needs
-
-add-number : tie.Need-add-number Inv-loop μ-loop
-add-number c = search needs
-
-number-requires-2 : tie.Need-number-requires-2 Inv-loop μ-loop
-number-requires-2 c κs = search needs
-
-div-event-line : tie.Need-div-event-line Inv-loop μ-loop
-div-event-line c = search needs
-
-rem-event-line : tie.Need-rem-event-line Inv-loop μ-loop
-rem-event-line c = search needs
-
 event-line-requires : tie.Need-event-line-requires Inv-loop μ-loop
 event-line-requires c κs =
+    let s = c .before .before .before .before .before .before .before in
     let l = c .before .before .before .before .loop in
-    left-told _ _ (c .before .before .before .before .before .before .before .pre .2)
+    left-told _ _ (s .pre .2)
     (left-is
-    (lines-more _ _ _ _ _ _ (c .before .before .before .loop-test .taken) (c .before .before .number .ensures .is) (c .before .number2 .ensures .is))
+    (lines-more _ _ _ _ _ _ (c .before .before .before .loop-test .taken) (c .before .before .number .ensures .is)
+    (c .before .number2 .ensures .is))
     (l .inv .1))
-
-add-j : tie.Need-add-j Inv-loop μ-loop
-add-j c = search needs
-
-loop-less : tie.Need-loop-less Inv-loop μ-loop
-loop-less c = search needs
 
 loop-again : tie.Need-loop-again Inv-loop μ-loop
 loop-again c =
-    let l = c .before .before .before .before .before .before .before .loop in (
+    let s = c .before .before .before .before .before .before .before in
+    let l = s .loop in (
       search needs,
       left-more
           (left-is
-          (lines-more _ _ _ _ _ _ (c .before .before .before .before .before .before .loop-test .taken) (c .before .before .before .before .before .number .ensures .is) (c .before .before .before .before .number2 .ensures .is))
+          (lines-more _ _ _ _ _ _ (c .before .before .before .before .before .before .loop-test .taken)
+          (c .before .before .before .before .before .number .ensures .is) (c .before .before .before .before .number2 .ensures .is))
           (l .inv .1))
           (c .before .before .event-line .ensures),
     )
@@ -72,20 +49,6 @@ returns c = left-done (left-is (lines-done _ _ _ _ (c .loop-test .left)) (c .bef
 pub event-lines-spec : {M : Type 1} → statement M
 event-lines-spec =
     tie.close
-    (tie.spec
-    Inv-loop
-    μ-loop
-    loop-holds
-    mul-number
-    number-requires
-    mul-number-2
-    add-number
-    number-requires-2
-    div-event-line
-    rem-event-line
-    event-line-requires
-    add-j
-    loop-less
-    loop-again
-    same-length
-    returns)
+    (tie.spec Inv-loop μ-loop loop-holds (λ c. search needs) (λ c κs. search needs) (λ c. search needs) (λ c. search needs)
+    (λ c κs. search needs) (λ c. search needs) (λ c. search needs) event-line-requires (λ c. search needs) (λ c. search needs) loop-again
+    same-length returns)

@@ -8,31 +8,19 @@ use Rattle.listing.proofs.Lines.{few-lines, replay-told, replay-parts}
 use Rattle.listing.proofs.replayed.Statement.{statement}
 use Rattle.listing.proofs.replayed.Tie as tie
 
-number-requires : tie.Need-number-requires
-number-requires c κs = search needs
-
-add-messages : tie.Need-add-messages
-add-messages c = search needs
-
-number-requires-2 : tie.Need-number-requires-2
-number-requires-2 c κs = search needs
-
-add-timeout : tie.Need-add-timeout
-add-timeout c = search needs
-
-slice-aggregate-put-word : tie.Need-slice-aggregate-put-word
-slice-aggregate-put-word c = search needs
-
-put-word-requires : tie.Need-put-word-requires
-put-word-requires c κs = search needs
-
 mul-event-lines : tie.Need-mul-event-lines
 mul-event-lines c =
-    let few = few-lines (c .before .before .before .before .before .before .before .number .result + 1) (c .before .before .before .before .before .before .number2 .result + 1) (omega (arith, c .before .before .before .before .before .before .before .number .ensures .small)) (omega (arith, c .before .before .before .before .before .before .number2 .ensures .small)) in
+    let s = c .before .before .before .before .before .before .before in
+    let few = few-lines (s .number .result + 1) (c .before .before .before .before .before .before .number2 .result + 1)
+    (omega (arith, s .number .ensures .small)) (omega (
+      arith,
+      c .before .before .before .before .before .before .number2 .ensures .small,
+    )) in
     omega arith
 
 event-lines-requires : tie.Need-event-lines-requires
 event-lines-requires c κs =
+    let s = c .before .before .before .before .before .before .before .before .before .before .before in
     let m = c .before .before .before .before .before .before .before .number .result + 1 in
     let t = c .before .before .before .before .before .before .number2 .result + 1 in
     let hm = c .before .before .before .before .before .before .before .number .ensures .small in
@@ -40,39 +28,36 @@ event-lines-requires c κs =
     let few = few-lines m t (omega arith) (omega arith) in (
       omega arith,
       omega arith,
-      told-first _ _ (told-rest (c .before .before .before .put-word .ensures) _ (replay-told (c .before .before .before .before .before .before .before .before .before .before .before .args .n) m t (c .before .before .before .before .before .before .before .before .before .before .before .args .events .now) (omega arith) (omega arith))),
+      told-first _ _ (told-rest (c .before .before .before .put-word .ensures) _
+          (replay-told (s .args .n) m t (s .args .events .now) (omega arith) (omega arith))),
     )
 
 arrived-line-requires : tie.Need-arrived-line-requires
 arrived-line-requires c κs =
+    let s = c .before .before .before .before .before .before .before .before .before .before .before .before .before .before .before in
     let m = c .before .before .before .before .before .before .before .before .before .before .before .number .result + 1 in
     let t = c .before .before .before .before .before .before .before .before .before .before .number2 .result + 1 in
     let hm = c .before .before .before .before .before .before .before .before .before .before .before .number .ensures .small in
     let ht = c .before .before .before .before .before .before .before .before .before .before .number2 .ensures .small in
     told-rest (c .before .before .before .event-lines .ensures) _
-    (told-rest (c .before .before .before .before .before .before .before .put-word .ensures) _ (replay-told (c .before .before .before .before .before .before .before .before .before .before .before .before .before .before .before .args .n) m t (c .before .before .before .before .before .before .before .before .before .before .before .before .before .before .before .args .events .now) (omega arith) (omega arith)))
-
-same-length : tie.Need-same-length
-same-length c = search needs
+    (told-rest (c .before .before .before .before .before .before .before .put-word .ensures) _
+    (replay-told (s .args .n) m t (s .args .events .now) (omega arith) (omega arith)))
 
 returns : tie.Need-returns
 returns c =
-    let a = c .before .before .before .before .before .before .before .before .before .before .before .before .before .before .before .before .before .before .args in
-    rw (replay-parts (a .n) (a .row .now) (a .events .now) _ _ (ap (_+ 1) (c .before .before .before .before .before .before .before .before .before .before .before .before .before .before .number .ensures .is)) (ap (_+ 1) (c .before .before .before .before .before .before .before .before .before .before .before .before .before .number2 .ensures .is)))
-    (then (c .before .before .before .before .before .before .before .before .before .before .put-word .ensures) (then (c .before .before .before .before .before .before .event-lines .ensures) (c .before .before .arrived-line .ensures)))
+    let mid = c .before .before .before .before .before .before .before .before .before .before in
+    let s = mid .before .before .before .before .before .before .before .before in
+    let a = s .args in
+    rw (replay-parts (a .n) (a .row .now) (a .events .now) _ _
+    (ap (_+ 1)
+    (mid .before .before .before .before .number .ensures .is))
+    (ap (_+ 1)
+    (mid .before .before .before .number2 .ensures .is)))
+    (then (mid .put-word .ensures)
+    (then (c .before .before .before .before .before .before .event-lines .ensures) (c .before .before .arrived-line .ensures)))
 
 pub replayed-spec : {M : Type 1} → statement M
 replayed-spec =
     tie.close
-    (tie.spec
-    number-requires
-    add-messages
-    number-requires-2
-    add-timeout
-    slice-aggregate-put-word
-    put-word-requires
-    mul-event-lines
-    event-lines-requires
-    arrived-line-requires
-    same-length
-    returns)
+    (tie.spec (λ c κs. search needs) (λ c. search needs) (λ c κs. search needs) (λ c. search needs) (λ c. search needs) (λ c κs. search needs)
+    mul-event-lines event-lines-requires arrived-line-requires (λ c. search needs) returns)

@@ -4,18 +4,9 @@ use Rattle.nuthatchet.proofs.Ways.{says-all}
 use Rattle.nuthatchet.proofs.nuthatchet_all_answers.Statement.{statement}
 use Rattle.nuthatchet.proofs.nuthatchet_all_answers.Tie as tie
 
-all-answers-requires : tie.Need-all-answers-requires
-all-answers-requires c κs = search needs
-
-tell-requires : tie.Need-tell-requires
-tell-requires c κs = search needs
-
-same-length : tie.Need-same-length
-same-length c = search needs
-
 returns : tie.Need-returns
 returns c = says-all _ (c .tell .ensures) (c .before .before .before .before .before .all-answers .ensures)
 
 pub nuthatchet-all-answers-spec : {M : Type 1} → statement M
 nuthatchet-all-answers-spec =
-    tie.close (tie.spec all-answers-requires tell-requires same-length returns)
+    tie.close (tie.spec (λ c κs. search needs) (λ c κs. search needs) (λ c. search needs) returns)

@@ -7,22 +7,12 @@ use Rattle.nuthatchet.proofs.Ways.{prints}
 use Rattle.nuthatchet.proofs.nuthatchet_refusal_text.Statement.{statement}
 use Rattle.nuthatchet.proofs.nuthatchet_refusal_text.Tie as tie
 
-refusal-at-requires : tie.Need-refusal-at-requires
-refusal-at-requires c κs = search needs
-
-refusal-text-requires : tie.Need-refusal-text-requires
-refusal-text-requires c κs = search needs
-
-tell-requires : tie.Need-tell-requires
-tell-requires c κs = search needs
-
-same-length : tie.Need-same-length
-same-length c = search needs
-
 returns : tie.Need-returns
-returns c = prints _ (c .tell .ensures) (prints-as (ap refusedLine (c .before .before .before .before .before .before .before .refusal-at .ensures)) (c .before .before .before .before .before .refusal-text .ensures))
+returns c =
+    let s = c .before .before .before .before .before .before .before in
+    prints _ (c .tell .ensures) (prints-as (ap refusedLine (s .refusal-at .ensures))
+    (c .before .before .before .before .before .refusal-text .ensures))
 
 pub nuthatchet-refusal-text-spec : {M : Type 1} → statement M
 nuthatchet-refusal-text-spec =
-    tie.close
-    (tie.spec refusal-at-requires refusal-text-requires tell-requires same-length returns)
+    tie.close (tie.spec (λ c κs. search needs) (λ c κs. search needs) (λ c κs. search needs) (λ c. search needs) returns)

@@ -4,17 +4,9 @@ use Rattle.nuthatchet.proofs.Ways.{prints}
 use Rattle.nuthatchet.proofs.nuthatchet_row_text.Statement.{statement}
 use Rattle.nuthatchet.proofs.nuthatchet_row_text.Tie as tie
 
-row-text-requires : tie.Need-row-text-requires
-row-text-requires c κs = search needs
-
-tell-requires : tie.Need-tell-requires
-tell-requires c κs = search needs
-
-same-length : tie.Need-same-length
-same-length c = search needs
-
 returns : tie.Need-returns
 returns c = prints _ (c .tell .ensures) (c .before .before .before .before .before .row-text .ensures)
 
 pub nuthatchet-row-text-spec : {M : Type 1} → statement M
-nuthatchet-row-text-spec = tie.close (tie.spec row-text-requires tell-requires same-length returns)
+nuthatchet-row-text-spec =
+    tie.close (tie.spec (λ c κs. search needs) (λ c κs. search needs) (λ c. search needs) returns)

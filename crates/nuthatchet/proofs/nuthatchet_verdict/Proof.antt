@@ -4,18 +4,10 @@ use Rattle.nuthatchet.proofs.Rulings.{tells-ruling}
 use Rattle.nuthatchet.proofs.nuthatchet_verdict.Statement.{statement}
 use Rattle.nuthatchet.proofs.nuthatchet_verdict.Tie as tie
 
-verdict-requires : tie.Need-verdict-requires
-verdict-requires c κs = search needs
-
-tell-ruling-requires : tie.Need-tell-ruling-requires
-tell-ruling-requires c κs = search needs
-
-same-length : tie.Need-same-length
-same-length c = search needs
-
 returns : tie.Need-returns
-returns c = tells-ruling _ _ _ _ _ (c .before .before .before .before .before .verdict .result) (c .before .before .before .before .before .verdict .ensures) (c .tell-ruling .ensures)
+returns c = tells-ruling _ _ _ _ _ (c .before .before .before .before .before .verdict .result)
+    (c .before .before .before .before .before .verdict .ensures) (c .tell-ruling .ensures)
 
 pub nuthatchet-verdict-spec : {M : Type 1} → statement M
 nuthatchet-verdict-spec =
-    tie.close (tie.spec verdict-requires tell-ruling-requires same-length returns)
+    tie.close (tie.spec (λ c κs. search needs) (λ c κs. search needs) (λ c. search needs) returns)

@@ -7,4 +7,5 @@ returns : tie.Need-returns
 returns c = record { number = refl; place = refl; result = refl }
 
 pub refuse-spec : {M : Type 1} → statement M
-refuse-spec = tie.close (tie.spec returns)
+refuse-spec =
+    tie.close (tie.spec returns)

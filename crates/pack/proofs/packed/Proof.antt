@@ -8,14 +8,11 @@ use Rattle.pack.proofs.packed.Tie as tie
 slice-aggregate-pack-text : tie.Need-slice-aggregate-pack-text
 slice-aggregate-pack-text c = came-whole _ _ _ (c .before .before .before .pre .0)
 
-pack-text-requires : tie.Need-pack-text-requires
-pack-text-requires c κs = search needs
-
-same-length : tie.Need-same-length
-same-length c = search needs
-
 returns : tie.Need-returns
-returns c = packs-whole _ _ _ _ _ (c .before .before .before .before .before .before .before .pre .1) (c .before .before .pack-text .ensures)
+returns c =
+    let s = c .before .before .before .before .before .before .before in
+    packs-whole _ _ _ _ _ (s .pre .1) (c .before .before .pack-text .ensures)
 
 pub packed-spec : {M : Type 1} → statement M
-packed-spec = tie.close (tie.spec slice-aggregate-pack-text pack-text-requires same-length returns)
+packed-spec =
+    tie.close (tie.spec slice-aggregate-pack-text (λ c κs. search needs) (λ c. search needs) returns)

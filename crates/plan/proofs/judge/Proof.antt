@@ -4,29 +4,20 @@ use Rattle.plan.proofs.Ways as law
 use Rattle.plan.proofs.judge.Statement.{statement}
 use Rattle.plan.proofs.judge.Tie as tie
 
-walk-row-requires : tie.Need-walk-row-requires
-walk-row-requires c κs = search needs
-
-enum-known-walked : tie.Need-enum-known-walked
-enum-known-walked c = search needs
-
 check-requires : tie.Need-check-requires
 check-requires c κs = law.form-of _ _ (law.gave _ (c .before .walked .given .1) (c .before .before .before .walk-row .ensures))
 
-enum-told : tie.Need-enum-told
-enum-told c = search needs
-
-enum-known-checked : tie.Need-enum-known-checked
-enum-known-checked c = search needs
-
-enum-known-walked-2 : tie.Need-enum-known-walked-2
-enum-known-walked-2 c = search needs
-
 returns : tie.Need-returns
-returns c = law.judge-good _ _ _ (law.gave _ (c .before .before .before .before .walked .given .1) (c .before .before .before .before .before .before .walk-row .ensures)) (law.gave _ (c .enum-told .given .1) (c .before .before .check .ensures))
+returns c =
+    let s = c .before .before .before .before .before .before in
+    law.judge-good _ _ _ (law.gave _ (c .before .before .before .before .walked .given .1) (s .walk-row .ensures))
+    (law.gave _ (c .enum-told .given .1) (c .before .before .check .ensures))
 
 returns-2 : tie.Need-returns-2
-returns-2 c = law.judge-bad _ _ _ (law.gave _ (c .before .before .before .before .before .walked .given .1) (c .before .before .before .before .before .before .before .walk-row .ensures)) (law.refused-as _ (c .before .checked .given .1) (c .before .before .before .check .ensures))
+returns-2 c =
+    let s = c .before .before .before .before .before .before .before in
+    law.judge-bad _ _ _ (law.gave _ (c .before .before .before .before .before .walked .given .1) (s .walk-row .ensures))
+    (law.refused-as _ (c .before .checked .given .1) (c .before .before .before .check .ensures))
 
 returns-3 : tie.Need-returns-3
 returns-3 c = law.judge-form _ _ (law.refused-as _ (c .before .walked2 .given .1) (c .before .before .before .walk-row .ensures))
@@ -34,13 +25,5 @@ returns-3 c = law.judge-form _ _ (law.refused-as _ (c .before .walked2 .given .1
 pub judge-spec : {M : Type 1} → statement M
 judge-spec =
     tie.close
-    (tie.spec
-    walk-row-requires
-    enum-known-walked
-    check-requires
-    enum-told
-    enum-known-checked
-    enum-known-walked-2
-    returns
-    returns-2
-    returns-3)
+    (tie.spec (λ c κs. search needs) (λ c. search needs) check-requires (λ c. search needs) (λ c. search needs) (λ c. search needs) returns
+    returns-2 returns-3)

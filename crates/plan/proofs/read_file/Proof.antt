@@ -7,18 +7,6 @@ use Rattle.plan.proofs.Ways as law
 use Rattle.plan.proofs.read_file.Statement.{statement}
 use Rattle.plan.proofs.read_file.Tie as tie
 
-slice-aggregate-unpack : tie.Need-slice-aggregate-unpack
-slice-aggregate-unpack c = search needs
-
-unpack-requires : tie.Need-unpack-requires
-unpack-requires c κs = search needs
-
-enum-told : tie.Need-enum-told
-enum-told c = search needs
-
-array-share-prefix-all : tie.Need-array-share-prefix-all
-array-share-prefix-all c = search needs
-
 slice-aggregate-accept : tie.Need-slice-aggregate-accept
 slice-aggregate-accept c =
     let u = c .before .before .before .before .unpack in
@@ -29,16 +17,12 @@ accept-requires c κs =
     let u = c .before .before .before .before .before .unpack in
     law.all-form _ _ _ (law.gave _ (c .before .before .enum-told .given .1) (u .ensures .answer)) (unpacked-row _ _ _ _ _ (u .ensures))
 
-enum-known-answer : tie.Need-enum-known-answer
-enum-known-answer c = search needs
-
-same-length : tie.Need-same-length
-same-length c = search needs
-
 returns : tie.Need-returns
 returns c =
-    let u = c .before .before .before .before .before .before .before .before .unpack in
-    law.read-on _ _ _ _ _ _ (law.gave _ (c .before .before .before .before .before .enum-told .given .1) (u .ensures .answer)) (unpacked-row _ _ _ _ _ (u .ensures)) (c .before .before .accept .ensures)
+    let s = c .before .before .before .before .before .before .before .before in
+    let u = s .unpack in
+    law.read-on _ _ _ _ _ _ (law.gave _ (c .before .before .before .before .before .enum-told .given .1) (u .ensures .answer))
+    (unpacked-row _ _ _ _ _ (u .ensures)) (c .before .before .accept .ensures)
 
 returns-2 : tie.Need-returns-2
 returns-2 c = law.read-form _ _ _ (law.refused-as _ (c .before .answer .given .1) (c .before .before .before .before .unpack .ensures .answer))
@@ -46,14 +30,5 @@ returns-2 c = law.read-form _ _ _ (law.refused-as _ (c .before .answer .given .1
 pub read-file-spec : {M : Type 1} → statement M
 read-file-spec =
     tie.close
-    (tie.spec
-    slice-aggregate-unpack
-    unpack-requires
-    enum-told
-    array-share-prefix-all
-    slice-aggregate-accept
-    accept-requires
-    enum-known-answer
-    same-length
-    returns
-    returns-2)
+    (tie.spec (λ c. search needs) (λ c κs. search needs) (λ c. search needs) (λ c. search needs) slice-aggregate-accept accept-requires
+    (λ c. search needs) (λ c. search needs) returns returns-2)

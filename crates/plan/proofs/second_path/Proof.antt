@@ -4,24 +4,13 @@ use Rattle.plan.proofs.Ways as law
 use Rattle.plan.proofs.second_path.Statement.{statement}
 use Rattle.plan.proofs.second_path.Tie as tie
 
-judge-requires : tie.Need-judge-requires
-judge-requires c κs = search needs
-
-enum-told : tie.Need-enum-told
-enum-told c = search needs
-
 second-path-part-requires : tie.Need-second-path-part-requires
 second-path-part-requires c κs = law.good-row _ _ (law.gave _ (c .enum-told .given .1) (c .before .before .judge .ensures)) .form
 
-enum-told-2 : tie.Need-enum-told-2
-enum-told-2 c = search needs
-
-slice-aggregate-result : tie.Need-slice-aggregate-result
-slice-aggregate-result c = search needs
-
 returns : tie.Need-returns
 returns c =
-    law.part-shown _ _ _ _ _ (law.gave _ (c .before .enum-told .given .1) (c .before .before .before .judge .ensures)) (c .second-path-part .ensures)
+    law.part-shown _ _ _ _ _ (law.gave _ (c .before .enum-told .given .1) (c .before .before .before .judge .ensures))
+    (c .second-path-part .ensures)
 
 returns-2 : tie.Need-returns-2
 returns-2 c = law.part-hidden _ _ _ _ _ (law.refused-as _ (c .before .enum-told2 .given .1) (c .before .before .before .judge .ensures))
@@ -29,11 +18,4 @@ returns-2 c = law.part-hidden _ _ _ _ _ (law.refused-as _ (c .before .enum-told2
 pub second-path-spec : {M : Type 1} → statement M
 second-path-spec =
     tie.close
-    (tie.spec
-    judge-requires
-    enum-told
-    second-path-part-requires
-    enum-told-2
-    slice-aggregate-result
-    returns
-    returns-2)
+    (tie.spec (λ c κs. search needs) (λ c. search needs) second-path-part-requires (λ c. search needs) (λ c. search needs) returns returns-2)

@@ -8,17 +8,8 @@ use Rattle.plan.proofs.Ways as law
 use Rattle.plan.proofs.write_file.Statement.{statement}
 use Rattle.plan.proofs.write_file.Tie as tie
 
-judge-requires : tie.Need-judge-requires
-judge-requires c κs = search needs
-
-enum-told : tie.Need-enum-told
-enum-told c = search needs
-
 packed-bytes-requires : tie.Need-packed-bytes-requires
 packed-bytes-requires c κs = law.good-row _ _ (law.gave _ (c .enum-told .given .1) (c .before .before .judge .ensures)) .form
-
-slice-relend-prefix-pack : tie.Need-slice-relend-prefix-pack
-slice-relend-prefix-pack c = search needs
 
 slice-aggregate-pack : tie.Need-slice-aggregate-pack
 slice-aggregate-pack c = sym (length-take-le _ _ (search needs))
@@ -27,27 +18,24 @@ pack-requires : tie.Need-pack-requires
 pack-requires c κs =
     let n = c .before .before .packed-bytes in
     record {
-      complete = law.good-row _ _ (law.gave _ (c .before .before .before .enum-told .given .1) (c .before .before .before .before .before .judge .ensures)) .form;
+      complete = law.good-row _ _ (law.gave _ (c .before .before .before .enum-told .given .1)
+          (c .before .before .before .before .before .judge .ensures)) .form;
       room = length-take-le _ _ (c .before .if1 .taken) ∙ n .ensures .is;
     }
 
-refuse-requires : tie.Need-refuse-requires
-refuse-requires c κs = search needs
-
-enum-known-judged : tie.Need-enum-known-judged
-enum-known-judged c = search needs
-
-same-length : tie.Need-same-length
-same-length c = search needs
-
 returns : tie.Need-returns
 returns c =
+    let s = c .before .before .before .before .before .before .before .before .before .before .before in
     let n = c .before .before .before .before .before .packed-bytes in
-    law.written _ _ _ _ _ (law.gave _ (c .before .before .before .before .before .before .enum-told .given .1) (c .before .before .before .before .before .before .before .before .judge .ensures)) (n .ensures .is) (c .before .before .before .before .if1 .taken)
-    (ap (λ x. x ++ drop (n .result) (c .before .before .before .before .before .before .before .before .before .before .before .args .file .now)) (c .before .before .pack .ensures))
+    law.written _ _ _ _ _ (law.gave _ (c .before .before .before .before .before .before .enum-told .given .1)
+    (c .before .before .before .before .before .before .before .before .judge .ensures)) (n .ensures .is)
+    (c .before .before .before .before .if1 .taken)
+    (ap (λ x. x ++ drop (n .result) (s .args .file .now)) (c .before .before .pack .ensures))
 
 returns-2 : tie.Need-returns-2
-returns-2 c = law.write-no-room _ _ _ _ _ (law.gave _ (c .before .before .before .enum-told .given .1) (c .before .before .before .before .before .judge .ensures)) (c .before .before .packed-bytes .ensures .is) (c .before .if1 .left) (c .refuse .ensures)
+returns-2 c = law.write-no-room _ _ _ _ _ (law.gave _ (c .before .before .before .enum-told .given .1)
+    (c .before .before .before .before .before .judge .ensures)) (c .before .before .packed-bytes .ensures .is)
+    (c .before .if1 .left) (c .refuse .ensures)
 
 returns-3 : tie.Need-returns-3
 returns-3 c = law.write-bad _ _ _ (law.refused-as _ (c .before .judged .given .1) (c .before .before .before .judge .ensures))
@@ -55,16 +43,5 @@ returns-3 c = law.write-bad _ _ _ (law.refused-as _ (c .before .judged .given .1
 pub write-file-spec : {M : Type 1} → statement M
 write-file-spec =
     tie.close
-    (tie.spec
-    judge-requires
-    enum-told
-    packed-bytes-requires
-    slice-relend-prefix-pack
-    slice-aggregate-pack
-    pack-requires
-    refuse-requires
-    enum-known-judged
-    same-length
-    returns
-    returns-2
-    returns-3)
+    (tie.spec (λ c κs. search needs) (λ c. search needs) packed-bytes-requires (λ c. search needs) slice-aggregate-pack pack-requires
+    (λ c κs. search needs) (λ c. search needs) (λ c. search needs) returns returns-2 returns-3)

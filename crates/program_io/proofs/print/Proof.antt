@@ -6,26 +6,15 @@ use Rattle.scope.specs.Outcome.{outcomeOf}
 use Rattle.program_io.proofs.print.Statement.{statement}
 use Rattle.program_io.proofs.print.Tie as tie
 
-enum-known-answer : tie.Need-enum-known-answer
-enum-known-answer c = search needs
-
 slice-aggregate-write-all : tie.Need-slice-aggregate-write-all
 slice-aggregate-write-all c = sym (length-take-le _ _ (c .before .if1 .taken))
 
-write-all-requires : tie.Need-write-all-requires
-write-all-requires c κs = search needs
-
 returns : tie.Need-returns
-returns c = λ e. (c .before .before .before .before .before .answer .given .0 .0, ap outcomeOf (c .before .before .before .before .before .answer .given .1), c .before .before .before .if1 .taken)
-
-enum-told : tie.Need-enum-told
-enum-told c = search needs
-
-slice-aggregate-tell : tie.Need-slice-aggregate-tell
-slice-aggregate-tell c = search needs
-
-tell-requires : tie.Need-tell-requires
-tell-requires c κs = search needs
+returns c = λ e. (
+  c .before .before .before .before .before .answer .given .0 .0,
+  ap outcomeOf (c .before .before .before .before .before .answer .given .1),
+  c .before .before .before .if1 .taken,
+)
 
 returns-2 : tie.Need-returns-2
 returns-2 c = λ e. absurd (let z = e in search needs)
@@ -33,12 +22,5 @@ returns-2 c = λ e. absurd (let z = e in search needs)
 pub print-spec : {M : Type 1} → statement M
 print-spec =
     tie.close
-    (tie.spec
-    enum-known-answer
-    slice-aggregate-write-all
-    write-all-requires
-    returns
-    enum-told
-    slice-aggregate-tell
-    tell-requires
-    returns-2)
+    (tie.spec (λ c. search needs) slice-aggregate-write-all (λ c κs. search needs) returns (λ c. search needs) (λ c. search needs)
+    (λ c κs. search needs) returns-2)

@@ -6,36 +6,20 @@ use Rattle.replay_text.proofs.Text.{cuts-fit, input-says}
 use Rattle.replay_text.proofs.played_input.Statement.{statement}
 use Rattle.replay_text.proofs.played_input.Tie as tie
 
-slice-aggregate-cuts : tie.Need-slice-aggregate-cuts
-slice-aggregate-cuts c = search needs
-
-cuts-requires : tie.Need-cuts-requires
-cuts-requires c κs = search needs
-
 array-share-prefix-pairs : tie.Need-array-share-prefix-pairs
 array-share-prefix-pairs c = cuts-fit _ _ _ _ (c .before .cuts .ensures)
 
 slice-aggregate-played : tie.Need-slice-aggregate-played
 slice-aggregate-played c = sym (length-take-le _ _ (cuts-fit _ _ _ _ (c .before .before .cuts .ensures)))
 
-played-requires : tie.Need-played-requires
-played-requires c κs = search needs
-
-same-length : tie.Need-same-length
-same-length c = search needs
-
 returns : tie.Need-returns
 returns c =
-    input-says (c .before .before .before .before .before .before .before .before .before .before .before .args .row .now) (search needs) (c .before .before .before .before .before .before .cuts .ensures) (c .before .before .played .ensures)
+    let s = c .before .before .before .before .before .before .before .before .before .before .before in
+    input-says (s .args .row .now) (search needs) (c .before .before .before .before .before .before .cuts .ensures)
+    (c .before .before .played .ensures)
 
 pub played-input-spec : {M : Type 1} → statement M
 played-input-spec =
     tie.close
-    (tie.spec
-    slice-aggregate-cuts
-    cuts-requires
-    array-share-prefix-pairs
-    slice-aggregate-played
-    played-requires
-    same-length
-    returns)
+    (tie.spec (λ c. search needs) (λ c κs. search needs) array-share-prefix-pairs slice-aggregate-played (λ c κs. search needs)
+    (λ c. search needs) returns)

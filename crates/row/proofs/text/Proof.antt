@@ -8,44 +8,23 @@ use Rattle.row.proofs.text.Tie as tie
 slice-aggregate-row-text : tie.Need-slice-aggregate-row-text
 slice-aggregate-row-text c = came-whole _ _ _ (c .before .before .before .pre .0)
 
-row-text-requires : tie.Need-row-text-requires
-row-text-requires c κs = search needs
-
-enum-known-answer : tie.Need-enum-known-answer
-enum-known-answer c = search needs
-
-enum-known-answer-2 : tie.Need-enum-known-answer-2
-enum-known-answer-2 c = search needs
-
-refusal-text-requires : tie.Need-refusal-text-requires
-refusal-text-requires c κs = search needs
-
-same-length : tie.Need-same-length
-same-length c = search needs
-
 returns : tie.Need-returns
 returns c =
-    let s = c .before .before .before .before .before .before .before .before .before .before in
-    given (s .args .plan .now) (s .args .p) _ _ _ (s .pre .1) (s .pre .2) (c .before .before .before .before .before .row-text .ensures) _ (c .before .answer .given .1)
-
-same-length-2 : tie.Need-same-length-2
-same-length-2 c = search needs
+    let start = c .before .before .before .before .before .before .before .before .before .before in
+    let s = start in
+    given (s .args .plan .now) (s .args .p) _ _ _ (s .pre .1) (s .pre .2) (c .before .before .before .before .before .row-text .ensures) _
+    (c .before .answer .given .1)
 
 returns-2 : tie.Need-returns-2
 returns-2 c =
-    let s = c .before .before .before .before .before .before .before .before .before .before .before .before .before .before in
-    refuses (s .args .plan .now) (s .args .p) _ _ _ (s .pre .1) (s .pre .2) (c .before .before .before .before .before .before .before .before .before .row-text .ensures) _ (c .before .before .before .before .before .answer2 .given .1) _ _ (c .before .before .refusal-text .ensures)
+    let start = c .before .before .before .before .before .before .before .before .before .before .before .before .before .before in
+    let s = start in
+    refuses (s .args .plan .now) (s .args .p) _ _ _ (s .pre .1) (s .pre .2)
+    (c .before .before .before .before .before .before .before .before .before .row-text .ensures) _
+    (c .before .before .before .before .before .answer2 .given .1) _ _ (c .before .before .refusal-text .ensures)
 
 pub text-spec : {M : Type 1} → statement M
 text-spec =
     tie.close
-    (tie.spec
-    slice-aggregate-row-text
-    row-text-requires
-    enum-known-answer
-    enum-known-answer-2
-    refusal-text-requires
-    same-length
-    returns
-    same-length-2
-    returns-2)
+    (tie.spec slice-aggregate-row-text (λ c κs. search needs) (λ c. search needs) (λ c. search needs) (λ c κs. search needs) (λ c. search needs)
+    returns (λ c. search needs) returns-2)

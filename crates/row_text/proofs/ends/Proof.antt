@@ -10,4 +10,5 @@ returns-2 : tie.Need-returns-2
 returns-2 c = rw (ne-eqb (c .before .args .b) 32 (c .if1 .left))
 
 pub ends-spec : {M : Type 1} → statement M
-ends-spec = tie.close (tie.spec returns returns-2)
+ends-spec =
+    tie.close (tie.spec returns returns-2)

@@ -4,9 +4,6 @@ use Rattle.row_text.proofs.Lines.{mark-more, mark-last}
 use Rattle.row_text.proofs.mark_after.Statement.{statement}
 use Rattle.row_text.proofs.mark_after.Tie as tie
 
-add-if1 : tie.Need-add-if1
-add-if1 c = search needs
-
 returns : tie.Need-returns
 returns c = mark-more _ _ (c .if1 .taken)
 
@@ -14,4 +11,5 @@ returns-2 : tie.Need-returns-2
 returns-2 c = mark-last _ _ (c .if1 .left)
 
 pub mark-after-spec : {M : Type 1} → statement M
-mark-after-spec = tie.close (tie.spec add-if1 returns returns-2)
+mark-after-spec =
+    tie.close (tie.spec (λ c. search needs) returns returns-2)

@@ -12,7 +12,8 @@ use Rattle.row_text.proofs.numbers.Statement.{statement}
 use Rattle.row_text.proofs.numbers.Tie as tie
 
 abbrev Inv-loop : tie.InvT-loop
-Inv-loop text out₀ n₀ i₀ out n i = (n ≤ i) × (i ≤ length text) × (length out ≡ length out₀) × Left (numbersOf text) out₀ 0 (numbersFrom false 0 (drop i text)) out n
+Inv-loop text out₀ n₀ i₀ out n i = (n ≤ i) × (i ≤ length text) × (length out ≡ length out₀) ×
+    Left (numbersOf text) out₀ 0 (numbersFrom false 0 (drop i text)) out n
 
 abbrev μ-loop : tie.MeasureT-loop
 μ-loop text out₀ n₀ i₀ out n i = length text - i
@@ -20,78 +21,74 @@ abbrev μ-loop : tie.MeasureT-loop
 loop-holds : tie.Need-loop-holds Inv-loop μ-loop
 loop-holds c = (search needs, search needs, refl, left-first _ _ _)
 
-number-at-requires : tie.Need-number-at-requires Inv-loop μ-loop
-number-at-requires c κs = search needs
-
-put-requires : tie.Need-put-requires Inv-loop μ-loop
-put-requires c κs = search needs
-
 same-length : tie.Need-same-length Inv-loop μ-loop
-same-length c = left-same (left-more (left-is (word-none _ _ _ (c .before .before .before .before .before .number-at .ensures) (c .before .before .before .before .before .before .loop-test .taken) (c .before .before .before .before .if1 .taken)) (c .before .before .before .before .before .before .before .loop .inv .3)) (c .before .before .put .ensures))
+same-length c =
+    let s = c .before .before .before .before .before .before .before in
+    left-same (left-more (left-is (word-none _ _ _ (c .before .before .before .before .before .number-at .ensures)
+    (c .before .before .before .before .before .before .loop-test .taken) (c .before .before .before .before .if1 .taken))
+    (s .loop .inv .3)) (c .before .before .put .ensures))
 
 returns : tie.Need-returns Inv-loop μ-loop
-returns c = left-done (left-more (left-is (word-none _ _ _ (c .before .before .before .before .before .number-at .ensures) (c .before .before .before .before .before .before .loop-test .taken) (c .before .before .before .before .if1 .taken)) (c .before .before .before .before .before .before .before .loop .inv .3)) (c .before .before .put .ensures))
-
-cast-put : tie.Need-cast-put Inv-loop μ-loop
-cast-put c = search needs
-
-put-requires-2 : tie.Need-put-requires-2 Inv-loop μ-loop
-put-requires-2 c κs = search needs
+returns c =
+    let s = c .before .before .before .before .before .before .before in
+    left-done (left-more (left-is (word-none _ _ _ (c .before .before .before .before .before .number-at .ensures)
+    (c .before .before .before .before .before .before .loop-test .taken) (c .before .before .before .before .if1 .taken))
+    (s .loop .inv .3)) (c .before .before .put .ensures))
 
 same-length-2 : tie.Need-same-length-2 Inv-loop μ-loop
-same-length-2 c = left-same (left-more (left-is (word-last _ _ _ (c .before .before .before .before .before .before .before .number-at .ensures) (c .before .before .before .before .before .before .if1 .left) (c .before .before .before .before .before .if2 .taken)) (c .before .before .before .before .before .before .before .before .before .loop .inv .3)) (c .before .before .put2 .ensures))
+same-length-2 c =
+    let s = c .before .before .before .before .before .before .before .before .before in
+    left-same (left-more (left-is (word-last _ _ _ (c .before .before .before .before .before .before .before .number-at .ensures)
+    (c .before .before .before .before .before .before .if1 .left) (c .before .before .before .before .before .if2 .taken))
+    (s .loop .inv .3)) (c .before .before .put2 .ensures))
 
 returns-2 : tie.Need-returns-2 Inv-loop μ-loop
-returns-2 c = left-done (left-more (left-is (word-last _ _ _ (c .before .before .before .before .before .before .before .number-at .ensures) (c .before .before .before .before .before .before .if1 .left) (c .before .before .before .before .before .if2 .taken)) (c .before .before .before .before .before .before .before .before .before .loop .inv .3)) (c .before .before .put2 .ensures))
-
-byte-requires : tie.Need-byte-requires Inv-loop μ-loop
-byte-requires c κs = search needs
-
-ends-requires : tie.Need-ends-requires Inv-loop μ-loop
-ends-requires c κs = search needs
-
-put-requires-3 : tie.Need-put-requires-3 Inv-loop μ-loop
-put-requires-3 c κs = search needs
+returns-2 c =
+    let s = c .before .before .before .before .before .before .before .before .before in
+    left-done (left-more (left-is (word-last _ _ _ (c .before .before .before .before .before .before .before .number-at .ensures)
+    (c .before .before .before .before .before .before .if1 .left) (c .before .before .before .before .before .if2 .taken))
+    (s .loop .inv .3)) (c .before .before .put2 .ensures))
 
 same-length-3 : tie.Need-same-length-3 Inv-loop μ-loop
 same-length-3 c =
+    let s = c .before .before .before .before .before .before .before .before .before .before .before in
     left-same
     (left-more
     (left-is
-    (word-bad _ _ _ (c .before .before .before .before .before .before .before .before .before .number-at .ensures) (c .before .before .before .before .before .before .before .before .if1 .left) (c .before .before .before .before .before .before .before .if2 .left) _ (c .before .before .before .before .before .before .byte .ensures .is)
+    (word-bad _ _ _ (c .before .before .before .before .before .before .before .before .before .number-at .ensures)
+    (c .before .before .before .before .before .before .before .before .if1 .left)
+    (c .before .before .before .before .before .before .before .if2 .left) _
+    (c .before .before .before .before .before .before .byte .ensures .is)
     (sym (c .before .before .before .before .before .ends .ensures) ∙ not-true _ (c .before .before .before .before .if3 .taken)))
-    (c .before .before .before .before .before .before .before .before .before .before .before .loop .inv .3))
+    (s .loop .inv .3))
     (c .before .before .put3 .ensures))
 
 returns-3 : tie.Need-returns-3 Inv-loop μ-loop
 returns-3 c =
+    let s = c .before .before .before .before .before .before .before .before .before .before .before in
     left-done
     (left-more
     (left-is
-    (word-bad _ _ _ (c .before .before .before .before .before .before .before .before .before .number-at .ensures) (c .before .before .before .before .before .before .before .before .if1 .left) (c .before .before .before .before .before .before .before .if2 .left) _ (c .before .before .before .before .before .before .byte .ensures .is)
+    (word-bad _ _ _ (c .before .before .before .before .before .before .before .before .before .number-at .ensures)
+    (c .before .before .before .before .before .before .before .before .if1 .left)
+    (c .before .before .before .before .before .before .before .if2 .left) _
+    (c .before .before .before .before .before .before .byte .ensures .is)
     (sym (c .before .before .before .before .before .ends .ensures) ∙ not-true _ (c .before .before .before .before .if3 .taken)))
-    (c .before .before .before .before .before .before .before .before .before .before .before .loop .inv .3))
+    (s .loop .inv .3))
     (c .before .before .put3 .ensures))
-
-cast-put-2 : tie.Need-cast-put-2 Inv-loop μ-loop
-cast-put-2 c = search needs
-
-put-requires-4 : tie.Need-put-requires-4 Inv-loop μ-loop
-put-requires-4 c κs = search needs
-
-add-i : tie.Need-add-i Inv-loop μ-loop
-add-i c = search needs
-
-loop-less : tie.Need-loop-less Inv-loop μ-loop
-loop-less c = search needs
 
 loop-again : tie.Need-loop-again Inv-loop μ-loop
 loop-again c =
+    let s = c .before .before .before .before .before .before .before .before .before .before .before .before in
     let l = left-more
     (left-is
-    (word-ends _ _ _ (c .before .before .before .before .before .before .before .before .before .before .number-at .ensures) (c .before .before .before .before .before .before .before .before .before .if1 .left) (c .before .before .before .before .before .before .before .before .if2 .left) _ (c .before .before .before .before .before .before .before .byte .ensures .is)
-    (sym (c .before .before .before .before .before .before .ends .ensures) ∙ not-false _ (c .before .before .before .before .before .if3 .left)))
-    (c .before .before .before .before .before .before .before .before .before .before .before .before .loop .inv .3))
+    (word-ends _ _ _ (c .before .before .before .before .before .before .before .before .before .before .number-at .ensures)
+    (c .before .before .before .before .before .before .before .before .before .if1 .left)
+    (c .before .before .before .before .before .before .before .before .if2 .left) _
+    (c .before .before .before .before .before .before .before .byte .ensures .is)
+    (sym (c .before .before .before .before .before .before .ends .ensures) ∙ not-false _
+    (c .before .before .before .before .before .if3 .left)))
+    (s .loop .inv .3))
     (c .before .before .put4 .ensures) in
     (search needs, search needs, left-same l, l)
 
@@ -104,27 +101,6 @@ returns-4 c = left-done (left-is (from-none _ _ _ _ (c .loop-test .left) refl) (
 pub numbers-spec : {M : Type 1} → statement M
 numbers-spec =
     tie.close
-    (tie.spec
-    Inv-loop
-    μ-loop
-    loop-holds
-    number-at-requires
-    put-requires
-    same-length
-    returns
-    cast-put
-    put-requires-2
-    same-length-2
-    returns-2
-    byte-requires
-    ends-requires
-    put-requires-3
-    same-length-3
-    returns-3
-    cast-put-2
-    put-requires-4
-    add-i
-    loop-less
-    loop-again
-    same-length-4
-    returns-4)
+    (tie.spec Inv-loop μ-loop loop-holds (λ c κs. search needs) (λ c κs. search needs) same-length returns (λ c. search needs)
+    (λ c κs. search needs) same-length-2 returns-2 (λ c κs. search needs) (λ c κs. search needs) (λ c κs. search needs) same-length-3 returns-3
+    (λ c. search needs) (λ c κs. search needs) (λ c. search needs) (λ c. search needs) loop-again same-length-4 returns-4)

@@ -17,23 +17,13 @@ abbrev μ-loop : tie.MeasureT-loop
 loop-holds : tie.Need-loop-holds Inv-loop μ-loop
 loop-holds c = (search needs, left-first _ _ _)
 
-number-requires : tie.Need-number-requires Inv-loop μ-loop
-number-requires c κs = search needs
-
-mark-after-requires : tie.Need-mark-after-requires Inv-loop μ-loop
-mark-after-requires c κs = search needs
-
 put-number-requires : tie.Need-put-number-requires Inv-loop μ-loop
 put-number-requires c κs =
-    let s = c .before .before .before .before .before .before .before in
-    let more = line-more _ _ _ _ (c .before .before .before .loop-test .taken) (c .before .before .number .ensures .is) (c .before .mark-after .ensures) in
+    let start = c .before .before .before .before .before .before .before in
+    let s = start in
+    let more = line-more _ _ _ _ (c .before .before .before .loop-test .taken) (c .before .before .number .ensures .is)
+    (c .before .mark-after .ensures) in
     left-told _ _ (line-told _ (s .pre)) (left-is more (c .before .before .before .before .loop .inv .1))
-
-add-i : tie.Need-add-i Inv-loop μ-loop
-add-i c = search needs
-
-loop-less : tie.Need-loop-less Inv-loop μ-loop
-loop-less c = search needs
 
 loop-again : tie.Need-loop-again Inv-loop μ-loop
 loop-again c =
@@ -50,15 +40,5 @@ returns c = left-done (left-is (line-done _ _ (c .loop-test .left)) (c .before .
 pub row-line-spec : {M : Type 1} → statement M
 row-line-spec =
     tie.close
-    (tie.spec
-    Inv-loop
-    μ-loop
-    loop-holds
-    number-requires
-    mark-after-requires
-    put-number-requires
-    add-i
-    loop-less
-    loop-again
-    same-length
-    returns)
+    (tie.spec Inv-loop μ-loop loop-holds (λ c κs. search needs) (λ c κs. search needs) put-number-requires (λ c. search needs)
+    (λ c. search needs) loop-again same-length returns)

@@ -27,135 +27,39 @@ abbrev put-decimal-below : ℕ → In 1 put-decimal-kinds.ps
 put-decimal-below t =
     and 1 put-decimal-kinds.ps (falls 1 put-decimal-kinds.ps _<_ μ-put-decimal t) put-decimal.Pre
 
-put-decimal-cast-put-byte : (t : ℕ) → put-decimal-lts.Need-cast-put-byte (
-  put-byte-reads.Asked,
-  put-byte-reads.Learnt,
-  put-decimal-below t,
-  put-decimal.Post,
-) (put-decimal-at t) put-decimal.Post
-put-decimal-cast-put-byte t c = search needs
-
-put-decimal-add-put-byte : (t : ℕ) → put-decimal-lts.Need-add-put-byte (
-  put-byte-reads.Asked,
-  put-byte-reads.Learnt,
-  put-decimal-below t,
-  put-decimal.Post,
-) (put-decimal-at t) put-decimal.Post
-put-decimal-add-put-byte t c = search needs
-
-put-decimal-put-byte-requires : (t : ℕ) → put-decimal-lts.Need-put-byte-requires (
-  put-byte-reads.Asked,
-  put-byte-reads.Learnt,
-  put-decimal-below t,
-  put-decimal.Post,
-) (put-decimal-at t) put-decimal.Post
-put-decimal-put-byte-requires t c κs =
+pub +put-decimal-spec : {M : Type 1} → statement M
++put-decimal-spec = close μ-put-decimal λ t. put-decimal-lts.spec
+    (put-byte-reads.Asked, put-byte-reads.Learnt, put-decimal-below t, put-decimal.Post) (put-decimal-at t) put-decimal.Post
+    (λ c. search needs)
+    (λ c. search needs)
+    (λ c κs.
     let a = c .before .before .before .args in
     let p : Told (a .at) (decimal (a .n)) = c .before .before .before .pre .1 in
-    rw (decimal-small (a .n) (c .before .if1 .taken)) at p
-
-put-decimal-same-length : (t : ℕ) → put-decimal-lts.Need-same-length (
-  put-byte-reads.Asked,
-  put-byte-reads.Learnt,
-  put-decimal-below t,
-  put-decimal.Post,
-) (put-decimal-at t) put-decimal.Post
-put-decimal-same-length t c = search needs
-
-put-decimal-returns : (t : ℕ) → put-decimal-lts.Need-returns (
-  put-byte-reads.Asked,
-  put-byte-reads.Learnt,
-  put-decimal-below t,
-  put-decimal.Post,
-) (put-decimal-at t) put-decimal.Post
-put-decimal-returns t c =
+    rw (decimal-small (a .n) (c .before .if1 .taken)) at p)
+    (λ c. search needs)
+    (λ c.
     let a = c .before .before .before .before .before .before .args in
-    rw (decimal-small (a .n) (c .before .before .before .before .if1 .taken)) (c .before .before .put-byte .ensures)
-
-put-decimal-put-decimal-requires : (t : ℕ) → put-decimal-lts.Need-put-decimal-requires (
-  put-byte-reads.Asked,
-  put-byte-reads.Learnt,
-  put-decimal-below t,
-  put-decimal.Post,
-) (put-decimal-at t) put-decimal.Post
-put-decimal-put-decimal-requires t c κs =
+    rw (decimal-small (a .n) (c .before .before .before .before .if1 .taken)) (c .before .before .put-byte .ensures))
+    (λ c κs.
     let s = c .before .before .before in
     let n = s .args .n in
     let z = s .pre .0 in
     let p : Told (s .args .at) (decimal n) = s .pre .1 in
-    let l = c .before .if1 .left in (
-      omega arith,
-      told-first (decimal (n / 10)) ((48 + n % 10) ∷ []) (rw (decimal-large n l (s .fits .n .fits)) at p),
-    )
-
-put-decimal-cast-put-byte-2 : (t : ℕ) → put-decimal-lts.Need-cast-put-byte-2 (
-  put-byte-reads.Asked,
-  put-byte-reads.Learnt,
-  put-decimal-below t,
-  put-decimal.Post,
-) (put-decimal-at t) put-decimal.Post
-put-decimal-cast-put-byte-2 t c = search needs
-
-put-decimal-add-put-byte-2 : (t : ℕ) → put-decimal-lts.Need-add-put-byte-2 (
-  put-byte-reads.Asked,
-  put-byte-reads.Learnt,
-  put-decimal-below t,
-  put-decimal.Post,
-) (put-decimal-at t) put-decimal.Post
-put-decimal-add-put-byte-2 t c = search needs
-
-put-decimal-put-byte-requires-2 : (t : ℕ) → put-decimal-lts.Need-put-byte-requires-2 (
-  put-byte-reads.Asked,
-  put-byte-reads.Learnt,
-  put-decimal-below t,
-  put-decimal.Post,
-) (put-decimal-at t) put-decimal.Post
-put-decimal-put-byte-requires-2 t c κs =
+    let l = c .before .if1 .left in
+    (omega arith, told-first (decimal (n / 10)) ((48 + n % 10) ∷ []) (rw (decimal-large n l (s .fits .n .fits)) at p)))
+    (λ c. search needs)
+    (λ c. search needs)
+    (λ c κs.
     let s = c .before .before .before .before .before .before .before in
     let n = s .args .n in
     let p : Told (s .args .at) (decimal n) = s .pre .1 in
     let l = c .before .before .before .before .before .if1 .left in
     told-rest (c .before .before .before .put-decimal .ensures) ((48 + n % 10) ∷ [])
-    (rw (decimal-large n l (s .fits .n .fits)) at p)
-
-put-decimal-same-length-2 : (t : ℕ) → put-decimal-lts.Need-same-length-2 (
-  put-byte-reads.Asked,
-  put-byte-reads.Learnt,
-  put-decimal-below t,
-  put-decimal.Post,
-) (put-decimal-at t) put-decimal.Post
-put-decimal-same-length-2 t c = search needs
-
-put-decimal-returns-2 : (t : ℕ) → put-decimal-lts.Need-returns-2 (
-  put-byte-reads.Asked,
-  put-byte-reads.Learnt,
-  put-decimal-below t,
-  put-decimal.Post,
-) (put-decimal-at t) put-decimal.Post
-put-decimal-returns-2 t c =
+    (rw (decimal-large n l (s .fits .n .fits)) at p))
+    (λ c. search needs)
+    (λ c.
     let s = c .before .before .before .before .before .before .before .before .before .before in
     let n = s .args .n in
     let l = c .before .before .before .before .before .before .before .before .if1 .left in
     rw (decimal-large n l (s .fits .n .fits))
-    (then (c .before .before .before .before .before .before .put-decimal .ensures) (c .before .before .put-byte2 .ensures))
-
-pub +put-decimal-spec : {M : Type 1} → statement M
-+put-decimal-spec = close μ-put-decimal λ t. put-decimal-lts.spec (
-  put-byte-reads.Asked,
-  put-byte-reads.Learnt,
-  put-decimal-below t,
-  put-decimal.Post,
-)
-    (put-decimal-at t)
-    put-decimal.Post
-    (put-decimal-cast-put-byte t)
-    (put-decimal-add-put-byte t)
-    (put-decimal-put-byte-requires t)
-    (put-decimal-same-length t)
-    (put-decimal-returns t)
-    (put-decimal-put-decimal-requires t)
-    (put-decimal-cast-put-byte-2 t)
-    (put-decimal-add-put-byte-2 t)
-    (put-decimal-put-byte-requires-2 t)
-    (put-decimal-same-length-2 t)
-    (put-decimal-returns-2 t)
+    (then (c .before .before .before .before .before .before .put-decimal .ensures) (c .before .before .put-byte2 .ensures)))

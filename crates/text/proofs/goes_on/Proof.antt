@@ -10,29 +10,17 @@ returns c = rw (lt-leb 48 (c .before .args .b) (c .if1 .taken))
 returns-2 : tie.Need-returns-2
 returns-2 c = let b = c .before .before .args .b in rw (le-leb 48 b (c .before .if1 .left), lt-leb b 57 (c .if2 .taken))
 
-mul-result : tie.Need-mul-result
-mul-result c = search needs
-
-add-result : tie.Need-add-result
-add-result c = search needs
-
 returns-3 : tie.Need-returns-3
 returns-3 c =
-    let a = c .before .before .before .before .args .a in
-    let b = c .before .before .before .before .args .b in
-    rw (le-leb 48 b (c .before .before .before .if1 .left), le-leb b 57 (c .before .before .if2 .left), c .before .if3 .taken, lt-ltb 0 a (c .if4 .taken))
+    let s = c .before .before in
+    let a = s .before .before .args in
+    rw (le-leb 48 (a .b) (s .before .if1 .left), le-leb (a .b) 57 (s .if2 .left), c .before .if3 .taken, lt-ltb 0 (a .a) (c .if4 .taken))
 
 returns-4 : tie.Need-returns-4
 returns-4 c =
-    let a = c .before .before .before .before .args .a in
-    let b = c .before .before .before .before .args .b in
-    rw (le-leb 48 b (c .before .before .before .if1 .left), le-leb b 57 (c .before .before .if2 .left), c .before .if3 .taken, le-ltb 0 a (c .if4 .left))
-
-mul-result-2 : tie.Need-mul-result-2
-mul-result-2 c = search needs
-
-add-result-2 : tie.Need-add-result-2
-add-result-2 c = search needs
+    let s = c .before .before in
+    let a = s .before .before .args in
+    rw (le-leb 48 (a .b) (s .before .if1 .left), le-leb (a .b) 57 (s .if2 .left), c .before .if3 .taken, le-ltb 0 (a .a) (c .if4 .left))
 
 returns-5 : tie.Need-returns-5
 returns-5 c =
@@ -42,13 +30,4 @@ returns-5 c =
 pub goes-on-spec : {M : Type 1} → statement M
 goes-on-spec =
     tie.close
-    (tie.spec
-    returns
-    returns-2
-    mul-result
-    add-result
-    returns-3
-    returns-4
-    mul-result-2
-    add-result-2
-    returns-5)
+    (tie.spec returns returns-2 (λ c. search needs) (λ c. search needs) returns-3 returns-4 (λ c. search needs) (λ c. search needs) returns-5)

@@ -19,19 +19,10 @@ abbrev μ-loop : tie.MeasureT-loop
 loop-holds : tie.Need-loop-holds Inv-loop μ-loop
 loop-holds c = going-first _ _ _
 
-byte-requires : tie.Need-byte-requires Inv-loop μ-loop
-byte-requires c κs = search needs
-
-goes-on-requires : tie.Need-goes-on-requires Inv-loop μ-loop
-goes-on-requires c κs = search needs
-
 returns : tie.Need-returns Inv-loop μ-loop
 returns c =
     going-stops _ _ _ _ _ (c .before .before .before .before .loop .inv) (c .before .before .before .loop-test .taken) _
     (c .before .before .byte .ensures .is) (sym (c .before .goes-on .ensures) ∙ not-true _ (c .if1 .taken))
-
-mul-value : tie.Need-mul-value Inv-loop μ-loop
-mul-value c = search needs
 
 sub-value : tie.Need-sub-value Inv-loop μ-loop
 sub-value c =
@@ -47,12 +38,6 @@ add-value c =
     let b = c .before .before .byte .result in
     omega (arith, goes-digit (a .most) (ltb (a .at) (l .next)) (l .value) b (sym (c .before .goes-on .ensures) ∙ not-false _ (c .if1 .left)))
 
-add-next : tie.Need-add-next Inv-loop μ-loop
-add-next c = search needs
-
-loop-less : tie.Need-loop-less Inv-loop μ-loop
-loop-less c = search needs
-
 loop-again : tie.Need-loop-again Inv-loop μ-loop
 loop-again c =
     going-more _ _ _ _ _ (c .before .before .before .before .loop .inv) (c .before .before .before .loop-test .taken) _
@@ -64,17 +49,5 @@ returns-2 c = going-ends _ _ _ _ _ (c .before .loop .inv) (c .loop-test .left)
 pub number-at-spec : {M : Type 1} → statement M
 number-at-spec =
     tie.close
-    (tie.spec
-    Inv-loop
-    μ-loop
-    loop-holds
-    byte-requires
-    goes-on-requires
-    returns
-    mul-value
-    sub-value
-    add-value
-    add-next
-    loop-less
-    loop-again
-    returns-2)
+    (tie.spec Inv-loop μ-loop loop-holds (λ c κs. search needs) (λ c κs. search needs) returns (λ c. search needs) sub-value add-value
+    (λ c. search needs) (λ c. search needs) loop-again returns-2)

@@ -11,11 +11,9 @@ put-byte-requires : tie.Need-put-byte-requires
 put-byte-requires c κs =
     told-rest (c .before .before .before .put-decimal .ensures) _ (c .before .before .before .before .before .before .pre)
 
-same-length : tie.Need-same-length
-same-length c = search needs
-
 returns : tie.Need-returns
 returns c = then (c .before .before .before .before .before .before .put-decimal .ensures) (c .before .before .put-byte .ensures)
 
 pub put-number-spec : {M : Type 1} → statement M
-put-number-spec = tie.close (tie.spec put-decimal-requires put-byte-requires same-length returns)
+put-number-spec =
+    tie.close (tie.spec put-decimal-requires put-byte-requires (λ c. search needs) returns)

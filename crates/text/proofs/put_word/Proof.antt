@@ -15,25 +15,20 @@ abbrev μ-loop : tie.MeasureT-loop
 loop-holds : tie.Need-loop-holds Inv-loop μ-loop
 loop-holds c = (search needs, left-first _ _ _)
 
-shared-slice-read-put-byte : tie.Need-shared-slice-read-put-byte Inv-loop μ-loop
-shared-slice-read-put-byte c = search needs
-
 put-byte-requires : tie.Need-put-byte-requires Inv-loop μ-loop
 put-byte-requires c κs =
     let s = c .before .before .before .before .before .before in
     let l = c .before .before .before .loop in
     left-told _ _ (s .pre) (left-is (word-more _ _ (c .before .before .loop-test .taken)) (l .inv .1))
 
-add-i : tie.Need-add-i Inv-loop μ-loop
-add-i c = search needs
-
-loop-less : tie.Need-loop-less Inv-loop μ-loop
-loop-less c = search needs
-
 loop-again : tie.Need-loop-again Inv-loop μ-loop
 loop-again c =
-    let l = c .before .before .before .before .before .before .loop in
-    (search needs, left-more (left-is (word-more _ _ (c .before .before .before .before .before .loop-test .taken)) (l .inv .1)) (c .before .before .put-byte .ensures))
+    let s = c .before .before .before .before .before .before in
+    let l = s .loop in (
+      search needs,
+      left-more (left-is (word-more _ _ (c .before .before .before .before .before .loop-test .taken)) (l .inv .1))
+          (c .before .before .put-byte .ensures),
+    )
 
 same-length : tie.Need-same-length Inv-loop μ-loop
 same-length c = left-same (c .before .loop .inv .1)
@@ -44,14 +39,5 @@ returns c = left-done (left-is (word-done _ _ (c .loop-test .left)) (c .before .
 pub put-word-spec : {M : Type 1} → statement M
 put-word-spec =
     tie.close
-    (tie.spec
-    Inv-loop
-    μ-loop
-    loop-holds
-    shared-slice-read-put-byte
-    put-byte-requires
-    add-i
-    loop-less
-    loop-again
-    same-length
+    (tie.spec Inv-loop μ-loop loop-holds (λ c. search needs) put-byte-requires (λ c. search needs) (λ c. search needs) loop-again same-length
     returns)

@@ -18,33 +18,20 @@ abbrev μ-loop : tie.MeasureT-loop
 loop-holds : tie.Need-loop-holds Inv-loop μ-loop
 loop-holds c = (search needs, stands-first _ _ _)
 
-add-byte : tie.Need-add-byte Inv-loop μ-loop
-add-byte c = search needs
-
-byte-requires : tie.Need-byte-requires Inv-loop μ-loop
-byte-requires c κs = search needs
-
-shared-slice-read-if1 : tie.Need-shared-slice-read-if1 Inv-loop μ-loop
-shared-slice-read-if1 c = search needs
-
 cast-if1 : tie.Need-cast-if1 Inv-loop μ-loop
 cast-if1 c = omega (arith, c .shared-slice-known3 .given (c .before .before .before .loop .j))
 
 returns : tie.Need-returns Inv-loop μ-loop
 returns c =
-    sym (stands-not _ _ _ (c .before .before .before .before .loop .j) (c .before .before .byte .result) (c .before .before .before .loop-test .taken) (c .before .before .byte .ensures .is) (c .if1 .taken))
+    sym (stands-not _ _ _ (c .before .before .before .before .loop .j) (c .before .before .byte .result)
+    (c .before .before .before .loop-test .taken) (c .before .before .byte .ensures .is) (c .if1 .taken))
     ∙ c .before .before .before .before .loop .inv .1
-
-add-j : tie.Need-add-j Inv-loop μ-loop
-add-j c = search needs
-
-loop-less : tie.Need-loop-less Inv-loop μ-loop
-loop-less c = search needs
 
 loop-again : tie.Need-loop-again Inv-loop μ-loop
 loop-again c = (
   search needs,
-  sym (stands-next _ _ _ (c .before .before .before .before .loop .j) (c .before .before .byte .result) (c .before .before .before .loop-test .taken) (c .before .before .byte .ensures .is) (c .if1 .left))
+  sym (stands-next _ _ _ (c .before .before .before .before .loop .j) (c .before .before .byte .result)
+      (c .before .before .before .loop-test .taken) (c .before .before .byte .ensures .is) (c .if1 .left))
       ∙ c .before .before .before .before .loop .inv .1,
 )
 
@@ -54,16 +41,5 @@ returns-2 c = sym (stands-done _ _ _ _ (c .loop-test .left)) ∙ c .before .loop
 pub stands-spec : {M : Type 1} → statement M
 stands-spec =
     tie.close
-    (tie.spec
-    Inv-loop
-    μ-loop
-    loop-holds
-    add-byte
-    byte-requires
-    shared-slice-read-if1
-    cast-if1
-    returns
-    add-j
-    loop-less
-    loop-again
-    returns-2)
+    (tie.spec Inv-loop μ-loop loop-holds (λ c. search needs) (λ c κs. search needs) (λ c. search needs) cast-if1 returns (λ c. search needs)
+    (λ c. search needs) loop-again returns-2)

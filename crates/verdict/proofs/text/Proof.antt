@@ -4,17 +4,9 @@ use Rattle.verdict_text.proofs.Theorems.{verdict-text, printed-as}
 use Rattle.verdict.proofs.text.Statement.{statement}
 use Rattle.verdict.proofs.text.Tie as tie
 
-slice-aggregate-text : tie.Need-slice-aggregate-text
-slice-aggregate-text c = search needs
-
-text-requires : tie.Need-text-requires
-text-requires c κs = search needs
-
-same-length : tie.Need-same-length
-same-length c = search needs
-
 returns : tie.Need-returns
 returns c = λ file f. printed-as _ _ verdict-text file _ _ _ (c .before .before .text .ensures file f)
 
 pub text-spec : {M : Type 1} → statement M
-text-spec = tie.close (tie.spec slice-aggregate-text text-requires same-length returns)
+text-spec =
+    tie.close (tie.spec (λ c. search needs) (λ c κs. search needs) (λ c. search needs) returns)

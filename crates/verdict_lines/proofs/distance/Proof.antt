@@ -7,9 +7,6 @@ use Rattle.verdict_lines.proofs.distance.Tie as tie
 cast-result : tie.Need-cast-result
 cast-result c = let z = c .before .args .z in let f = c .before .fits .z in cast-up z f (up z f (c .if1 .taken))
 
-returns : tie.Need-returns
-returns c = search needs
-
 cast-result-2 : tie.Need-cast-result-2
 cast-result-2 c = cast-wide (c .before .args .z) (c .before .fits .z)
 
@@ -24,4 +21,4 @@ returns-2 c = let z = c .before .args .z in let f = c .before .fits .z in is-awa
 
 pub distance-spec : {M : Type 1} → statement M
 distance-spec =
-    tie.close (tie.spec cast-result returns cast-result-2 sub-result cast-result-3 returns-2)
+    tie.close (tie.spec cast-result (λ c. search needs) cast-result-2 sub-result cast-result-3 returns-2)

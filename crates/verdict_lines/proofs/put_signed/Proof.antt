@@ -5,41 +5,41 @@ use Rattle.verdict_lines.proofs.Signs.{prints-up, prints-down}
 use Rattle.verdict_lines.proofs.put_signed.Statement.{statement}
 use Rattle.verdict_lines.proofs.put_signed.Tie as tie
 
-distance-requires : tie.Need-distance-requires
-distance-requires c κs = search needs
-
 put-decimal-requires : tie.Need-put-decimal-requires
-put-decimal-requires c κs = rw (prints-up (c .before .before .before .before .args .z) (c .before .before .before .before .fits .z) (c .before .before .distance .result) (c .before .before .distance .ensures) (c .before .if1 .taken)) at (c .before .before .before .before .pre)
-
-same-length : tie.Need-same-length
-same-length c = search needs
+put-decimal-requires c κs = rw (prints-up (c .before .before .before .before .args .z) (c .before .before .before .before .fits .z)
+    (c .before .before .distance .result) (c .before .before .distance .ensures)
+    (c .before .if1 .taken)) at (c .before .before .before .before .pre)
 
 returns : tie.Need-returns
-returns c = rw (prints-up (c .before .before .before .before .before .before .before .args .z) (c .before .before .before .before .before .before .before .fits .z) (c .before .before .before .before .before .distance .result) (c .before .before .before .before .before .distance .ensures) (c .before .before .before .before .if1 .taken)) (c .before .before .put-decimal .ensures)
+returns c =
+    let s = c .before .before .before .before .before .before .before in
+    rw (prints-up (s .args .z) (s .fits .z) (c .before .before .before .before .before .distance .result)
+    (c .before .before .before .before .before .distance .ensures) (c .before .before .before .before .if1 .taken))
+    (c .before .before .put-decimal .ensures)
 
 put-byte-requires : tie.Need-put-byte-requires
-put-byte-requires c κs = told-first _ _ (rw (prints-down (c .before .before .before .before .args .z) (c .before .before .before .before .fits .z) (c .before .before .distance .result) (c .before .before .distance .ensures) (c .before .if1 .left)) at (c .before .before .before .before .pre))
+put-byte-requires c κs = told-first _ _ (rw (prints-down (c .before .before .before .before .args .z)
+    (c .before .before .before .before .fits .z) (c .before .before .distance .result) (c .before .before .distance .ensures)
+    (c .before .if1 .left)) at (c .before .before .before .before .pre))
 
 put-decimal-requires-2 : tie.Need-put-decimal-requires-2
 put-decimal-requires-2 c κs =
-    told-rest (c .before .before .before .put-byte .ensures) _ (rw (prints-down (c .before .before .before .before .before .before .before .before .args .z) (c .before .before .before .before .before .before .before .before .fits .z) (c .before .before .before .before .before .before .distance .result) (c .before .before .before .before .before .before .distance .ensures) (c .before .before .before .before .before .if1 .left)) at (c .before .before .before .before .before .before .before .before .pre))
-
-same-length-2 : tie.Need-same-length-2
-same-length-2 c = search needs
+    let s = c .before .before .before .before .before .before .before .before in
+    told-rest (c .before .before .before .put-byte .ensures) _
+    (rw (prints-down (s .args .z) (s .fits .z) (c .before .before .before .before .before .before .distance .result)
+    (c .before .before .before .before .before .before .distance .ensures)
+    (c .before .before .before .before .before .if1 .left)) at (s .pre))
 
 returns-2 : tie.Need-returns-2
 returns-2 c =
-    rw (prints-down (c .before .before .before .before .before .before .before .before .before .before .before .args .z) (c .before .before .before .before .before .before .before .before .before .before .before .fits .z) (c .before .before .before .before .before .before .before .before .before .distance .result) (c .before .before .before .before .before .before .before .before .before .distance .ensures) (c .before .before .before .before .before .before .before .before .if1 .left)) (then (c .before .before .before .before .before .before .put-byte .ensures) (c .before .before .put-decimal2 .ensures))
+    let s = c .before .before .before .before .before .before .before .before .before .before .before in
+    rw (prints-down (s .args .z) (s .fits .z) (c .before .before .before .before .before .before .before .before .before .distance .result)
+    (c .before .before .before .before .before .before .before .before .before .distance .ensures)
+    (c .before .before .before .before .before .before .before .before .if1 .left))
+    (then (c .before .before .before .before .before .before .put-byte .ensures) (c .before .before .put-decimal2 .ensures))
 
 pub put-signed-spec : {M : Type 1} → statement M
 put-signed-spec =
     tie.close
-    (tie.spec
-    distance-requires
-    put-decimal-requires
-    same-length
-    returns
-    put-byte-requires
-    put-decimal-requires-2
-    same-length-2
-    returns-2)
+    (tie.spec (λ c κs. search needs) put-decimal-requires (λ c. search needs) returns put-byte-requires put-decimal-requires-2
+    (λ c. search needs) returns-2)

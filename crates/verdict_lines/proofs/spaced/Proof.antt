@@ -19,31 +19,27 @@ loop-holds : tie.Need-loop-holds Inv-loop μ-loop
 loop-holds c = (search needs, left-first _ _ _)
 
 put-byte-requires : tie.Need-put-byte-requires Inv-loop μ-loop
-put-byte-requires c κs = left-told _ _ (c .before .before .before .before .before .pre) (left-is (spaced-more _ _ (c .before .loop-test .taken)) (c .before .before .loop .inv .1))
-
-mul-put-decimal : tie.Need-mul-put-decimal Inv-loop μ-loop
-mul-put-decimal c = search needs
-
-shared-slice-read-put-decimal : tie.Need-shared-slice-read-put-decimal Inv-loop μ-loop
-shared-slice-read-put-decimal c = search needs
+put-byte-requires c κs = left-told _ _ (c .before .before .before .before .before .pre)
+    (left-is (spaced-more _ _ (c .before .loop-test .taken)) (c .before .before .loop .inv .1))
 
 cast-put-decimal : tie.Need-cast-put-decimal Inv-loop μ-loop
 cast-put-decimal c = omega (arith, c .shared-slice-known2 .given (c .before .before .before .before .before .before .before .loop .i))
 
 put-decimal-requires : tie.Need-put-decimal-requires Inv-loop μ-loop
-put-decimal-requires c κs = left-told _ _ (c .before .before .before .before .before .before .before .before .before .before .pre) (left-more (left-is (spaced-more _ _ (c .before .before .before .before .before .before .loop-test .taken)) (c .before .before .before .before .before .before .before .loop .inv .1)) (c .before .before .before .before .put-byte .ensures))
-
-add-i : tie.Need-add-i Inv-loop μ-loop
-add-i c = search needs
-
-loop-less : tie.Need-loop-less Inv-loop μ-loop
-loop-less c = search needs
+put-decimal-requires c κs =
+    let s = c .before .before .before .before .before .before .before .before .before .before in
+    left-told _ _ (s .pre) (left-more (left-is (spaced-more _ _ (c .before .before .before .before .before .before .loop-test .taken))
+    (c .before .before .before .before .before .before .before .loop .inv .1)) (c .before .before .before .before .put-byte .ensures))
 
 loop-again : tie.Need-loop-again Inv-loop μ-loop
-loop-again c = (
-  search needs,
-  left-more (left-more (left-is (spaced-more _ _ (c .before .before .before .before .before .before .before .before .before .loop-test .taken)) (c .before .before .before .before .before .before .before .before .before .before .loop .inv .1)) (c .before .before .before .before .before .before .before .put-byte .ensures)) (c .before .before .put-decimal .ensures),
-)
+loop-again c =
+    let mid = c .before .before .before .before .before in
+    let s = mid .before .before .before .before .before in (
+      search needs,
+      left-more (left-more (left-is (spaced-more _ _ (mid .before .before .before .before .loop-test .taken))
+          (s .loop .inv .1)) (mid .before .before .put-byte .ensures))
+          (c .before .before .put-decimal .ensures),
+    )
 
 same-length : tie.Need-same-length Inv-loop μ-loop
 same-length c = left-same (c .before .loop .inv .1)
@@ -54,17 +50,5 @@ returns c = left-done (left-is (spaced-done _ _ (c .loop-test .left)) (c .before
 pub spaced-spec : {M : Type 1} → statement M
 spaced-spec =
     tie.close
-    (tie.spec
-    Inv-loop
-    μ-loop
-    loop-holds
-    put-byte-requires
-    mul-put-decimal
-    shared-slice-read-put-decimal
-    cast-put-decimal
-    put-decimal-requires
-    add-i
-    loop-less
-    loop-again
-    same-length
-    returns)
+    (tie.spec Inv-loop μ-loop loop-holds put-byte-requires (λ c. search needs) (λ c. search needs) cast-put-decimal put-decimal-requires
+    (λ c. search needs) (λ c. search needs) loop-again same-length returns)

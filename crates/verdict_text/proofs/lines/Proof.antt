@@ -23,12 +23,6 @@ mul-i c = omega (arith, c .before .before .before .before .pre .0 .few)
 add-e : tie.Need-add-e Inv-loop μ-loop
 add-e c = omega (arith, c .before .before .before .before .pre .0 .few)
 
-mul-line : tie.Need-mul-line Inv-loop μ-loop
-mul-line c = search needs
-
-sub-line : tie.Need-sub-line Inv-loop μ-loop
-sub-line c = search needs
-
 part-line-start : tie.Need-part-line-start Inv-loop μ-loop
 part-line-start c = omega (arith, c .before .before .before .before .before .pre .0 .room)
 
@@ -36,16 +30,19 @@ part-line-end : tie.Need-part-line-end Inv-loop μ-loop
 part-line-end c = omega (arith, c .before .before .before .before .before .pre .0 .room)
 
 line-requires : tie.Need-line-requires Inv-loop μ-loop
-line-requires c κs = part-told _ _ _ _ _ (c .before .before .before .before .before .before .pre .0) (c .before .before .loop-test .taken) (left-told _ _ (c .before .before .before .before .before .before .pre .1) (left-is (lines-more _ _ _ _ (c .before .before .loop-test .taken)) (c .before .before .before .loop .inv .1)))
-
-add-l : tie.Need-add-l Inv-loop μ-loop
-add-l c = search needs
-
-loop-less : tie.Need-loop-less Inv-loop μ-loop
-loop-less c = search needs
+line-requires c κs =
+    let s = c .before .before .before .before .before .before in
+    part-told _ _ _ _ _ (s .pre .0) (c .before .before .loop-test .taken)
+    (left-told _ _ (s .pre .1) (left-is (lines-more _ _ _ _ (c .before .before .loop-test .taken))
+    (c .before .before .before .loop .inv .1)))
 
 loop-again : tie.Need-loop-again Inv-loop μ-loop
-loop-again c = (search needs, left-more (left-is (lines-more _ _ _ _ (c .before .before .before .before .before .loop-test .taken)) (c .before .before .before .before .before .before .loop .inv .1)) (part-puts _ _ _ (c .before .before .line .ensures)))
+loop-again c =
+    let s = c .before .before .before .before .before .before in (
+      search needs,
+      left-more (left-is (lines-more _ _ _ _ (c .before .before .before .before .before .loop-test .taken)) (s .loop .inv .1))
+          (part-puts _ _ _ (c .before .before .line .ensures)),
+    )
 
 same-length : tie.Need-same-length Inv-loop μ-loop
 same-length c = left-same (c .before .loop .inv .1)
@@ -56,19 +53,5 @@ returns c = left-done (left-is (lines-done _ _ _ _ (c .loop-test .left)) (c .bef
 pub lines-spec : {M : Type 1} → statement M
 lines-spec =
     tie.close
-    (tie.spec
-    Inv-loop
-    μ-loop
-    loop-holds
-    mul-i
-    add-e
-    mul-line
-    sub-line
-    part-line-start
-    part-line-end
-    line-requires
-    add-l
-    loop-less
-    loop-again
-    same-length
-    returns)
+    (tie.spec Inv-loop μ-loop loop-holds mul-i add-e (λ c. search needs) (λ c. search needs) part-line-start part-line-end line-requires
+    (λ c. search needs) (λ c. search needs) loop-again same-length returns)

@@ -17,20 +17,22 @@ abbrev μ-loop : tie.MeasureT-loop
 loop-holds : tie.Need-loop-holds Inv-loop μ-loop
 loop-holds c = (search needs, laid-first _ _ _)
 
-progress-requires : tie.Need-progress-requires Inv-loop μ-loop
-progress-requires c κs = search needs
-
 lines-under-requires : tie.Need-lines-under-requires Inv-loop μ-loop
-lines-under-requires c κs = (c .before .before .before .before .before .before .before .pre .0, omega (arith, c .before .before .before .before .before .before .before .pre .1, c .before .before .loop-test .taken), laid-small _ _ (omega (arith, c .before .before .before .before .before .before .before .pre .1, c .before .before .loop-test .taken)) (c .before .before .before .loop .inv .1))
-
-add-k : tie.Need-add-k Inv-loop μ-loop
-add-k c = search needs
-
-loop-less : tie.Need-loop-less Inv-loop μ-loop
-loop-less c = search needs
+lines-under-requires c κs =
+    let s = c .before .before .before .before .before .before .before in (
+      s .pre .0,
+      omega (arith, s .pre .1, c .before .before .loop-test .taken),
+      laid-small _ _
+          (omega (arith, s .pre .1, c .before .before .loop-test .taken)) (c .before .before .before .loop .inv .1),
+    )
 
 loop-again : tie.Need-loop-again Inv-loop μ-loop
-loop-again c = (search needs, laid-more _ _ (c .before .before .before .before .before .loop-test .taken) (c .before .before .before .before .before .before .loop .inv .1) (c .before .before .lines-under .ensures))
+loop-again c =
+    let s = c .before .before .before .before .before .before in (
+      search needs,
+      laid-more _ _ (c .before .before .before .before .before .loop-test .taken) (s .loop .inv .1)
+          (c .before .before .lines-under .ensures),
+    )
 
 same-length : tie.Need-same-length Inv-loop μ-loop
 same-length c = lays-same (c .before .loop .inv .1)
@@ -41,14 +43,5 @@ returns c = laid-done _ _ (c .before .loop .inv .0) (c .loop-test .left) (c .bef
 pub table-spec : {M : Type 1} → statement M
 table-spec =
     tie.close
-    (tie.spec
-    Inv-loop
-    μ-loop
-    loop-holds
-    progress-requires
-    lines-under-requires
-    add-k
-    loop-less
-    loop-again
-    same-length
-    returns)
+    (tie.spec Inv-loop μ-loop loop-holds (λ c κs. search needs) lines-under-requires (λ c. search needs) (λ c. search needs) loop-again
+    same-length returns)

@@ -8,16 +8,13 @@ use Rattle.whole_verdict.proofs.text.Tie as tie
 slice-aggregate-whole-text : tie.Need-slice-aggregate-whole-text
 slice-aggregate-whole-text c = came-whole _ _ _ (c .before .before .before .before .pre .1)
 
-whole-text-requires : tie.Need-whole-text-requires
-whole-text-requires c κs = search needs
-
-same-length : tie.Need-same-length
-same-length c = search needs
-
 returns : tie.Need-returns
 returns c =
-    let s = c .before .before .before .before .before .before .before .before in
-    λ file f. program-prints _ _ (any-text _ (s .pre .0)) (s .args .plan .now) file _ _ (s .args .p) _ (s .pre .2) (s .pre .3) (c .before .before .whole-text .ensures) f
+    let start = c .before .before .before .before .before .before .before .before in
+    let s = start in
+    λ file f. program-prints _ _ (any-text _ (s .pre .0)) (s .args .plan .now) file _ _ (s .args .p) _ (s .pre .2) (s .pre .3)
+    (c .before .before .whole-text .ensures) f
 
 pub text-spec : {M : Type 1} → statement M
-text-spec = tie.close (tie.spec slice-aggregate-whole-text whole-text-requires same-length returns)
+text-spec =
+    tie.close (tie.spec slice-aggregate-whole-text (λ c κs. search needs) (λ c. search needs) returns)
