@@ -9,7 +9,9 @@ use crate::lines::highest_k;
 use crate::plan::{file_of, row_of, Plan};
 use crate::probe::{hex_of_bytes, spaced};
 use crate::questions::{good_plan_of_file, good_plan_of_row};
-use crate::random::{any_size, good_cuts, good_plan, plan_for_verdict, Random, Size};
+use crate::random::{
+    any_size, few_cuts, good_cuts, good_plan, plan_for_verdict, plan_with_slack, Random, Size,
+};
 use crate::verdict::every_list;
 
 // ------------------------------------------------------------------- questions
@@ -397,4 +399,13 @@ pub fn plan_and_cuts(seed: u64, case: u64) -> (Plan, Vec<Pair>) {
     let plan = good_plan(r, size);
     let cuts = good_cuts(r, &plan);
     (plan, cuts)
+}
+
+/// A good plan and good cut lists of at most four pairs.
+pub fn plan_and_few_cuts(seed: u64, case: u64, lists: usize) -> (Plan, Vec<Vec<Pair>>) {
+    let mut random = Random::of_case(seed ^ 0x6C6F7373, case);
+    let r = &mut random;
+    let plan = plan_with_slack(r);
+    let lists = (0..lists).map(|_| few_cuts(r, &plan)).collect();
+    (plan, lists)
 }

@@ -6,6 +6,7 @@ use crate::cases;
 use crate::cuts::{cut_list_of_numbers, Pair};
 use crate::cycle::cycle;
 use crate::lines::{deep_program, replay_program, verdict_program};
+use crate::losses;
 use crate::plan::{file_of, row_of, Link, Message, Place, Plan};
 use crate::probe::{answer, hex_of_bytes, spaced};
 use crate::questions::{self, good_plan_of_row, numbers_of};
@@ -62,6 +63,7 @@ pub fn run() -> (usize, usize) {
     verdicts(&mut tests);
     laws(&mut tests);
     generator(&mut tests);
+    lost_messages(&mut tests);
     (tests.passed, tests.failed)
 }
 
@@ -996,4 +998,36 @@ fn generator(tests: &mut Tests) {
     let without = [String::from("verdict")];
     let none = (0..500).all(|case| cases::question(4, case, &without).0 != "verdict");
     tests.holds("without verdict", none);
+}
+
+// ------------------------------------------------------------------- lost messages
+
+fn lost_messages(tests: &mut Tests) {
+    // In B message 0 is robust (slack 2) and message 1 fragile (slack -1).
+    let pairs = [(0, 0), (1, 0), (2, 0), (0, 1), (3, 2)];
+    let weights = pairs.map(|pair| losses::weights(&b(), pair));
+    tests.holds("weights in B", weights == [(2, 1), (1, 1), (0, 0), (0, 1), (0, 1)]);
+    // In A both places 0 are robust (slack 0), and places 1 fragile (no second path).
+    let weights = [(0, 0), (1, 0), (1, 1), (2, 1)].map(|pair| losses::weights(&a(), pair));
+    tests.holds("weights in A", weights == [(1, 1), (0, 1), (1, 2), (0, 1)]);
+    tests.holds("what a list can lose", losses::losses(9, 500).is_ok());
+    for (reading, cases) in losses::WRONG {
+        for seed in 1..=3 {
+            let name = format!("{:?} is found false, seed {}, {} cases", reading, seed, cases);
+            tests.holds(&name, losses::found_false(seed, cases, reading).is_some());
+        }
+    }
+    for reading in losses::NOT_WRONG {
+        let name = format!("{:?} is not wrong", reading);
+        tests.holds(&name, losses::found_false(1, 300, reading).is_none());
+    }
+    let mut good = true;
+    for case in 0..400 {
+        let (plan, lists) = cases::plan_and_few_cuts(10, case, losses::LISTS);
+        good = good && questions::good_plan_of_row(&row_of(&plan)).is_ok();
+        good = good && lists.iter().all(|list| {
+            list.len() <= 4 && cut_list_of_numbers(&plan, &numbers_of(list)).is_ok()
+        });
+    }
+    tests.holds("plans with slack and short cut lists are good", good);
 }

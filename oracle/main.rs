@@ -10,6 +10,7 @@ mod cycle;
 mod examples;
 mod good;
 mod lines;
+mod losses;
 mod plan;
 mod probe;
 mod questions;
@@ -39,7 +40,8 @@ oracle: document 01 once more, independent, simple and slow
                                     what it prints with the program NAME (replay, verdict or deep)
   oracle bench-plan KIND SEED       writes a plan file for benchmarks; KIND is network or chain (64 links,
                                     64 slots, 32 messages), small or wide (as document 000 evaluates)
-  oracle theorem SEED N             tries the promises about every replay on N random cases
+  oracle theorem SEED N             tries the promises about every replay on N random cases, and
+                                    what a list can lose on N more, with 12 lists each
   oracle help                       this
 
 generate, kinds and compare take --without NAME (again and again), where NAME is read,
@@ -309,7 +311,43 @@ fn theorems(seed: u64, number: u64) -> Result<bool, String> {
             println!("    slack below 0 and yet in time: {}", counts.negative_slack_in_time);
             println!("untouched under cuts: {}", counts.untouched);
             println!("  while others were diverted: {}", counts.untouched_though_others_diverted);
+            losses_of(seed, number)
+        }
+    }
+}
+
+fn losses_of(seed: u64, number: u64) -> Result<bool, String> {
+    match losses::losses(seed, number) {
+        Err(text) => {
+            println!("FAILED\n{}", text);
+            Ok(false)
+        }
+        Ok((few, any)) => {
+            println!("lost: only what is both touched and stripped; the bounds T, C, H and L hold");
+            println!("{} plans, {} lists of at most 4 pairs", few.plans, few.lists);
+            print_losses(&few, &["T", "C", "H", "L"]);
+            println!("{} plans, {} lists of any length, only whole", any.plans, any.lists);
+            print_losses(&any, &["L"]);
             Ok(true)
         }
+    }
+}
+
+fn print_losses(counts: &losses::Counts, bounds: &[&str]) {
+    println!("  robust places: {}", counts.robust_places);
+    println!("    whose second path meets another message's: {}", counts.shared);
+    println!("  messages with several: {}", counts.several_robust);
+    println!(
+        "  under the lists: touched {}, stripped {}, both {}, lost {}",
+        counts.touched, counts.stripped, counts.both, counts.lost
+    );
+    println!("    lost with no fragile place touched: {}", counts.lost_by_second);
+    println!("      by cuts after the slots of its robust places: {}", counts.lost_by_late_cut);
+    for name in bounds {
+        let which = losses::BOUNDS.iter().position(|other| other == name).unwrap();
+        println!(
+            "  {} held {} times, and exactly, with something lost, {}",
+            name, counts.tried[which], counts.met[which]
+        );
     }
 }

@@ -4,6 +4,7 @@
 
 use crate::cuts::Pair;
 use crate::plan::{Link, Message, Place, Plan};
+use crate::slack::d;
 
 /// splitmix64.
 pub struct Random {
@@ -575,6 +576,129 @@ pub fn limit_plan(r: &mut Random, full: bool) -> Plan {
     Plan { vertices: 64, timeout: 64, links: numbered, messages }
 }
 
+/// A plan for the promise about lost messages: with many places whose second path has
+/// slack, often several for a message, with second paths that messages share, and with
+/// slacks about zero.
+pub fn plan_with_slack(r: &mut Random) -> Plan {
+    let plan = match r.below(100) {
+        0..=24 => {
+            let bounds =
+                Bounds { active: (3, 6), links: (4, 16), messages: (1, 6), timeout: (3, 16) };
+            network_plan(r, &bounds)
+        }
+        25..=49 => {
+            // Long paths and few messages: many places with slack on one path.
+            let bounds =
+                Bounds { active: (6, 12), links: (12, 36), messages: (1, 4), timeout: (8, 40) };
+            network_plan(r, &bounds)
+        }
+        50..=92 => ladder_plan(r),
+        93..=97 => good_plan(r, Size::Small),
+        98 => good_plan(r, Size::Middle),
+        _ => good_plan(r, Size::Large),
+    };
+    if r.percent(70) {
+        retimed(r, plan)
+    } else {
+        plan
+    }
+}
+
+/// One to three chains, each with a side vertex to which its vertices are linked and which
+/// is linked to its end or to a vertex before it: the messages of a chain share their
+/// second paths over it, and some of these come back to the first path. A few messages
+/// have their first path over the side vertex.
+fn ladder_plan(r: &mut Random) -> Plan {
+    let mut links = Vec::new();
+    let mut firsts: Vec<Vec<(usize, Option<Vec<usize>>)>> = Vec::new();
+    let mut vertices = 0;
+    for _ in 0..r.between(1, 3) {
+        let length = r.between(1, 4);
+        let (begin, side) = (vertices, vertices + length + 1);
+        vertices = side + 1;
+        // Where the side vertex leads back to.
+        let joins = if r.percent(60) { length } else { r.between(1, length) };
+        let chain = links.len();
+        for step in 0..length {
+            links.push(Link { from: begin + step, to: begin + step + 1 });
+        }
+        for step in 0..length {
+            links.push(Link { from: begin + step, to: side });
+        }
+        links.push(Link { from: side, to: begin + joins });
+        let along = |from: usize| chain + from..chain + length;
+        let around = |from: usize| {
+            let mut path = vec![chain + length + from, chain + 2 * length];
+            path.extend(along(joins));
+            path
+        };
+        for _ in 0..*r.pick(&[1, 1, 2, 3]) {
+            let from = r.below(joins);
+            firsts.push(if r.percent(80) {
+                let places = from..length;
+                places
+                    .map(|step| {
+                        let second = step < joins && r.percent(85);
+                        (chain + step, if second { Some(around(step)) } else { None })
+                    })
+                    .collect()
+            } else {
+                let mut path: Vec<_> = around(from).into_iter().map(|link| (link, None)).collect();
+                path[0].1 = Some(along(from).collect());
+                path
+            });
+        }
+    }
+    r.shuffle(&mut firsts);
+    let timeout = r.between(6, 32);
+    let load = vec![0; links.len()];
+    let mut ground = Ground { links, load, held: Vec::new(), timeout };
+    let mut messages = Vec::new();
+    for first in firsts {
+        let path: Vec<usize> = first.iter().map(|(link, _)| *link).collect();
+        if let Some(slots) = free_slots(r, &ground, &path) {
+            let mut places = Vec::new();
+            for ((link, second), slot) in first.into_iter().zip(slots) {
+                ground.held.push((link, slot));
+                places.push(Place { link, slot, second });
+            }
+            messages.push(Message { places });
+        }
+    }
+    if messages.is_empty() {
+        return ladder_plan(r); // no path found its slots
+    }
+    Plan { vertices, timeout, links: ground.links, messages }
+}
+
+/// The same plan with another timeout, as far as the slots let it: one at which a second
+/// path, or the one with the least slack, has slack -1, 0, 1 or a little more, or one at
+/// which a second path takes about all the time there is.
+fn retimed(r: &mut Random, mut plan: Plan) -> Plan {
+    let mut ends = Vec::new();
+    let mut last = 0;
+    for (m, message) in plan.messages.iter().enumerate() {
+        for place in &message.places {
+            last = last.max(place.slot);
+            if let Some(second) = &place.second {
+                ends.push((place.slot + second.len(), place.slot + d(&plan, m, second)));
+            }
+        }
+    }
+    if !ends.is_empty() {
+        let (soonest, latest) = *r.pick(&ends);
+        let last_of_all = ends.iter().map(|(_, latest)| *latest).max().unwrap();
+        let more = *r.pick(&[0, 0, 1, 1, 2, 4]);
+        let end = match r.below(10) {
+            0..=2 => last_of_all + more - 1,
+            3..=6 => latest + more - 1,
+            _ => r.between(soonest, latest),
+        };
+        plan.timeout = end.clamp(last + 1, 64);
+    }
+    plan
+}
+
 // ----------------------------------------------------------------- cut lists
 
 /// A good cut list: mostly links that somebody uses, at slots that matter.
@@ -632,6 +756,47 @@ pub fn good_cuts(r: &mut Random, plan: &Plan) -> Vec<Pair> {
         let slot = r.below(plan.timeout);
         for pair in cuts.iter_mut() {
             pair.0 = slot;
+        }
+    }
+    cuts.sort();
+    cuts
+}
+
+/// A good cut list of at most four pairs: mostly about one message, links of its first
+/// path at its slot or before, and links of its second paths, often late.
+pub fn few_cuts(r: &mut Random, plan: &Plan) -> Vec<Pair> {
+    let number = *r.weighted(&[(3, 0), (20, 1), (34, 2), (25, 3), (18, 4)]);
+    let number = number.min(plan.links.len());
+    let last = plan.timeout - 1;
+    let mut message = r.pick(&plan.messages);
+    let mut cuts: Vec<Pair> = Vec::new();
+    for _ in 0..4 * number {
+        if r.percent(25) {
+            message = r.pick(&plan.messages);
+        }
+        let place = r.pick(&message.places);
+        let second = place.second.as_ref().filter(|_| r.percent(50));
+        cuts.push(if r.percent(8) {
+            (r.place_below(plan.timeout), r.below(plan.links.len()))
+        } else if let Some(second) = second {
+            let slot = match r.below(4) {
+                0 => r.below(plan.timeout),
+                1 => r.below(place.slot + 1),
+                _ => (place.slot + r.below(5)).min(last),
+            };
+            (slot, *r.pick(second))
+        } else {
+            let slot = match r.below(10) {
+                0..=3 => place.slot,
+                4 | 5 => 0,
+                6 => (place.slot + 1).min(last),
+                _ => r.below(place.slot + 1),
+            };
+            (slot, place.link)
+        });
+        cuts = without_repeats(cuts);
+        if cuts.len() == number {
+            break;
         }
     }
     cuts.sort();

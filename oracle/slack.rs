@@ -3,14 +3,14 @@
 use crate::plan::Plan;
 
 /// "a(e) is the number of entries that the whole table has on e, m's own included".
-fn a(plan: &Plan, e: usize) -> usize {
+pub fn a(plan: &Plan, e: usize) -> usize {
     let entries = plan.messages.iter().flat_map(|message| &message.places);
     entries.filter(|place| place.link == e).count()
 }
 
 /// "b(m, e) the number of messages lower than m with at least one second path
 /// through e".
-fn b(plan: &Plan, m: usize, e: usize) -> usize {
+pub fn b(plan: &Plan, m: usize, e: usize) -> usize {
     let lower = plan.messages[..m].iter();
     lower
         .filter(|message| {
