@@ -1,8 +1,6 @@
 // The probe: every public question of the libraries as a line of text, answered in one line, in order, until the input ends
-// (docs/TESTING.md). It is for tests, above all for the comparison with the second program: it is proved to be safe and to end, and
-// what it writes is compared. The questions are in questions.rt; here is how lines come in and answers go out. It leans on `probe_words`.
-mod questions;
-
+// (docs/TESTING.md). It is for tests, above all for the comparison with the second program. What is answered to a line is `probe_dispatch`'s;
+// here is how lines come in and answers go out, proved to be safe and to end. It leans on `probe_words` too.
 ghost use Prim.Native.Nat.{_≤_};
 ghost use lib.ListN.{length};
 ghost use Rattle.probe.specs.Stands.{Stands};
@@ -90,10 +88,10 @@ fn answer(
         return waiting;
     }
     if waiting <= out.len() / 2 {
-        return questions::answer(line, given, lent, file, out, waiting);
+        return probe_dispatch::answer(line, given, lent, file, out, waiting);
     }
     flush(out, waiting);
-    questions::answer(line, given, lent, file, out, 0)
+    probe_dispatch::answer(line, given, lent, file, out, 0)
 }
 
 // One line answered, or more input read.

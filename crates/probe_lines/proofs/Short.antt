@@ -11,7 +11,8 @@ use Rattle.scope.specs.Outcome.{Outcome, gives, refused}
 use Rattle.text.specs.Text.{Told}
 use Rattle.text.proofs.Decimal.{decimal-all}
 use Rattle.probe_words.specs.Words.{hexWord, pairsOf, filler, filler16, allAre}
-use Rattle.probe_lines.specs.Answers.{ending, okText, refusedText, numbersEnd, bytesEnd, told, toldBytes, slackLine, refusedLine, resistantLine, failingLine, numbersOf, partLine, placeLine, Near}
+use Rattle.probe_lines.specs.Answers.{ending, okText, refusedText, numbersEnd, bytesEnd, told, toldBytes, Near}
+use Rattle.probe_lines.specs.Answers.{slackLine, refusedLine, resistantLine, failingLine, numbersOf, partLine, placeLine}
 
 spaced-short : (s : List ℕ) → length (spaced s) ≤ 21 * length s
 unfolding spaced

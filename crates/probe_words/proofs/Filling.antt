@@ -17,7 +17,9 @@ Filling x b c i = Left (replicate (length b) x) b 0 (replicate (length b - i) x)
 
 module _ (x : ℕ) (b : List ℕ) where
   pub filling-first : Filling x b b 0
-  filling-first = let e : length b ≡ length b - 0 = omega arith in left-is (ap (λ (k : ℕ). replicate k x) e) (left-first (replicate (length b) x) b 0)
+  filling-first =
+      let e : length b ≡ length b - 0 = omega arith in
+      left-is (ap (λ (k : ℕ). replicate k x) e) (left-first (replicate (length b) x) b 0)
 
   pub filling-more : (c : List ℕ) (i : ℕ) → i < length c → Filling x b c i → Filling x b (set c i x) (i + 1)
   filling-more c i h l =

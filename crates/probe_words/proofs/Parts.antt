@@ -123,7 +123,8 @@ pub hex-some : (n m : ℕ) (s : List ℕ) → m ≡ leastOf n (length s) → (m 
 hex-some n m s p z =
     let r = least-right n (length s) in
     ap (λ (k : ℕ). pairsOf (take k s)) p ∙ ap pairsOf (take-least n s)
-    ∙ some (take n s) (let l = length-take-le m s (omega arith) in let e = ap length (ap (λ (k : ℕ). take k s) p ∙ take-least n s) in λ q. z (omega arith))
+    ∙ some (take n s)
+    (let l = length-take-le m s (omega arith) in let e = ap length (ap (λ (k : ℕ). take k s) p ∙ take-least n s) in λ q. z (omega arith))
   where
     some : (t : List ℕ) → (length t ≡ 0 → ⊥) → pairsOf t ≡ hexWord t
     some [] q = absurd (q refl)
@@ -133,7 +134,8 @@ hex-some n m s p z =
 pub puts-none : (s b : List ℕ) → [] ≡ s → Puts s b b 0 0
 puts-none s b e = rw e at (left-done (left-first [] b 0))
 
-pub moved : (b c : List ℕ) (from to n i : ℕ) → from < to → to ≤ length b → n ≡ to - from → n ≤ i → Moving n from b c i → Puts (partOf b from to) b c 0 n
+pub moved : (b c : List ℕ) (from to n i : ℕ) → from < to → to ≤ length b → n ≡ to - from → n ≤ i → Moving n from b c i →
+    Puts (partOf b from to) b c 0 n
 moved b c from to n i h l e d m =
     let p = moving-done n from b (omega arith) c i d m in
     let is : take n (drop from b) ≡ partOf b from to = ap (λ (k : ℕ). take k (drop from b)) e ∙ part-is b from to (omega arith) l in

@@ -73,16 +73,29 @@ pairValue word i = hexOf (byteAt word i) * 16 + hexOf (byteAt word (i + 1))
 abbrev pub isDash : List ℕ → Bool
 isDash word = eqb (length word) 1 && eqb (byteAt word 0) 45
 
--- the bytes of a word: pairs of digits, at least one, and nothing else; or `-`
+-- the bytes of a word, as many as there is room for: pairs of digits, at least one, and nothing else; or `-`
+abbrev pub bytesIn : ℕ → List ℕ → List ℕ
+bytesIn room word = items (pairValue word) (pairNext word) room 0
+
+abbrev pub isBytes : ℕ → List ℕ → Bool
+isBytes room word = isDash word || (ltb 0 (length word) && leb (length word) (itemsEnd (pairNext word) room 0))
+
 pub record Bytes (word entry exit : List ℕ) (r : Count) : Type 0 where
-  pub puts : Puts (items (pairValue word) (pairNext word) (length entry) 0) entry exit 0 (r .n)
-  pub good : r .good ≡ (isDash word || (ltb 0 (length word) && leb (length word) (itemsEnd (pairNext word) (length entry) 0)))
+  pub puts : Puts (bytesIn (length entry) word) entry exit 0 (r .n)
+  pub good : r .good ≡ isBytes (length entry) word
   pub few : r .n ≤ length entry
 
--- the numbers of a line from an index to its end were written: how many, 0 where the line has anything else
+-- the numbers of a line from an index on, as many as there is room for, and whether the line then ends
+abbrev pub numbersFrom : ℕ → List ℕ → ℕ → List ℕ
+numbersFrom room line at = items (numberValue line) (numberNext line) room at
+
+abbrev pub areAll : ℕ → List ℕ → ℕ → Bool
+areAll room line at = leb (length line) (itemsEnd (numberNext line) room at)
+
+-- they were written: how many, 0 where the line has anything else
 pub record Numbers (line : List ℕ) (at : ℕ) (entry exit : List ℕ) (r : ℕ) : Type 0 where
-  pub buffer : Puts (items (numberValue line) (numberNext line) (length entry) at) entry exit 0 (length (items (numberValue line) (numberNext line) (length entry) at))
-  pub count : r ≡ cond (leb (length line) (itemsEnd (numberNext line) (length entry) at)) (length (items (numberValue line) (numberNext line) (length entry) at)) 0
+  pub buffer : Puts (numbersFrom (length entry) line at) entry exit 0 (length (numbersFrom (length entry) line at))
+  pub count : r ≡ cond (areAll (length entry) line at) (length (numbersFrom (length entry) line at)) 0
   pub few : r ≤ length entry
 
 -- bytes as pairs of digits, `-` for none

@@ -8,7 +8,8 @@ ghost use lib.ListN.{length, take, drop, replicate};
 ghost use Rattle.scope.specs.Lines.{decimal};
 ghost use Rattle.scope.specs.Lines.{spaced as Lines·spaced};
 ghost use Rattle.text.specs.Text.{Puts, Told};
-ghost use Rattle.probe_words.specs.Words.{leastOf, partOf, lastWord, hexOf, Finds, Lists, numberNext, numberValue, pairNext, pairValue, Bytes, Numbers, glyphOf, hexWord, pairsOf, filler, filler16, allAre};
+ghost use Rattle.probe_words.specs.Words.{leastOf, partOf, lastWord, hexOf, Finds, Lists, numberNext, numberValue};
+ghost use Rattle.probe_words.specs.Words.{pairNext, pairValue, Bytes, Numbers, glyphOf, hexWord, pairsOf, filler, filler16, allAre};
 use bits::byte;
 use text::Number;
 use text::number_at;
@@ -73,7 +74,8 @@ pub fn number(line: &[u8], at: usize) -> Number
 
 // Numbers of a line from an index on, each behind one space, into the front of what is lent.
 fn listed(line: &[u8], at: usize, into: &mut [u16]) -> Count
-    ensures { λ r. ⌜ Lists (numberValue (now (line .entry))) (numberNext (now (line .entry))) (length (now (line .entry))) at (now (into .entry)) (now (into .exit)) r ⌝ }
+    ensures { λ r. ⌜ Lists (numberValue (now (line .entry))) (numberNext (now (line .entry))) (length (now (line .entry))) at
+        (now (into .entry)) (now (into .exit)) r ⌝ }
 {
     let mut i = at;
     let mut n = 0;
@@ -152,7 +154,8 @@ fn pair(word: &[u8], i: usize) -> Number
 
 // The bytes that pairs of hexadecimal digits stand for, into the front of what is lent.
 fn pairs(word: &[u8], into: &mut [u8]) -> Count
-    ensures { λ r. ⌜ Lists (pairValue (now (word .entry))) (pairNext (now (word .entry))) (length (now (word .entry))) 0 (now (into .entry)) (now (into .exit)) r ⌝ }
+    ensures { λ r. ⌜ Lists (pairValue (now (word .entry))) (pairNext (now (word .entry))) (length (now (word .entry))) 0
+        (now (into .entry)) (now (into .exit)) r ⌝ }
 {
     let mut i = 0;
     let mut n = 0;

@@ -7,7 +7,9 @@ use Rattle.probe.proofs.run.Statement.{statement}
 use Rattle.probe.proofs.run.Tie as tie
 
 abbrev Inv-loop : tie.InvT-loop
-Inv-loop input₀ given₀ lent₀ file₀ out₀ p₀ turns₀ input given lent file out p turns = Stands (length input) p × (length input ≡ length input₀) × (length given ≡ length given₀) × (length lent ≡ length lent₀) × (length file ≡ length file₀) × (length out ≡ length out₀)
+Inv-loop input₀ given₀ lent₀ file₀ out₀ p₀ turns₀ input given lent file out p turns =
+    Stands (length input) p × (length input ≡ length input₀) × (length given ≡ length given₀) ×
+    (length lent ≡ length lent₀) × (length file ≡ length file₀) × (length out ≡ length out₀)
 
 abbrev μ-loop : tie.MeasureT-loop
 μ-loop input₀ given₀ lent₀ file₀ out₀ p₀ turns₀ input given lent file out p turns = turns

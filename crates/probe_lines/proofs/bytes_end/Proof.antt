@@ -8,19 +8,30 @@ put-byte-requires : tie.Need-put-byte-requires
 put-byte-requires c κs = search needs
 
 put-bytes-requires : tie.Need-put-bytes-requires
-put-bytes-requires c κs = told-first _ _ (told-rest (c .before .before .before .put-byte .ensures) _ (c .before .before .before .before .before .before .before .pre))
+put-bytes-requires c κs =
+    let s3 = c .before .before .before in
+    let s7 = s3 .before .before .before .before in
+    told-first _ _ (told-rest (s3 .put-byte .ensures) _ (s7 .pre))
 
 kept-requires : tie.Need-kept-requires
 kept-requires c κs = search needs
 
 end-requires : tie.Need-end-requires
-end-requires c κs = rw (c .kept .ensures) (told-rest (c .before .before .before .before .put-bytes .ensures) _ (told-rest (c .before .before .before .before .before .before .before .before .put-byte .ensures) _ (c .before .before .before .before .before .before .before .before .before .before .before .before .pre)))
+end-requires c κs =
+    let s4 = c .before .before .before .before in
+    let s8 = s4 .before .before .before .before in
+    let s12 = s8 .before .before .before .before in
+    rw (c .kept .ensures) (told-rest (s4 .put-bytes .ensures) _ (told-rest (s8 .put-byte .ensures) _ (s12 .pre)))
 
 same-length : tie.Need-same-length
 same-length c = search needs
 
 returns : tie.Need-returns
-returns c = then (c .before .before .before .before .before .before .before .before .before .before .before .put-byte .ensures) (then (c .before .before .before .before .before .before .before .put-bytes .ensures) (rw (c .before .before .before .kept .ensures) at (c .before .before .end .ensures)))
+returns c =
+    let s3 = c .before .before .before in
+    let s7 = s3 .before .before .before .before in
+    let s11 = s7 .before .before .before .before in
+    then (s11 .put-byte .ensures) (then (s7 .put-bytes .ensures) (rw (s3 .kept .ensures) at (c .before .before .end .ensures)))
 
 pub bytes-end-spec : {M : Type 1} → statement M
 bytes-end-spec =

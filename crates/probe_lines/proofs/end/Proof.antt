@@ -9,7 +9,9 @@ slice-aggregate-put-word : tie.Need-slice-aggregate-put-word
 slice-aggregate-put-word c = search needs
 
 put-word-requires : tie.Need-put-word-requires
-put-word-requires c κs = let p : Told (c .before .before .before .before .args .at) (ending (c .before .before .before .before .args .kept)) = c .before .before .before .before .pre in rw (c .before .before .if1 .taken) at p
+put-word-requires c κs =
+    let s4 = c .before .before .before .before in
+    let p : Told (s4 .args .at) (ending (s4 .args .kept)) = s4 .pre in rw (c .before .before .if1 .taken) at p
 
 same-length : tie.Need-same-length
 same-length c = search needs
@@ -21,7 +23,9 @@ slice-aggregate-put-word-2 : tie.Need-slice-aggregate-put-word-2
 slice-aggregate-put-word-2 c = search needs
 
 put-word-requires-2 : tie.Need-put-word-requires-2
-put-word-requires-2 c κs = let p : Told (c .before .before .before .before .args .at) (ending (c .before .before .before .before .args .kept)) = c .before .before .before .before .pre in rw (c .before .before .if1 .left) at p
+put-word-requires-2 c κs =
+    let s4 = c .before .before .before .before in
+    let p : Told (s4 .args .at) (ending (s4 .args .kept)) = s4 .pre in rw (c .before .before .if1 .left) at p
 
 same-length-2 : tie.Need-same-length-2
 same-length-2 c = search needs

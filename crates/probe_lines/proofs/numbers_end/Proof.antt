@@ -11,13 +11,19 @@ kept-16-requires : tie.Need-kept-16-requires
 kept-16-requires c κs = search needs
 
 end-requires : tie.Need-end-requires
-end-requires c κs = rw (c .kept-16 .ensures) (told-rest (c .before .before .before .before .put-numbers .ensures) _ (c .before .before .before .before .before .before .before .before .pre))
+end-requires c κs =
+    let s4 = c .before .before .before .before in
+    let s8 = s4 .before .before .before .before in
+    rw (c .kept-16 .ensures) (told-rest (s4 .put-numbers .ensures) _ (s8 .pre))
 
 same-length : tie.Need-same-length
 same-length c = search needs
 
 returns : tie.Need-returns
-returns c = then (c .before .before .before .before .before .before .before .put-numbers .ensures) (rw (c .before .before .before .kept-16 .ensures) at (c .before .before .end .ensures))
+returns c =
+    let s3 = c .before .before .before in
+    let s7 = s3 .before .before .before .before in
+    then (s7 .put-numbers .ensures) (rw (s3 .kept-16 .ensures) at (c .before .before .end .ensures))
 
 pub numbers-end-spec : {M : Type 1} → statement M
 numbers-end-spec =

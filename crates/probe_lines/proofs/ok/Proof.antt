@@ -11,7 +11,10 @@ put-word-requires : tie.Need-put-word-requires
 put-word-requires c κs = search needs
 
 put-decimal-requires : tie.Need-put-decimal-requires
-put-decimal-requires c κs = told-rest (c .before .before .before .put-word .ensures) _ (c .before .before .before .before .before .before .before .pre)
+put-decimal-requires c κs =
+    let s3 = c .before .before .before in
+    let s7 = s3 .before .before .before .before in
+    told-rest (s3 .put-word .ensures) _ (s7 .pre)
 
 same-length : tie.Need-same-length
 same-length c = search needs

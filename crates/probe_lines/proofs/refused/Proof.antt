@@ -12,22 +12,39 @@ put-word-requires : tie.Need-put-word-requires
 put-word-requires c κs = search needs
 
 put-decimal-requires : tie.Need-put-decimal-requires
-put-decimal-requires c κs = told-first _ _ (told-rest (c .before .before .before .put-word .ensures) _ (c .before .before .before .before .before .before .before .pre))
+put-decimal-requires c κs =
+    let s3 = c .before .before .before in
+    let s7 = s3 .before .before .before .before in
+    told-first _ _ (told-rest (s3 .put-word .ensures) _ (s7 .pre))
 
 slice-aggregate-put-word-2 : tie.Need-slice-aggregate-put-word-2
 slice-aggregate-put-word-2 c = search needs
 
 put-word-requires-2 : tie.Need-put-word-requires-2
-put-word-requires-2 c κs = told-first (32 ∷ 112 ∷ 108 ∷ 97 ∷ 99 ∷ 101 ∷ 32 ∷ []) _ (told-rest (c .before .before .before .before .put-decimal .ensures) _ (told-rest (c .before .before .before .before .before .before .before .before .put-word .ensures) _ (c .before .before .before .before .before .before .before .before .before .before .before .before .pre)))
+put-word-requires-2 c κs =
+    let s4 = c .before .before .before .before in
+    let s8 = s4 .before .before .before .before in
+    let s12 = s8 .before .before .before .before in
+    told-first (32 ∷ 112 ∷ 108 ∷ 97 ∷ 99 ∷ 101 ∷ 32 ∷ []) _
+    (told-rest (s4 .put-decimal .ensures) _ (told-rest (s8 .put-word .ensures) _ (s12 .pre)))
 
 put-decimal-requires-2 : tie.Need-put-decimal-requires-2
-put-decimal-requires-2 c κs = told-rest (c .before .before .before .put-word2 .ensures) _ (told-rest (c .before .before .before .before .before .before .before .before .put-decimal .ensures) _ (told-rest (c .before .before .before .before .before .before .before .before .before .before .before .before .put-word .ensures) _ (c .before .before .before .before .before .before .before .before .before .before .before .before .before .before .before .before .pre)))
+put-decimal-requires-2 c κs =
+    let s3 = c .before .before .before in
+    let s8 = s3 .before .before .before .before .before in
+    let s12 = s8 .before .before .before .before in
+    let s16 = s12 .before .before .before .before in
+    told-rest (s3 .put-word2 .ensures) _ (told-rest (s8 .put-decimal .ensures) _ (told-rest (s12 .put-word .ensures) _ (s16 .pre)))
 
 same-length : tie.Need-same-length
 same-length c = search needs
 
 returns : tie.Need-returns
-returns c = then (c .before .before .before .before .before .before .before .before .before .before .before .before .before .before .before .put-word .ensures) (then (c .before .before .before .before .before .before .before .before .before .before .before .put-decimal .ensures) (then (c .before .before .before .before .before .before .put-word2 .ensures) (c .before .before .put-decimal2 .ensures)))
+returns c =
+    let s6 = c .before .before .before .before .before .before in
+    let s11 = s6 .before .before .before .before .before in
+    let s15 = s11 .before .before .before .before in
+    then (s15 .put-word .ensures) (then (s11 .put-decimal .ensures) (then (s6 .put-word2 .ensures) (c .before .before .put-decimal2 .ensures)))
 
 pub refused-spec : {M : Type 1} → statement M
 refused-spec =

@@ -10,34 +10,52 @@ enum-known-answer : tie.Need-enum-known-answer
 enum-known-answer c = search needs
 
 ok-requires : tie.Need-ok-requires
-ok-requires c κs = told-first _ _ (told-told _ (gives _) (c .before .before .before .before .before .before .args .written) (c .before .before .before .before .before .before .args .lent .now) (c .before .before .before .before .before .before .pre))
+ok-requires c κs =
+    let s6 = c .before .before .before .before .before .before in
+    told-first _ _ (told-told _ (gives _) (s6 .args .written) (s6 .args .lent .now) (s6 .pre))
 
 numbers-end-requires : tie.Need-numbers-end-requires
-numbers-end-requires c κs = told-rest (c .before .before .before .ok .ensures) _ (told-told _ (gives _) (c .before .before .before .before .before .before .before .before .before .before .args .written) (c .before .before .before .before .before .before .before .before .before .before .args .lent .now) (c .before .before .before .before .before .before .before .before .before .before .pre))
+numbers-end-requires c κs =
+    let s3 = c .before .before .before in
+    let s10 = s3 .before .before .before .before .before .before .before in
+    told-rest (s3 .ok .ensures) _ (told-told _ (gives _) (s10 .args .written) (s10 .args .lent .now) (s10 .pre))
 
 enum-known-answer-2 : tie.Need-enum-known-answer-2
 enum-known-answer-2 c = search needs
 
 refused-requires : tie.Need-refused-requires
-refused-requires c κs = told-first _ _ (told-told _ (refused _) (c .before .before .before .before .before .before .args .written) (c .before .before .before .before .before .before .args .lent .now) (c .before .before .before .before .before .before .pre))
+refused-requires c κs =
+    let s6 = c .before .before .before .before .before .before in
+    told-first _ _ (told-told _ (refused _) (s6 .args .written) (s6 .args .lent .now) (s6 .pre))
 
 kept-16-requires : tie.Need-kept-16-requires
 kept-16-requires c κs = search needs
 
 end-requires : tie.Need-end-requires
-end-requires c κs = rw (c .kept-16 .ensures) (told-rest (c .before .before .before .before .refused .ensures) _ (told-told _ (refused _) (c .before .before .before .before .before .before .before .before .before .before .before .args .written) (c .before .before .before .before .before .before .before .before .before .before .before .args .lent .now) (c .before .before .before .before .before .before .before .before .before .before .before .pre)))
+end-requires c κs =
+    let s4 = c .before .before .before .before in
+    let s11 = s4 .before .before .before .before .before .before .before in
+    rw (c .kept-16 .ensures)
+    (told-rest (s4 .refused .ensures) _ (told-told _ (refused _) (s11 .args .written) (s11 .args .lent .now) (s11 .pre)))
 
 same-length : tie.Need-same-length
 same-length c = search needs
 
 returns : tie.Need-returns
-returns c = rw (c .before .before .before .before .before .before .before .before .before .answer .given .1) (then (c .before .before .before .before .before .before .ok .ensures) (c .before .before .numbers-end .ensures))
+returns c =
+    let s6 = c .before .before .before .before .before .before in
+    let s9 = s6 .before .before .before in
+    rw (s9 .answer .given .1) (then (s6 .ok .ensures) (c .before .before .numbers-end .ensures))
 
 same-length-2 : tie.Need-same-length-2
 same-length-2 c = search needs
 
 returns-2 : tie.Need-returns-2
-returns-2 c = rw (c .before .before .before .before .before .before .before .before .before .before .answer2 .given .1) (then (c .before .before .before .before .before .before .before .refused .ensures) (rw (c .before .before .before .kept-16 .ensures) at (c .before .before .end .ensures)))
+returns-2 c =
+    let s3 = c .before .before .before in
+    let s7 = s3 .before .before .before .before in
+    let s10 = s7 .before .before .before in
+    rw (s10 .answer2 .given .1) (then (s7 .refused .ensures) (rw (s3 .kept-16 .ensures) at (c .before .before .end .ensures)))
 
 pub told-spec : {M : Type 1} → statement M
 told-spec =

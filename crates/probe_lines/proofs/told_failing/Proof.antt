@@ -15,16 +15,30 @@ put-word-requires : tie.Need-put-word-requires
 put-word-requires c κs = search needs
 
 put-decimal-requires : tie.Need-put-decimal-requires
-put-decimal-requires c κs = told-first _ _ (told-rest (c .before .before .before .put-word .ensures) _ (failing-told _ (c .before .before .before .before .before .before .before .before .before .args .pairs) (c .before .before .before .before .before .before .before .before .before .args .lent .now) (c .before .before .before .before .before .before .before .before .before .pre)))
+put-decimal-requires c κs =
+    let s3 = c .before .before .before in
+    let s9 = s3 .before .before .before .before .before .before in
+    told-first _ _ (told-rest (s3 .put-word .ensures) _ (failing-told _ (s9 .args .pairs) (s9 .args .lent .now) (s9 .pre)))
 
 numbers-end-requires : tie.Need-numbers-end-requires
-numbers-end-requires c κs = rw (c .before .before .before .before .before .before .before .before .before .before .numbers-of .ensures) (told-rest (c .before .before .before .put-decimal .ensures) _ (told-rest (c .before .before .before .before .before .before .before .put-word .ensures) _ (failing-told _ (c .before .before .before .before .before .before .before .before .before .before .before .before .before .args .pairs) (c .before .before .before .before .before .before .before .before .before .before .before .before .before .args .lent .now) (c .before .before .before .before .before .before .before .before .before .before .before .before .before .pre))))
+numbers-end-requires c κs =
+    let s3 = c .before .before .before in
+    let s7 = s3 .before .before .before .before in
+    let s10 = s7 .before .before .before in
+    let s13 = s10 .before .before .before in
+    rw (s10 .numbers-of .ensures)
+    (told-rest (s3 .put-decimal .ensures) _
+    (told-rest (s7 .put-word .ensures) _ (failing-told _ (s13 .args .pairs) (s13 .args .lent .now) (s13 .pre))))
 
 same-length : tie.Need-same-length
 same-length c = search needs
 
 returns : tie.Need-returns
-returns c = then (c .before .before .before .before .before .before .before .before .before .before .put-word .ensures) (then (c .before .before .before .before .before .before .put-decimal .ensures) (rw (c .before .before .before .before .before .before .before .before .before .before .before .before .before .numbers-of .ensures) at (c .before .before .numbers-end .ensures)))
+returns c =
+    let s6 = c .before .before .before .before .before .before in
+    let s10 = s6 .before .before .before .before in
+    let s13 = s10 .before .before .before in
+    then (s10 .put-word .ensures) (then (s6 .put-decimal .ensures) (rw (s13 .numbers-of .ensures) at (c .before .before .numbers-end .ensures)))
 
 pub told-failing-spec : {M : Type 1} → statement M
 told-failing-spec =

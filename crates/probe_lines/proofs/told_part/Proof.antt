@@ -12,19 +12,37 @@ put-word-requires : tie.Need-put-word-requires
 put-word-requires c κs = search needs
 
 put-decimal-requires : tie.Need-put-decimal-requires
-put-decimal-requires c κs = told-first _ _ (told-rest (c .before .before .before .put-word .ensures) _ (part-told _ (c .before .before .before .before .before .before .before .before .args .links .now) (c .before .before .before .before .before .before .before .before .pre)))
+put-decimal-requires c κs =
+    let s3 = c .before .before .before in
+    let s8 = s3 .before .before .before .before .before in
+    told-first _ _ (told-rest (s3 .put-word .ensures) _ (part-told _ (s8 .args .links .now) (s8 .pre)))
 
 spaced-requires : tie.Need-spaced-requires
-spaced-requires c κs = told-first _ _ (told-rest (c .before .before .before .put-decimal .ensures) _ (told-rest (c .before .before .before .before .before .before .before .put-word .ensures) _ (part-told _ (c .before .before .before .before .before .before .before .before .before .before .before .before .args .links .now) (c .before .before .before .before .before .before .before .before .before .before .before .before .pre))))
+spaced-requires c κs =
+    let s3 = c .before .before .before in
+    let s7 = s3 .before .before .before .before in
+    let s12 = s7 .before .before .before .before .before in
+    told-first _ _
+    (told-rest (s3 .put-decimal .ensures) _ (told-rest (s7 .put-word .ensures) _ (part-told _ (s12 .args .links .now) (s12 .pre))))
 
 put-byte-requires : tie.Need-put-byte-requires
-put-byte-requires c κs = told-rest (c .before .before .before .spaced .ensures) _ (told-rest (c .before .before .before .before .before .before .before .put-decimal .ensures) _ (told-rest (c .before .before .before .before .before .before .before .before .before .before .before .put-word .ensures) _ (part-told _ (c .before .before .before .before .before .before .before .before .before .before .before .before .before .before .before .before .args .links .now) (c .before .before .before .before .before .before .before .before .before .before .before .before .before .before .before .before .pre))))
+put-byte-requires c κs =
+    let s3 = c .before .before .before in
+    let s7 = s3 .before .before .before .before in
+    let s11 = s7 .before .before .before .before in
+    let s16 = s11 .before .before .before .before .before in
+    told-rest (s3 .spaced .ensures) _
+    (told-rest (s7 .put-decimal .ensures) _ (told-rest (s11 .put-word .ensures) _ (part-told _ (s16 .args .links .now) (s16 .pre))))
 
 same-length : tie.Need-same-length
 same-length c = search needs
 
 returns : tie.Need-returns
-returns c = then (c .before .before .before .before .before .before .before .before .before .before .before .before .before .before .put-word .ensures) (then (c .before .before .before .before .before .before .before .before .before .before .put-decimal .ensures) (then (c .before .before .before .before .before .before .spaced .ensures) (c .before .before .put-byte .ensures)))
+returns c =
+    let s6 = c .before .before .before .before .before .before in
+    let s10 = s6 .before .before .before .before in
+    let s14 = s10 .before .before .before .before in
+    then (s14 .put-word .ensures) (then (s10 .put-decimal .ensures) (then (s6 .spaced .ensures) (c .before .before .put-byte .ensures)))
 
 pub told-part-spec : {M : Type 1} → statement M
 told-part-spec =

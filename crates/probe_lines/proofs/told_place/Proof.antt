@@ -12,16 +12,26 @@ put-word-requires : tie.Need-put-word-requires
 put-word-requires c κs = search needs
 
 put-number-requires : tie.Need-put-number-requires
-put-number-requires c κs = told-first _ _ (told-rest (c .before .before .before .put-word .ensures) _ (place-told _ (c .before .before .before .before .before .before .before .args .index) (c .before .before .before .before .before .before .before .args .n) (c .before .before .before .before .before .before .before .pre)))
+put-number-requires c κs =
+    let s3 = c .before .before .before in
+    let s7 = s3 .before .before .before .before in
+    told-first _ _ (told-rest (s3 .put-word .ensures) _ (place-told _ (s7 .args .index) (s7 .args .n) (s7 .pre)))
 
 put-number-requires-2 : tie.Need-put-number-requires-2
-put-number-requires-2 c κs = told-rest (c .before .before .before .put-number .ensures) _ (told-rest (c .before .before .before .before .before .before .before .put-word .ensures) _ (place-told _ (c .before .before .before .before .before .before .before .before .before .before .before .args .index) (c .before .before .before .before .before .before .before .before .before .before .before .args .n) (c .before .before .before .before .before .before .before .before .before .before .before .pre)))
+put-number-requires-2 c κs =
+    let s3 = c .before .before .before in
+    let s7 = s3 .before .before .before .before in
+    let s11 = s7 .before .before .before .before in
+    told-rest (s3 .put-number .ensures) _ (told-rest (s7 .put-word .ensures) _ (place-told _ (s11 .args .index) (s11 .args .n) (s11 .pre)))
 
 same-length : tie.Need-same-length
 same-length c = search needs
 
 returns : tie.Need-returns
-returns c = then (c .before .before .before .before .before .before .before .before .before .before .put-word .ensures) (then (c .before .before .before .before .before .before .put-number .ensures) (c .before .before .put-number2 .ensures))
+returns c =
+    let s6 = c .before .before .before .before .before .before in
+    let s10 = s6 .before .before .before .before in
+    then (s10 .put-word .ensures) (then (s6 .put-number .ensures) (c .before .before .put-number2 .ensures))
 
 pub told-place-spec : {M : Type 1} → statement M
 told-place-spec =

@@ -9,7 +9,10 @@ refused-requires : tie.Need-refused-requires
 refused-requires c κs = told-first _ _ (refusal-told _ (c .before .before .args .refusal) (c .before .before .pre))
 
 put-byte-requires : tie.Need-put-byte-requires
-put-byte-requires c κs = told-rest (c .before .before .before .refused .ensures) _ (refusal-told _ (c .before .before .before .before .before .before .args .refusal) (c .before .before .before .before .before .before .pre))
+put-byte-requires c κs =
+    let s3 = c .before .before .before in
+    let s6 = s3 .before .before .before in
+    told-rest (s3 .refused .ensures) _ (refusal-told _ (s6 .args .refusal) (s6 .pre))
 
 same-length : tie.Need-same-length
 same-length c = search needs

@@ -15,13 +15,19 @@ kept-16-requires : tie.Need-kept-16-requires
 kept-16-requires c κs = search needs
 
 end-requires : tie.Need-end-requires
-end-requires c κs = rw (c .kept-16 .ensures) (told-rest (c .before .before .before .before .put-word .ensures) _ (resistant-told _ (c .before .before .before .before .before .before .before .before .before .args .lent .now) (c .before .before .before .before .before .before .before .before .before .pre)))
+end-requires c κs =
+    let s4 = c .before .before .before .before in
+    let s9 = s4 .before .before .before .before .before in
+    rw (c .kept-16 .ensures) (told-rest (s4 .put-word .ensures) _ (resistant-told _ (s9 .args .lent .now) (s9 .pre)))
 
 same-length : tie.Need-same-length
 same-length c = search needs
 
 returns : tie.Need-returns
-returns c = then (c .before .before .before .before .before .before .before .put-word .ensures) (rw (c .before .before .before .kept-16 .ensures) at (c .before .before .end .ensures))
+returns c =
+    let s3 = c .before .before .before in
+    let s7 = s3 .before .before .before .before in
+    then (s7 .put-word .ensures) (rw (s3 .kept-16 .ensures) at (c .before .before .end .ensures))
 
 pub told-resistant-spec : {M : Type 1} → statement M
 told-resistant-spec =

@@ -14,16 +14,29 @@ put-word-requires : tie.Need-put-word-requires
 put-word-requires c κs = search needs
 
 put-signed-requires : tie.Need-put-signed-requires
-put-signed-requires c κs = signed-told (c .before .before .before .before .before .before .before .args .slots) (c .before .before .before .before .before .before .before .fits .slots) (10 ∷ []) (told-rest (c .before .before .before .put-word .ensures) _ (slack-told _ (c .before .before .before .before .before .before .before .args .slots) (c .before .before .before .before .before .before .before .pre)))
+put-signed-requires c κs =
+    let s3 = c .before .before .before in
+    let s7 = s3 .before .before .before .before in
+    signed-told (s7 .args .slots) (s7 .fits .slots) (10 ∷ []) (told-rest (s3 .put-word .ensures) _ (slack-told _ (s7 .args .slots) (s7 .pre)))
 
 put-byte-requires : tie.Need-put-byte-requires
-put-byte-requires c κs = told-rest (signed-puts (c .before .before .before .before .before .before .before .before .before .before .before .args .slots) (c .before .before .before .before .before .before .before .before .before .before .before .fits .slots) (c .before .before .before .put-signed .ensures)) _ (told-rest (c .before .before .before .before .before .before .before .put-word .ensures) _ (slack-told _ (c .before .before .before .before .before .before .before .before .before .before .before .args .slots) (c .before .before .before .before .before .before .before .before .before .before .before .pre)))
+put-byte-requires c κs =
+    let s3 = c .before .before .before in
+    let s7 = s3 .before .before .before .before in
+    let s11 = s7 .before .before .before .before in
+    told-rest (signed-puts (s11 .args .slots) (s11 .fits .slots) (s3 .put-signed .ensures)) _
+    (told-rest (s7 .put-word .ensures) _ (slack-told _ (s11 .args .slots) (s11 .pre)))
 
 same-length : tie.Need-same-length
 same-length c = search needs
 
 returns : tie.Need-returns
-returns c = then (c .before .before .before .before .before .before .before .before .before .before .put-word .ensures) (then (signed-puts (c .before .before .before .before .before .before .before .before .before .before .before .before .before .before .args .slots) (c .before .before .before .before .before .before .before .before .before .before .before .before .before .before .fits .slots) (c .before .before .before .before .before .before .put-signed .ensures)) (c .before .before .put-byte .ensures))
+returns c =
+    let s6 = c .before .before .before .before .before .before in
+    let s10 = s6 .before .before .before .before in
+    let s14 = s10 .before .before .before .before in
+    then (s10 .put-word .ensures)
+    (then (signed-puts (s14 .args .slots) (s14 .fits .slots) (s6 .put-signed .ensures)) (c .before .before .put-byte .ensures))
 
 pub told-slack-spec : {M : Type 1} → statement M
 told-slack-spec =

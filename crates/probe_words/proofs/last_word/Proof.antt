@@ -17,7 +17,10 @@ slice-aggregate-result-2 : tie.Need-slice-aggregate-result-2
 slice-aggregate-result-2 c = search needs
 
 returns-2 : tie.Need-returns-2
-returns-2 c = let a = c .before .before .before .before .before .args in last-none (a .line .now) (a .at) _ (c .before .before .byte .ensures .is) (c .before .if2 .taken)
+returns-2 c =
+    let s5 = c .before .before .before .before .before in
+    let a = s5 .args in
+    last-none (a .line .now) (a .at) _ (c .before .before .byte .ensures .is) (c .before .if2 .taken)
 
 add-result : tie.Need-add-result
 add-result c = search needs
@@ -32,7 +35,10 @@ part-result-end : tie.Need-part-result-end
 part-result-end c = search needs
 
 returns-3 : tie.Need-returns-3
-returns-3 c = let a = c .before .before .before .before .before .args in last-is (a .line .now) (a .at) _ (c .before .before .byte .ensures .is) (c .before .if2 .left)
+returns-3 c =
+    let s5 = c .before .before .before .before .before in
+    let a = s5 .args in
+    last-is (a .line .now) (a .at) _ (c .before .before .byte .ensures .is) (c .before .if2 .left)
 
 pub last-word-spec : {M : Type 1} → statement M
 last-word-spec =

@@ -26,7 +26,11 @@ returns-3 : tie.Need-returns-3
 returns-3 c = number-none _ _ _ (c .before .before .before .before .byte .ensures .is) _ (c .before .before .number-at .ensures) (c .if3 .taken)
 
 returns-4 : tie.Need-returns-4
-returns-4 c = number-found _ _ _ (c .before .before .before .before .byte .ensures .is) _ (c .before .before .number-at .ensures) (c .before .before .before .before .before .if1 .left) (c .before .before .before .if2 .left) (c .if3 .left)
+returns-4 c =
+    let s3 = c .before .before .before in
+    let s4 = s3 .before in
+    let s5 = s4 .before in
+    number-found _ _ _ (s4 .byte .ensures .is) _ (c .before .before .number-at .ensures) (s5 .if1 .left) (s3 .if2 .left) (c .if3 .left)
 
 pub number-spec : {M : Type 1} → statement M
 number-spec =

@@ -31,12 +31,24 @@ digit-requires-2 : tie.Need-digit-requires-2
 digit-requires-2 c κs = search needs
 
 returns-3 : tie.Need-returns-3
-returns-3 c = let a = c .before .before .before .before .before .before .before .before .args in pair-high (a .word .now) (a .i) (c .before .before .before .digit .result) (c .before .digit2 .result)
-    (c .before .before .before .digit .ensures ∙ ap hexOf (c .before .before .before .before .byte .ensures .is)) (c .before .digit2 .ensures ∙ ap hexOf (c .before .before .byte2 .ensures .is)) (c .if3 .taken)
+returns-3 c =
+    let s3 = c .before .before .before in
+    let s4 = s3 .before in
+    let s8 = s4 .before .before .before .before in
+    let a = s8 .args in
+    pair-high (a .word .now) (a .i) (s3 .digit .result) (c .before .digit2 .result) (s3 .digit .ensures ∙ ap hexOf (s4 .byte .ensures .is))
+    (c .before .digit2 .ensures ∙ ap hexOf (c .before .before .byte2 .ensures .is)) (c .if3 .taken)
 
 returns-4 : tie.Need-returns-4
-returns-4 c = let a = c .before .before .before .before .before .before .before .before .before .args in pair-low (a .word .now) (a .i) (c .before .before .before .before .digit .result) (c .before .before .digit2 .result)
-    (c .before .before .before .before .digit .ensures ∙ ap hexOf (c .before .before .before .before .before .byte .ensures .is)) (c .before .before .digit2 .ensures ∙ ap hexOf (c .before .before .before .byte2 .ensures .is)) (c .if4 .taken)
+returns-4 c =
+    let s3 = c .before .before .before in
+    let s4 = s3 .before in
+    let s5 = s4 .before in
+    let s9 = s5 .before .before .before .before in
+    let a = s9 .args in
+    pair-low (a .word .now) (a .i) (s4 .digit .result) (c .before .before .digit2 .result)
+    (s4 .digit .ensures ∙ ap hexOf (s5 .byte .ensures .is)) (c .before .before .digit2 .ensures ∙ ap hexOf (s3 .byte2 .ensures .is))
+    (c .if4 .taken)
 
 mul-t6 : tie.Need-mul-t6
 mul-t6 c = search needs
@@ -48,8 +60,16 @@ add-t9 : tie.Need-add-t9
 add-t9 c = search needs
 
 returns-5 : tie.Need-returns-5
-returns-5 c = let a = c .before .before .before .before .before .before .before .before .before .args in pair-found (a .word .now) (a .i) (c .before .before .before .before .digit .result) (c .before .before .digit2 .result)
-    (c .before .before .before .before .digit .ensures ∙ ap hexOf (c .before .before .before .before .before .byte .ensures .is)) (c .before .before .digit2 .ensures ∙ ap hexOf (c .before .before .before .byte2 .ensures .is)) (c .before .before .before .before .before .before .if2 .left) (c .before .if3 .left) (c .if4 .left)
+returns-5 c =
+    let s3 = c .before .before .before in
+    let s4 = s3 .before in
+    let s5 = s4 .before in
+    let s6 = s5 .before in
+    let s9 = s6 .before .before .before in
+    let a = s9 .args in
+    pair-found (a .word .now) (a .i) (s4 .digit .result) (c .before .before .digit2 .result)
+    (s4 .digit .ensures ∙ ap hexOf (s5 .byte .ensures .is)) (c .before .before .digit2 .ensures ∙ ap hexOf (s3 .byte2 .ensures .is))
+    (s6 .if2 .left) (c .before .if3 .left) (c .if4 .left)
 
 pub pair-spec : {M : Type 1} → statement M
 pair-spec =

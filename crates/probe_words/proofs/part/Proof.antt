@@ -17,7 +17,10 @@ slice-aggregate-result : tie.Need-slice-aggregate-result
 slice-aggregate-result c = search needs
 
 returns-2 : tie.Need-returns-2
-returns-2 c = let a = c .before .before .before .args in part-long (a .s .now) (a .from) (a .to) (c .before .before .if1 .taken) (c .before .if2 .left)
+returns-2 c =
+    let s3 = c .before .before .before in
+    let a = s3 .args in
+    part-long (a .s .now) (a .from) (a .to) (c .before .before .if1 .taken) (c .before .if2 .left)
 
 slice-aggregate-result-2 : tie.Need-slice-aggregate-result-2
 slice-aggregate-result-2 c = search needs

@@ -10,7 +10,10 @@ least-requires : tie.Need-least-requires
 least-requires c κs = search needs
 
 put-word-requires : tie.Need-put-word-requires
-put-word-requires c κs = let a = c .before .before .before .before .args in record { fits = omega (arith, least-right (a .at) (length (a .out .now))) }
+put-word-requires c κs =
+    let s4 = c .before .before .before .before in
+    let a = s4 .args in
+    record { fits = omega (arith, least-right (a .at) (length (a .out .now))) }
 
 same-length : tie.Need-same-length
 same-length c = search needs

@@ -11,25 +11,47 @@ slice-aggregate-put-word : tie.Need-slice-aggregate-put-word
 slice-aggregate-put-word c = search needs
 
 put-word-requires : tie.Need-put-word-requires
-put-word-requires c κs = let a = c .before .before .before .before .before .before .args in rw (hex-none (a .n) _ (a .bytes .now) (c .before .before .before .least .ensures) (c .before .before .if1 .taken)) (c .before .before .before .before .before .before .pre)
+put-word-requires c κs =
+    let s3 = c .before .before .before in
+    let s6 = s3 .before .before .before in
+    let a = s6 .args in
+    rw (hex-none (a .n) _ (a .bytes .now) (s3 .least .ensures) (c .before .before .if1 .taken)) (s6 .pre)
 
 same-length : tie.Need-same-length
 same-length c = search needs
 
 returns : tie.Need-returns
-returns c = let a = c .before .before .before .before .before .before .before .before .before .args in rw (hex-none (a .n) _ (a .bytes .now) (c .before .before .before .before .before .before .least .ensures) (c .before .before .before .before .before .if1 .taken)) at (c .before .before .put-word .ensures)
+returns c =
+    let s5 = c .before .before .before .before .before in
+    let s6 = s5 .before in
+    let s9 = s6 .before .before .before in
+    let a = s9 .args in
+    rw (hex-none (a .n) _ (a .bytes .now) (s6 .least .ensures) (s5 .if1 .taken)) at (c .before .before .put-word .ensures)
 
 slice-aggregate-put-pairs : tie.Need-slice-aggregate-put-pairs
-slice-aggregate-put-pairs c = let a = c .before .before .before .before .before .before .args in least-take (a .n) _ (a .bytes .now) (c .before .before .before .least .ensures)
+slice-aggregate-put-pairs c =
+    let s3 = c .before .before .before in
+    let s6 = s3 .before .before .before in
+    let a = s6 .args in
+    least-take (a .n) _ (a .bytes .now) (s3 .least .ensures)
 
 put-pairs-requires : tie.Need-put-pairs-requires
-put-pairs-requires c κs = let a = c .before .before .before .before .before .before .args in rw (hex-some (a .n) _ (a .bytes .now) (c .before .before .before .least .ensures) (c .before .before .if1 .left)) (c .before .before .before .before .before .before .pre)
+put-pairs-requires c κs =
+    let s3 = c .before .before .before in
+    let s6 = s3 .before .before .before in
+    let a = s6 .args in
+    rw (hex-some (a .n) _ (a .bytes .now) (s3 .least .ensures) (c .before .before .if1 .left)) (s6 .pre)
 
 same-length-2 : tie.Need-same-length-2
 same-length-2 c = search needs
 
 returns-2 : tie.Need-returns-2
-returns-2 c = let a = c .before .before .before .before .before .before .before .before .before .args in rw (hex-some (a .n) _ (a .bytes .now) (c .before .before .before .before .before .before .least .ensures) (c .before .before .before .before .before .if1 .left)) at (c .before .before .put-pairs .ensures)
+returns-2 c =
+    let s5 = c .before .before .before .before .before in
+    let s6 = s5 .before in
+    let s9 = s6 .before .before .before in
+    let a = s9 .args in
+    rw (hex-some (a .n) _ (a .bytes .now) (s6 .least .ensures) (s5 .if1 .left)) at (c .before .before .put-pairs .ensures)
 
 pub put-bytes-spec : {M : Type 1} → statement M
 put-bytes-spec =

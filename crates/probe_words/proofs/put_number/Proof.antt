@@ -11,7 +11,10 @@ least-requires : tie.Need-least-requires
 least-requires c κs = search needs
 
 put-decimal-requires : tie.Need-put-decimal-requires
-put-decimal-requires c κs = let a = c .before .before .before .args in record { fits = omega (arith, least-right (a .at) (length (a .out .now)), decimal-all (a .n)) }
+put-decimal-requires c κs =
+    let s3 = c .before .before .before in
+    let a = s3 .args in
+    record { fits = omega (arith, least-right (a .at) (length (a .out .now)), decimal-all (a .n)) }
 
 same-length : tie.Need-same-length
 same-length c = search needs

@@ -8,7 +8,10 @@ least-requires : tie.Need-least-requires
 least-requires c κs = search needs
 
 slice-aggregate-spaced : tie.Need-slice-aggregate-spaced
-slice-aggregate-spaced c = let a = c .before .before .before .before .before .args in least-take (a .n) _ (a .row .now) (c .before .before .least .ensures)
+slice-aggregate-spaced c =
+    let s5 = c .before .before .before .before .before in
+    let a = s5 .args in
+    least-take (a .n) _ (a .row .now) (c .before .before .least .ensures)
 
 spaced-requires : tie.Need-spaced-requires
 spaced-requires c κs = rw (c .before .before .least .ensures, take-least) (c .before .before .before .before .before .pre)

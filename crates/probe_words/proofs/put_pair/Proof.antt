@@ -19,7 +19,10 @@ same-length : tie.Need-same-length
 same-length c = search needs
 
 returns : tie.Need-returns
-returns c = rw (c .before .before .before .before .before .glyph .ensures, c .before .before .before .before .glyph2 .ensures) at (c .before .before .put-word .ensures)
+returns c =
+    let s4 = c .before .before .before .before in
+    let s5 = s4 .before in
+    rw (s5 .glyph .ensures, s4 .glyph2 .ensures) at (c .before .before .put-word .ensures)
 
 pub put-pair-spec : {M : Type 1} → statement M
 put-pair-spec =

@@ -21,7 +21,10 @@ shared-slice-read-put-pair : tie.Need-shared-slice-read-put-pair Inv-loop μ-loo
 shared-slice-read-put-pair c = search needs
 
 put-pair-requires : tie.Need-put-pair-requires Inv-loop μ-loop
-put-pair-requires c κs = left-told _ _ (c .before .before .before .before .before .before .pre) (left-is (pairs-more _ _ (c .before .before .loop-test .taken)) (c .before .before .before .loop .inv .1))
+put-pair-requires c κs =
+    let s3 = c .before .before .before in
+    let s6 = s3 .before .before .before in
+    left-told _ _ (s6 .pre) (left-is (pairs-more _ _ (c .before .before .loop-test .taken)) (s3 .loop .inv .1))
 
 add-i : tie.Need-add-i Inv-loop μ-loop
 add-i c = search needs
@@ -30,7 +33,10 @@ loop-less : tie.Need-loop-less Inv-loop μ-loop
 loop-less c = search needs
 
 loop-again : tie.Need-loop-again Inv-loop μ-loop
-loop-again c = (search needs, left-more (left-is (pairs-more _ _ (c .before .before .before .before .before .loop-test .taken)) (c .before .before .before .before .before .before .loop .inv .1)) (c .before .before .put-pair .ensures))
+loop-again c =
+    let s5 = c .before .before .before .before .before in
+    let s6 = s5 .before in
+    (search needs, left-more (left-is (pairs-more _ _ (s5 .loop-test .taken)) (s6 .loop .inv .1)) (c .before .before .put-pair .ensures))
 
 same-length : tie.Need-same-length Inv-loop μ-loop
 same-length c = left-same (c .before .loop .inv .1)

@@ -18,7 +18,10 @@ returns : tie.Need-returns Inv-loop μ-loop
 returns c = let a = c .before .args in puts-none _ _ (part-none (a .s .now) (a .from) (a .to) (c .if1 .taken))
 
 returns-2 : tie.Need-returns-2 Inv-loop μ-loop
-returns-2 c = let a = c .before .before .args in let h = c .before .if1 .left in puts-none _ _ (part-long (a .s .now) (a .from) (a .to) (omega arith) (c .if2 .taken))
+returns-2 c =
+    let a = c .before .before .args in
+    let h = c .before .if1 .left in
+    puts-none _ _ (part-long (a .s .now) (a .from) (a .to) (omega arith) (c .if2 .taken))
 
 sub-n : tie.Need-sub-n Inv-loop μ-loop
 sub-n c = search needs
@@ -51,7 +54,10 @@ same-length : tie.Need-same-length Inv-loop μ-loop
 same-length c = c .before .loop .inv .2
 
 returns-3 : tie.Need-returns-3 Inv-loop μ-loop
-returns-3 c = let l = c .before .loop in moved _ _ _ _ _ _ (c .before .before .before .if1 .left) (c .before .before .if2 .left) (l .inv .0) (c .loop-test .left) (l .inv .3)
+returns-3 c =
+    let s3 = c .before .before .before in
+    let l = c .before .loop in
+    moved _ _ _ _ _ _ (s3 .if1 .left) (c .before .before .if2 .left) (l .inv .0) (c .loop-test .left) (l .inv .3)
 
 pub shift-spec : {M : Type 1} → statement M
 shift-spec =

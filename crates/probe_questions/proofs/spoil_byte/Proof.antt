@@ -1,0 +1,37 @@
+-- `probe_questions::spoil_byte` meets its contract: the number is changed where there is one.
+use borrow.Author.Needs.{needs}
+use Prim.Native.Nat.{ℕ}
+use mathlib.Core.Path.{sym, _∙_, ap}
+use mathlib.Core.List.{List}
+use lib.ListN.{set}
+use lib.Seq.{set-out}
+use Rattle.probe_questions.proofs.spoil_byte.Statement.{statement}
+use Rattle.probe_questions.proofs.spoil_byte.Tie as tie
+
+fill-requires : tie.Need-fill-requires
+fill-requires c κs = search needs
+
+slice-write-lent : tie.Need-slice-write-lent
+slice-write-lent c = search needs
+
+same-length : tie.Need-same-length
+same-length c = search needs
+
+returns : tie.Need-returns
+returns c =
+    let index = c .before .before .before .before .before .before .args .index in
+    ap (λ (s : List ℕ). set s index 0) (c .before .before .before .fill .ensures)
+
+same-length-2 : tie.Need-same-length-2
+same-length-2 c = search needs
+
+returns-2 : tie.Need-returns-2
+returns-2 c =
+    let s3 = c .before .before .before in
+    let s6 = s3 .before .before .before in
+    let index = s6 .args .index in
+    sym (set-out (s3 .fill .last .0) index 0 (c .if1 .left)) ∙ ap (λ (s : List ℕ). set s index 0) (s3 .fill .ensures)
+
+pub spoil-byte-spec : {M : Type 1} → statement M
+spoil-byte-spec =
+    tie.close (tie.spec fill-requires slice-write-lent same-length returns same-length-2 returns-2)

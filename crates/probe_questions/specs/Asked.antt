@@ -1,0 +1,119 @@
+-- The answer line of each question, of what the question is asked on, and of the numbers that stand in its line.
+use Prim.Native.Nat.{ℕ, _+_, _*_, _≤_, _<_}
+use mathlib.Core.Path.{_≡_}
+use mathlib.Core.Bool.{cond}
+use mathlib.Core.List.{List, _++_}
+use lib.ListN.{length, take, drop, set, replicate}
+use lib.IntN.{ℤ}
+use lib.Dec.{ltb, eqb}
+use Rattle.scope.specs.Outcome.{Outcome, gives, refused, result}
+use Rattle.scope.specs.Questions.{after, readFile, writeFile, replay, maySpare, slack, secondPath}
+use Rattle.scope.specs.File.{rowOf, fileOf}
+use Rattle.scope.specs.Plan.{at, planOf, timeoutOf, messageCount}
+use Rattle.scope.specs.Cycle.{eventRow}
+use Rattle.text.specs.Text.{Puts}
+use Rattle.plan.specs.Answers.{shownIndex}
+use Rattle.verdicts.specs.declared.Ruling.{Ruling}
+use Rattle.verdicts.specs.declared.Ruling.the-variants.{Resistant, Failing, Refused}
+use Rattle.verdicts.specs.Verdict.{Answered}
+use Rattle.probe_words.specs.Words.{filler, filler16}
+use Rattle.probe_lines.specs.Answers.{unknownLine, partLine, placeLine, slackLine, refusedLine, resistantLine, failingLine, told, toldBytes}
+use Rattle.probe_questions.specs.declared.OfPlace.{OfPlace}
+use Rattle.probe_questions.specs.declared.OfPlace.the-variants.{Slack, Second, Where}
+
+-- a question has at least so many numbers, and a lent buffer has at least such a length; else it is no question
+abbrev pub atLeast : ℕ → ℕ → List ℕ → List ℕ
+atLeast least n line = cond (ltb n least) unknownLine line
+
+-- `second`: the links; a part that could not be told, which no row shows, is no answer
+abbrev pub partOrNone : List ℕ → List ℕ
+partOrNone links = cond (ltb 65536 (length links)) unknownLine (partLine links)
+
+abbrev pub secondLine : List ℕ → ℕ → ℕ → List ℕ
+secondLine row m p = partOrNone (secondPath row m p)
+
+-- `where`: the index of the first of them in the row, and how many
+abbrev pub whereLine : List ℕ → ℕ → ℕ → List ℕ
+whereLine row m p = placeLine (shownIndex row m p) (length (secondPath row m p))
+
+-- `slack`: the slack, or the refusal
+abbrev pub slackOr : Outcome → ℤ → List ℕ
+slackOr (gives n) z = slackLine z
+slackOr (refused r) z = refusedLine r
+
+abbrev pub spareLine : List ℕ → ℕ → ℕ → List ℕ
+spareLine row m p = slackOr (maySpare row m p) (slack row m p)
+
+-- MESSAGE PLACE ROW...
+abbrev pub ofPlace : OfPlace → List ℕ → ℕ → ℕ → List ℕ
+ofPlace Slack row m p = spareLine row m p
+ofPlace Second row m p = secondLine row m p
+ofPlace Where row m p = whereLine row m p
+
+abbrev pub placeAnswer : OfPlace → List ℕ → List ℕ
+placeAnswer asks given = atLeast 2 (length given) (ofPlace asks (drop 2 given) (at given 0) (at given 1))
+
+-- a lent buffer of so much room with its margin behind it, all filled before the call, after the call
+abbrev pub lentAfter : Outcome → List ℕ → ℕ → ℕ → List ℕ
+lentAfter outcome written fill room = after outcome written (replicate room fill) ++ replicate 16 fill
+
+-- `read`: the numbers of a file; `size` is the length of the buffer
+abbrev pub readLine : List ℕ → ℕ → List ℕ
+readLine file room = told (readFile file room) (result (readFile file room)) (lentAfter (readFile file room) (rowOf file) filler16 room)
+
+abbrev pub readAnswer : ℕ → List ℕ → ℕ → List ℕ
+readAnswer size file room = atLeast (room + 16) size (readLine file room)
+
+-- `write`, ROOM ROW...: the bytes
+abbrev pub writeLine : List ℕ → ℕ → List ℕ
+writeLine row room = toldBytes (writeFile row room) (lentAfter (writeFile row room) (fileOf row) filler room)
+
+abbrev pub writeAnswer : ℕ → List ℕ → List ℕ
+writeAnswer size given = atLeast 1 (length given) (atLeast (at given 0 + 16) size (writeLine (drop 1 given) (at given 0)))
+
+-- `replay`, ROOM C c... ROW...: the events
+abbrev pub replayLine : List ℕ → List ℕ → ℕ → List ℕ
+replayLine row cuts room =
+    told (replay row cuts room) (timeoutOf row * (2 * messageCount row))
+    (lentAfter (replay row cuts room) (eventRow (planOf row) cuts) filler16 room)
+
+abbrev pub replayAnswer : ℕ → List ℕ → List ℕ
+replayAnswer size given =
+    atLeast (at given 1 + 2) (length given)
+    (atLeast (at given 0 + 16) size (replayLine (drop (at given 1 + 2) given) (take (at given 1) (drop 2 given)) (at given 0)))
+
+-- `verdict`, K L ROOM ROW...: of a ruling, and of what the lent list then holds with its margin
+abbrev pub rulingLine : Ruling → List ℕ → List ℕ
+rulingLine Resistant lent = resistantLine lent
+rulingLine (Failing n) lent = failingLine n lent
+rulingLine (Refused r) lent = told (refused r) 0 lent
+
+pub record Ruled (row : List ℕ) (k l room : ℕ) (line : List ℕ) : Type 0 where
+  pub ruling : Ruling
+  pub list : List ℕ
+  pub answered : Answered row k l (replicate room filler16) list ruling
+  pub is : line ≡ rulingLine ruling (list ++ replicate 16 filler16)
+
+pub record Judges (size : ℕ) (given line : List ℕ) : Type 0 where
+  pub few : length given < 3 → line ≡ unknownLine
+  pub short : size < at given 2 + 16 → line ≡ unknownLine
+  pub ruled : 3 ≤ length given → at given 2 + 16 ≤ size → Ruled (drop 3 given) (at given 0) (at given 1) (at given 2) line
+
+-- `spoil`, BITS INDEX: 16 numbers or bytes, filled, and one of them changed
+abbrev pub spoiltRow : ℕ → ℕ → List ℕ
+spoiltRow size index = atLeast 16 size (told (gives 0) 0 (set (replicate 16 filler16) index 0))
+
+abbrev pub spoiltBytes : ℕ → ℕ → List ℕ
+spoiltBytes size index = atLeast 16 size (toldBytes (gives 0) (set (replicate 16 filler) index 0))
+
+abbrev pub spoilAnswer : ℕ → ℕ → List ℕ → List ℕ
+spoilAnswer lent file given =
+    cond (eqb (length given) 2)
+    (cond (eqb (at given 0) 16) (spoiltRow lent (at given 1)) (spoiltBytes file (at given 1)))
+    unknownLine
+
+-- a line that is as `Says` says is laid over a buffer from an index on
+pub record Lays (Says : List ℕ → Type 0) (before after : List ℕ) (from next : ℕ) : Type 0 where
+  pub line : List ℕ
+  pub says : Says line
+  pub puts : Puts line before after from next
