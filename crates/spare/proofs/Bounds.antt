@@ -82,7 +82,8 @@ small row m p g t =
     ap length (path-at row m (t .message)) ∙ places-length row (messageIndex row m + 1) (placeCount row (messageIndex row m)) in
     record {
       timeout = time;
-      slot = slot-below (planOf row .timeout) 0 (record { link = 0; slot = 0; second = [] }) (pathOf (planOf row) m) p (good-rises (planOf row) (g .keeps) m) (omega (arith, places, t .place));
+      slot = slot-below (planOf row .timeout) 0 (record { link = 0; slot = 0; second = [] }) (pathOf (planOf row) m) p
+          (good-rises (planOf row) (g .keeps) m) (omega (arith, places, t .place));
       some = omega (arith, delay-least paths m es, size);
       most = omega (arith, delay-most paths m lower few es, size, links);
     }
@@ -107,7 +108,8 @@ asked row m p h =
     let j = then-back (judge row) (λ _. cond (noSecond es) (refuse 11 0) (gives 0)) 0 h in
     record { good = good-row row (j .0) (j .1); second = there row m p (by (noSecond es) refl (j .2)) }
   where
-    by : (b : Bool) → noSecond (placeOf (planOf row) m p .second) ≡ b → cond b (refuse 11 0) (gives 0) ≡ gives 0 → noSecond (placeOf (planOf row) m p .second) ≡ false
+    by : (b : Bool) → noSecond (placeOf (planOf row) m p .second) ≡ b → cond b (refuse 11 0) (gives 0) ≡ gives 0 →
+        noSecond (placeOf (planOf row) m p .second) ≡ false
     by true e f = not-both f
     by false e f = e
 
@@ -126,7 +128,8 @@ unfolding slack
 slack-lies row m p h =
     let a = asked row m p h in
     let s = small row m p (a .good) (a .second) in
-    between (planOf row .timeout) (placeOf (planOf row) m p .slot) (delay (orderOf (planOf row)) (planOf row .messages) m (placeOf (planOf row) m p .second))
+    between (planOf row .timeout) (placeOf (planOf row) m p .slot)
+    (delay (orderOf (planOf row)) (planOf row .messages) m (placeOf (planOf row) m p .second))
     (s .timeout) (s .slot) (s .some) (s .most)
 
 pub answer-lies : AnswerLies

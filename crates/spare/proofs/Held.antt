@@ -114,7 +114,9 @@ module _ (e : ℕ) where
       by : (b : Bool) → 0 ≤ cond b 1 0
       by true = omega arith
       by false = omega arith
-  held-of owner s t least m (p ∷ ps) g h = by (eqb (p .link) e) refl (eqb (p .slot) s) refl (held-of owner s t (p .slot + 1) m ps (g .1) (rises t least p ps h .rest))
+  held-of owner s t least m (p ∷ ps) g h =
+      by (eqb (p .link) e) refl (eqb (p .slot) s) refl
+      (held-of owner s t (p .slot + 1) m ps (g .1) (rises t least p ps h .rest))
     where
       by : (a : Bool) → eqb (p .link) e ≡ a → (b : Bool) → eqb (p .slot) s ≡ b → countOf e (inSlot s) ps ≤ cond (eqb (owner s e) (m + 1)) 1 0 →
           cond (a && b) 1 0 + countOf e (inSlot s) ps ≤ cond (eqb (owner s e) (m + 1)) 1 0
@@ -165,7 +167,8 @@ module _ (e : ℕ) where
   few : (owner : ℕ → ℕ → ℕ) (t : ℕ) (paths : List (List Place)) → ((k : ℕ) → TableGives owner (0 + k) (getD paths k [])) →
       ((k : ℕ) → slotsRise t 0 (getD paths k []) ≡ true) → (s : ℕ) → count e (before s) paths ≤ s
   few owner t paths g h zero = omega (arith, none paths)
-  few owner t paths g h (suc s) = omega (arith, more s paths, few owner t paths g h s, at-most-one (ltb 0 (owner s e)) (held owner s t 0 paths g h))
+  few owner t paths g h (suc s) =
+      omega (arith, more s paths, few owner t paths g h s, at-most-one (ltb 0 (owner s e)) (held owner s t 0 paths g h))
     where
       at-most-one : (b : Bool) → count e (inSlot s) paths ≤ cond b 1 0 → count e (inSlot s) paths ≤ 1
       at-most-one true l = l
@@ -176,4 +179,5 @@ entries-few plan g e =
     let rise : (k : ℕ) → slotsRise (plan .timeout) 0 (pathOf plan k) ≡ true = good-rises plan g in
     let gave : (k : ℕ) → TableGives (tableOf plan) (0 + k) (pathOf plan k) =
     λ k. subst (λ (m : ℕ). TableGives (tableOf plan) m (pathOf plan k)) (omega arith) (table-gives plan g k) in
-    omega (arith, whole e (plan .timeout) (plan .messages) rise, few e (tableOf plan) (plan .timeout) (plan .messages) gave rise (plan .timeout))
+    let t = plan .timeout in
+    omega (arith, whole e t (plan .messages) rise, few e (tableOf plan) t (plan .messages) gave rise t)

@@ -6,7 +6,8 @@ use mathlib.Core.List.{List, [], _∷_}
 use native.Mathlib.Omega.{arith}
 use borrow.Author.Tests.{eq-eqb, ne-eqb, le-ltb, lt-ltb}
 use lib.Dec.{eqb, ltb}
-use Rattle.scope.specs.Plan.{Place, at, placeCount, numbersAt, placesAt, placeSize, secondAt, messageAt, messagesAt, afterMessage, afterMessages, planOf, messageCount}
+use Rattle.scope.specs.Plan.{Place, at, placeCount, numbersAt, placesAt, placeSize, secondAt, messageAt, messagesAt, afterMessage}
+use Rattle.scope.specs.Plan.{afterMessages, planOf, messageCount}
 use Rattle.scope.specs.SecondPath.{messageIndex}
 use Rattle.scope.specs.Good.{has}
 use Rattle.scope.specs.Cycle.{byNumber, orderOf}
@@ -15,6 +16,10 @@ use Rattle.rows.specs.View.{IsPlace}
 use Rattle.rows.specs.declared.RowPlace.{RowPlace}
 use Rattle.rows.proofs.Second.{links-are}
 use Rattle.rows.proofs.Parts.{places-all, places-more, places-none}
+
+-- D of so many links from index i on, for message m
+abbrev pub delayAt : List ℕ → ℕ → ℕ → ℕ → ℕ
+delayAt row m i n = delay (orderOf (planOf row)) (planOf row .messages) m (numbersAt row i n)
 
 module _ (row : List ℕ) where
   pub numbers-more : (i n k : ℕ) → k < n → numbersAt row i (n - k) ≡ at row i ∷ numbersAt row (i + 1) (n - (k + 1))
@@ -99,7 +104,8 @@ module _ (row : List ℕ) where
         omega arith
 
     -- entries on link e among messages
-    pub entries-all : (i : ℕ) → i ≡ messageIndex row 0 → (n : ℕ) → n ≡ messageCount row → 0 + entries e (messagesAt row i (n - 0)) ≡ entries e (planOf row .messages)
+    pub entries-all : (i : ℕ) → i ≡ messageIndex row 0 → (n : ℕ) → n ≡ messageCount row →
+        0 + entries e (messagesAt row i (n - 0)) ≡ entries e (planOf row .messages)
     unfolding planOf afterMessages
     entries-all i is n count =
         let f : n - 0 ≡ messageCount row = omega arith in
@@ -127,7 +133,8 @@ module _ (row : List ℕ) where
         let f : messageCount row - 0 ≡ messageCount row = omega arith in
         rw (f, is) (omega arith)
 
-    pub lower-on : (m i j v a sum all : ℕ) → j < m → m ≤ messageCount row → v ≡ cond (hasSecondThrough e (messageAt row i)) 1 0 → a ≡ afterMessage row i →
+    pub lower-on : (m i j v a sum all : ℕ) → j < m → m ≤ messageCount row → v ≡ cond (hasSecondThrough e (messageAt row i)) 1 0 →
+        a ≡ afterMessage row i →
         sum + lowerThrough byNumber m e j (messagesAt row i (messageCount row - j)) ≡ all →
         sum + v + lowerThrough byNumber m e (j + 1) (messagesAt row a (messageCount row - (j + 1))) ≡ all
     unfolding lowerThrough
@@ -151,20 +158,21 @@ module _ (row : List ℕ) where
 
   -- D over the links left
   module _ (m : ℕ) where
-    pub delay-all : (i n : ℕ) → 0 + delay (orderOf (planOf row)) (planOf row .messages) m (numbersAt row (i + 0) (n - 0)) ≡ delay (orderOf (planOf row)) (planOf row .messages) m (numbersAt row i n)
+    pub delay-all : (i n : ℕ) → 0 + delayAt row m (i + 0) (n - 0) ≡ delayAt row m i n
     delay-all i n = let a : i + 0 ≡ i = omega arith in let b : n - 0 ≡ n = omega arith in rw (a, b) (omega arith)
 
-    pub delay-on : (i n k e a b sum all : ℕ) → k < n → e ≡ at row (i + k) → a ≡ entries e (planOf row .messages) → b ≡ lowerThrough byNumber m e 0 (planOf row .messages) →
-        sum + delay (orderOf (planOf row)) (planOf row .messages) m (numbersAt row (i + k) (n - k)) ≡ all →
-        sum + 1 + a + b + delay (orderOf (planOf row)) (planOf row .messages) m (numbersAt row (i + (k + 1)) (n - (k + 1))) ≡ all
+    pub delay-on : (i n k e a b sum all : ℕ) → k < n → e ≡ at row (i + k) → a ≡ entries e (planOf row .messages) →
+        b ≡ lowerThrough byNumber m e 0 (planOf row .messages) →
+        sum + delayAt row m (i + k) (n - k) ≡ all →
+        sum + 1 + a + b + delayAt row m (i + (k + 1)) (n - (k + 1)) ≡ all
     unfolding delay
     delay-on i n k e a b sum all h is entered lower inv =
         let f : i + (k + 1) ≡ i + k + 1 = omega arith in
-        let now : sum + (1 + entries (at row (i + k)) (planOf row .messages) + lowerThrough byNumber m (at row (i + k)) 0 (planOf row .messages) +
-        delay (orderOf (planOf row)) (planOf row .messages) m (numbersAt row (i + k + 1) (n - (k + 1)))) ≡ all = rw (numbers-more (i + k) n k h) at inv in
+        let here = 1 + entries (at row (i + k)) (planOf row .messages) + lowerThrough byNumber m (at row (i + k)) 0 (planOf row .messages) in
+        let now : sum + (here + delayAt row m (i + k + 1) (n - (k + 1))) ≡ all = rw (numbers-more (i + k) n k h) at inv in
         rw (entered, lower, is, f) (omega arith)
 
-    pub delay-none : (i n k sum all : ℕ) → n ≤ k → sum + delay (orderOf (planOf row)) (planOf row .messages) m (numbersAt row i (n - k)) ≡ all → sum ≡ all
+    pub delay-none : (i n k sum all : ℕ) → n ≤ k → sum + delayAt row m i (n - k) ≡ all → sum ≡ all
     unfolding delay
     delay-none i n k sum all h inv =
         let done : sum + 0 ≡ all = rw (numbers-none i n k h) at inv in

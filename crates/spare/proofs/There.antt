@@ -7,7 +7,8 @@ use mathlib.Core.List.{List, []}
 use lib.ListN.{length, getD, List·getD-eq-default}
 use lib.Dec.{ltb}
 use borrow.Author.Tests.{ltb-true, ltb-false}
-use Rattle.scope.specs.Plan.{Place, at, numbersAt, flagged, secondStart, secondCount, secondAt, placeAt, placeCount, messageAt, messageCount, planOf, pathOf}
+use Rattle.scope.specs.Plan.{Place, at, numbersAt, flagged, secondStart, secondCount, secondAt, placeAt, placeCount, messageAt, messageCount}
+use Rattle.scope.specs.Plan.{planOf, pathOf}
 use Rattle.scope.specs.SecondPath.{messageIndex, placeIndex}
 use Rattle.scope.specs.Spare.{placeOf, noSecond}
 use Rattle.rows.proofs.Parts.{places-length, places-at, message-count, path-at}
@@ -51,7 +52,8 @@ module _ (row : List ℕ) (m p : ℕ) where
   pub second-is : There row m p →
       placeOf (planOf row) m p .second ≡ numbersAt row (secondStart (placeIndex row m p)) (secondCount row (placeIndex row m p))
   second-is t =
-      let s : secondAt row (placeIndex row m p) ≡ numbersAt row (secondStart (placeIndex row m p)) (secondCount row (placeIndex row m p)) = rw (t .second) in
+      let i = placeIndex row m p in
+      let s : secondAt row i ≡ numbersAt row (secondStart i) (secondCount row i) = rw (t .second) in
       ap (λ q. q .second) (place-is (t .message) (t .place)) ∙ s
 
   some-numbers : (i n : ℕ) → noSecond (numbersAt row i (n + 1)) ≡ false
@@ -68,7 +70,8 @@ module _ (row : List ℕ) (m p : ℕ) where
       no : noSecond (placeOf (planOf row) m p .second) ≡ true → There row m p
       no e = absurd (true≢false (sym e ∙ h))
 
-      by-second : m < messageCount row → p < placeCount row (messageIndex row m) → (b : Bool) → flagged row (placeIndex row m p) ≡ b → There row m p
+      by-second : m < messageCount row → p < placeCount row (messageIndex row m) → (b : Bool) → flagged row (placeIndex row m p) ≡ b →
+          There row m p
       by-second g k true u = record { message = g; place = k; second = u }
       by-second g k false u = no (no-second g k u)
 

@@ -123,5 +123,6 @@ module _ (row : List ℕ) (m p : ℕ) where
       unfolding slack
       spares z is =
           let e : maySpare row m p ≡ gives 0 = may (has-second row m p there) in
-          let f : toZ w32 (ofZ w32 z) ≡ slack row m p = sub-back t u (fits .0) (fits .1) z is ∙ ap₂ subℕ (time ∙ sym (timeout-is row)) used-is in
+          let f : toZ w32 (ofZ w32 z) ≡ slack row m p = sub-back t u (fits .0) (fits .1) z is ∙
+          ap₂ subℕ (time ∙ sym (timeout-is row)) used-is in
           record { answer = sym e; value = f ∙ sym (ap (λ (o : Outcome). unlessRefused o (slack row m p)) e) }

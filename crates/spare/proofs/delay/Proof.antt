@@ -1,23 +1,24 @@
 -- `spare::delay` meets its contract. The invariant: what is summed and what is left to sum make the whole. Assumes nothing.
 use Prim.Native.Nat.{_+_, _-_, _*_, _≤_}
 use mathlib.Core.Path.{_≡_}
-use Rattle.scope.specs.Plan.{numbersAt, planOf}
-use Rattle.scope.specs.Cycle.{orderOf}
-use Rattle.scope.specs.Spare.{delay}
 use borrow.Author.Needs.{needs}
 use native.Mathlib.Omega.{arith}
 use Rattle.spare.proofs.Loops as law
+use Rattle.spare.proofs.Loops.{delayAt}
 use Rattle.spare.proofs.delay.Statement.{statement}
 use Rattle.spare.proofs.delay.Tie as tie
 
 abbrev Inv-loop : tie.InvT-loop
-Inv-loop row m i n sum₀ k₀ sum k = (sum + delay (orderOf (planOf row)) (planOf row .messages) m (numbersAt row (i + k) (n - k)) ≡ delay (orderOf (planOf row)) (planOf row .messages) m (numbersAt row i n)) × (k ≤ n) × (sum ≤ k * 4295032833) × (m ≤ 65536)
+Inv-loop row m i n sum₀ k₀ sum k =
+    (sum + delayAt row m (i + k) (n - k) ≡ delayAt row m i n) × (k ≤ n) × (sum ≤ k * 4295032833) × (m ≤ 65536)
 
 abbrev μ-loop : tie.MeasureT-loop
 μ-loop row m i n sum₀ k₀ sum k = n - k
 
 loop-holds : tie.Need-loop-holds Inv-loop μ-loop
-loop-holds c = let a = c .before .args in (law.delay-all (a .row .now) (a .m) (a .i) (a .n), omega arith, omega arith, omega (arith, c .shared-slice-known .given 3))
+loop-holds c =
+    let a = c .before .args in
+    (law.delay-all (a .row .now) (a .m) (a .i) (a .n), omega arith, omega arith, omega (arith, c .shared-slice-known .given 3))
 
 add-number : tie.Need-add-number Inv-loop μ-loop
 add-number c = search needs
@@ -48,10 +49,11 @@ loop-less c = search needs
 
 loop-again : tie.Need-loop-again Inv-loop μ-loop
 loop-again c =
-    let a = c .before .before .before .before .before .before .args in
-    let l = c .before .before .before .before .loop in (
-      law.delay-on (a .row .now) (a .m) (a .i) (a .n) (l .k) (c .before .before .number .result) (c .before .entries .result) (c .lower-through .result) (l .sum) _
-          (c .before .before .before .loop-test .taken) (c .before .before .number .ensures .is) (c .before .entries .ensures .is) (c .lower-through .ensures .is) (l .inv .0),
+    let t = c .before .before .before in
+    let a = t .before .before .before .args in
+    let l = t .before .loop in (
+      law.delay-on (a .row .now) (a .m) (a .i) (a .n) (l .k) _ _ _ (l .sum) _ (t .loop-test .taken) (c .before .before .number .ensures .is)
+          (c .before .entries .ensures .is) (c .lower-through .ensures .is) (l .inv .0),
       omega arith,
       omega arith,
       l .inv .3,

@@ -10,7 +10,9 @@ use Rattle.spare.proofs.entries.Statement.{statement}
 use Rattle.spare.proofs.entries.Tie as tie
 
 abbrev Inv-loop : tie.InvT-loop
-Inv-loop row e n sum₀ at₀ k₀ sum at k = (sum + entries e (messagesAt row at (n - k)) ≡ entries e (planOf row .messages)) × (at ≤ 131077 + k * 4295229441) × (k ≤ n) × (sum ≤ k * 65536) × (n ≤ 65536)
+Inv-loop row e n sum₀ at₀ k₀ sum at k =
+    (sum + entries e (messagesAt row at (n - k)) ≡ entries e (planOf row .messages)) ×
+    (at ≤ 131077 + k * 4295229441) × (k ≤ n) × (sum ≤ k * 65536) × (n ≤ 65536)
 
 abbrev μ-loop : tie.MeasureT-loop
 μ-loop row e n sum₀ at₀ k₀ sum at k = n - k
@@ -22,7 +24,10 @@ message-index-requires : tie.Need-message-index-requires Inv-loop μ-loop
 message-index-requires c κs = search needs
 
 loop-holds : tie.Need-loop-holds Inv-loop μ-loop
-loop-holds c = let a = c .before .before .before .args in (law.entries-all (a .row .now) (a .e) (c .message-index .result) (c .message-index .ensures .is) (c .before .messages .result) (c .before .messages .ensures .is), omega arith, omega arith, omega arith, omega arith)
+loop-holds c =
+    let a = c .before .before .before .args in
+    let all = law.entries-all (a .row .now) (a .e) _ (c .message-index .ensures .is) _ (c .before .messages .ensures .is) in
+    (all, omega arith, omega arith, omega arith, omega arith)
 
 add-entries-of : tie.Need-add-entries-of Inv-loop μ-loop
 add-entries-of c = search needs

@@ -10,7 +10,8 @@ use Rattle.spare.proofs.entries_of.Statement.{statement}
 use Rattle.spare.proofs.entries_of.Tie as tie
 
 abbrev Inv-loop : tie.InvT-loop
-Inv-loop row e i n sum₀ at₀ k₀ sum at k = (sum + entriesOf e (placesAt row at (n - k)) ≡ entriesOf e (placesAt row i n)) × (at ≤ i + k * 65540) × (k ≤ n) × (sum ≤ k)
+Inv-loop row e i n sum₀ at₀ k₀ sum at k =
+    (sum + entriesOf e (placesAt row at (n - k)) ≡ entriesOf e (placesAt row i n)) × (at ≤ i + k * 65540) × (k ≤ n) × (sum ≤ k)
 
 abbrev μ-loop : tie.MeasureT-loop
 μ-loop row e i n sum₀ at₀ k₀ sum at k = n - k
@@ -49,7 +50,10 @@ returns : tie.Need-returns Inv-loop μ-loop
 returns c =
     let a = c .before .before .before .args in
     let l = c .before .loop in
-    record { is = law.entries-of-none (a .row .now) (a .e) (l .at) (a .n) (l .k) (l .sum) _ (c .loop-test .left) (l .inv .0); small = omega arith }
+    record {
+      is = law.entries-of-none (a .row .now) (a .e) (l .at) (a .n) (l .k) (l .sum) _ (c .loop-test .left) (l .inv .0);
+      small = omega arith;
+    }
 
 pub entries-of-spec : {M : Type 1} → statement M
 entries-of-spec =

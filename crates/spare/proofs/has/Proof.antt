@@ -28,7 +28,8 @@ returns : tie.Need-returns Inv-loop μ-loop
 returns c =
     let a = c .before .before .before .before .before .args in
     let l = c .before .before .before .loop in
-    sym (law.has-here (a .row .now) (a .e) (a .i) (a .n) (l .k) (c .before .number .result) (c .before .before .loop-test .taken) (c .before .number .ensures .is) (c .if1 .taken)) ∙ l .inv .0
+    let t = c .before .before .loop-test .taken in
+    sym (law.has-here (a .row .now) (a .e) (a .i) (a .n) (l .k) _ t (c .before .number .ensures .is) (c .if1 .taken)) ∙ l .inv .0
 
 add-k : tie.Need-add-k Inv-loop μ-loop
 add-k c = search needs
@@ -40,7 +41,8 @@ loop-again : tie.Need-loop-again Inv-loop μ-loop
 loop-again c =
     let a = c .before .before .before .before .before .args in
     let l = c .before .before .before .loop in
-    (law.has-on (a .row .now) (a .e) (a .i) (a .n) (l .k) (c .before .number .result) (c .before .before .loop-test .taken) (c .before .number .ensures .is) (c .if1 .left) ∙ l .inv .0, omega arith)
+    let t = c .before .before .loop-test .taken in
+    (law.has-on (a .row .now) (a .e) (a .i) (a .n) (l .k) _ t (c .before .number .ensures .is) (c .if1 .left) ∙ l .inv .0, omega arith)
 
 returns-2 : tie.Need-returns-2 Inv-loop μ-loop
 returns-2 c =

@@ -11,7 +11,9 @@ use Rattle.spare.proofs.lower_through.Statement.{statement}
 use Rattle.spare.proofs.lower_through.Tie as tie
 
 abbrev Inv-loop : tie.InvT-loop
-Inv-loop row m e sum₀ at₀ j₀ sum at j = (sum + lowerThrough byNumber m e j (messagesAt row at (messageCount row - j)) ≡ lowerThrough byNumber m e 0 (planOf row .messages)) × (at ≤ 131077 + j * 4295229441) × (j ≤ m) × (sum ≤ j) × (m ≤ 65536)
+Inv-loop row m e sum₀ at₀ j₀ sum at j =
+    (sum + lowerThrough byNumber m e j (messagesAt row at (messageCount row - j)) ≡ lowerThrough byNumber m e 0 (planOf row .messages)) ×
+    (at ≤ 131077 + j * 4295229441) × (j ≤ m) × (sum ≤ j) × (m ≤ 65536)
 
 abbrev μ-loop : tie.MeasureT-loop
 μ-loop row m e sum₀ at₀ j₀ sum at j = m - j
@@ -46,11 +48,12 @@ loop-less c = search needs
 
 loop-again : tie.Need-loop-again Inv-loop μ-loop
 loop-again c =
-    let a = c .before .before .before .before .before .before .args in
-    let l = c .before .before .before .loop in (
-      law.lower-on (a .row .now) (a .e) (a .m) (l .at) (l .j) (c .before .message-through .result) (c .after-message .result) (l .sum) _
-          (c .before .before .loop-test .taken) (c .before .before .before .before .before .before .pre) (c .before .message-through .ensures .is)
-          (c .after-message .ensures .is) (l .inv .0),
+    let t = c .before .before in
+    let s = t .before .before .before .before in
+    let a = s .args in
+    let l = t .before .loop in (
+      law.lower-on (a .row .now) (a .e) (a .m) (l .at) (l .j) _ _ (l .sum) _ (t .loop-test .taken) (s .pre)
+          (c .before .message-through .ensures .is) (c .after-message .ensures .is) (l .inv .0),
       omega arith,
       omega arith,
       omega arith,

@@ -17,12 +17,22 @@ through-requires c κs = search needs
 returns : tie.Need-returns
 returns c =
     let a = c .before .before .before .before .args in
-    record { is = rw (law.through-message (a .row .now) (a .e) (a .i) _ _ _ (c .before .before .place-count .ensures .is) (c .before .through .ensures) (c .if1 .taken)); small = omega arith }
+    let n = c .before .before .place-count .ensures .is in
+    record {
+      is = rw (law.through-message (a .row .now) (a .e) (a .i) _ _ _ n (c .before .through .ensures) (c .if1 .taken));
+      small =
+          omega arith;
+    }
 
 returns-2 : tie.Need-returns-2
 returns-2 c =
     let a = c .before .before .before .before .args in
-    record { is = rw (law.through-message (a .row .now) (a .e) (a .i) _ _ _ (c .before .before .place-count .ensures .is) (c .before .through .ensures) (c .if1 .left)); small = omega arith }
+    let n = c .before .before .place-count .ensures .is in
+    record {
+      is = rw (law.through-message (a .row .now) (a .e) (a .i) _ _ _ n (c .before .through .ensures) (c .if1 .left));
+      small =
+          omega arith;
+    }
 
 pub message-through-spec : {M : Type 1} → statement M
 message-through-spec =

@@ -26,8 +26,8 @@ found : (h : tie.After-place-at) → (h .place-at .result .count ≡ 0 → ⊥) 
 found h some =
     let b = h .before .before .before in
     law.found (row h) (m h) (p h) (start h .pre) _ _ _ (b .before .before .before .messages .ensures .is) (b .before .before .if1 .left)
-    (b .before .message-index .ensures .is) (b .place-count .ensures .is) _ _ (h .before .before .if2 .left) (h .before .after-places .ensures .is)
-    (h .place-at .ensures) some
+    (b .before .message-index .ensures .is) (b .place-count .ensures .is) _ _ (h .before .before .if2 .left)
+    (h .before .after-places .ensures .is) (h .place-at .ensures) some
 
 stands : (h : tie.After-place-at) → h .before .after-places .result ≡ placeIndex (row h) (m h) (p h)
 stands h =
@@ -80,8 +80,8 @@ returns-3 c =
     let h = c .before .before .before in
     let b = h .before .before .before in
     law.out-second (row h) (m h) (p h) (start h .pre) _ _ _ (b .before .before .before .messages .ensures .is) (b .before .before .if1 .left)
-    (b .before .message-index .ensures .is) (b .place-count .ensures .is) _ _ (h .before .before .if2 .left) (h .before .after-places .ensures .is)
-    (h .place-at .ensures) _ (c .before .if3 .taken) (c .refusal-at3 .ensures)
+    (b .before .message-index .ensures .is) (b .place-count .ensures .is) _ _ (h .before .before .if2 .left)
+    (h .before .after-places .ensures .is) (h .place-at .ensures) _ (c .before .if3 .taken) (c .refusal-at3 .ensures)
 
 delay-requires : tie.Need-delay-requires
 delay-requires c κs = search needs

@@ -10,7 +10,8 @@ use Rattle.spare.proofs.through.Statement.{statement}
 use Rattle.spare.proofs.through.Tie as tie
 
 abbrev Inv-loop : tie.InvT-loop
-Inv-loop row e i n at₀ k₀ at k = (hasSecondThrough e (placesAt row at (n - k)) ≡ hasSecondThrough e (placesAt row i n)) × (at ≤ i + k * 65540) × (k ≤ n)
+Inv-loop row e i n at₀ k₀ at k =
+    (hasSecondThrough e (placesAt row at (n - k)) ≡ hasSecondThrough e (placesAt row i n)) × (at ≤ i + k * 65540) × (k ≤ n)
 
 abbrev μ-loop : tie.MeasureT-loop
 μ-loop row e i n at₀ k₀ at k = n - k
@@ -30,7 +31,7 @@ returns c =
     let a = h .before .before .before .before .args in
     let l = h .before .before .loop in
     let t = sym (c .before .has .ensures) ∙ c .if1 .taken in
-    sym (law.through-here (a .row .now) (a .e) (l .at) (a .n) (l .k) (h .before .loop-test .taken) (h .place-at .result) (h .place-at .ensures) t) ∙
+    sym (law.through-here (a .row .now) (a .e) (l .at) (a .n) (l .k) (h .before .loop-test .taken) _ (h .place-at .ensures) t) ∙
     l .inv .0
 
 add-k : tie.Need-add-k Inv-loop μ-loop
