@@ -6,28 +6,25 @@ use mathlib.Core.List.{List}
 use native.Mathlib.Numerals.{add-one}
 use native.Mathlib.Omega.{arith}
 use borrow.Author.Tests.{eq-eqb, ne-eqb}
-use Rattle.scope.specs.Plan.{at, flagged, placeSize, afterPlaces, afterMessage, afterMessages}
+use Rattle.scope.specs.Plan.{flagAt, flagged, placeSize, afterPlaces, afterMessage, afterMessages}
 
 module _ (row : List ℕ) where
   -- the flag of a place that is read as x
-  pub flag-set : (i x : ℕ) → x ≡ at row (i + 2) → x ≡ 1 → flagged row i ≡ true
-  flag-set i x e t = eq-eqb (at row (i + 2)) 1 (sym e ∙ t)
+  pub flag-set : (i x : ℕ) → x ≡ flagAt row i → x ≡ 1 → flagged row i ≡ true
+  flag-set i x e t = eq-eqb (flagAt row i) 1 (sym e ∙ t)
 
-  pub flag-clear : (i x : ℕ) → x ≡ at row (i + 2) → (x ≡ 1 → ⊥) → flagged row i ≡ false
-  flag-clear i x e t = ne-eqb (at row (i + 2)) 1 (λ h. t (e ∙ h))
+  pub flag-clear : (i x : ℕ) → x ≡ flagAt row i → (x ≡ 1 → ⊥) → flagged row i ≡ false
+  flag-clear i x e t = ne-eqb (flagAt row i) 1 (λ h. t (e ∙ h))
 
   -- a loop at place k of n: it begins, it goes on, it is done
   pub places-first : (i n : ℕ) → afterPlaces row i (n - 0) ≡ afterPlaces row i n
   places-first i n = ap (afterPlaces row i) (omega arith)
 
-  pub places-next : (i n k s : ℕ) → k < n → s ≡ placeSize row i → afterPlaces row (i + s) (n - (k + 1)) ≡ afterPlaces row i (n - k)
+  pub places-go : (i n k j : ℕ) → k < n → j ≡ i + placeSize row i → afterPlaces row j (n - (k + 1)) ≡ afterPlaces row i (n - k)
   unfolding afterPlaces
-  places-next i n k s h e =
+  places-go i n k j h e =
       let f : n - k ≡ suc (n - (k + 1)) = omega arith in
       rw (f, e)
-
-  pub places-go : (i n k j : ℕ) → k < n → j ≡ i + placeSize row i → afterPlaces row j (n - (k + 1)) ≡ afterPlaces row i (n - k)
-  places-go i n k j h e = ap (λ a. afterPlaces row a (n - (k + 1))) e ∙ places-next i n k (placeSize row i) h refl
 
   pub places-done : (i n k : ℕ) → n ≤ k → afterPlaces row i (n - k) ≡ i
   unfolding afterPlaces

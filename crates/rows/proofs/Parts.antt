@@ -6,7 +6,8 @@ use native.Mathlib.Numerals.{add-one}
 use native.Mathlib.Omega.{arith}
 use lib.ListN.{length, getD, take, drop}
 use lib.Seq.{drop-cons}
-use Rattle.scope.specs.Plan.{Link, Place, at, numbersAt, linksAt, placeAt, placeSize, placesAt, afterPlaces, messageAt, afterMessage, messagesAt, afterMessages, vertexCount, linkCount, messageCount, timeoutOf, firstMessage, planOf, linkOf, pathOf}
+use Rattle.scope.specs.Plan.{Link, Place, at, numbersAt, linksAt, placeAt, placeSize, placesAt, afterPlaces, messageAt, afterMessage}
+use Rattle.scope.specs.Plan.{messagesAt, afterMessages, vertexCount, linkCount, messageCount, timeoutOf, firstMessage, planOf, linkOf, pathOf}
 use Rattle.scope.specs.SecondPath.{messageIndex}
 
 module _ (row : List ℕ) where
@@ -26,7 +27,8 @@ module _ (row : List ℕ) where
   unfolding numbersAt
   numbers-part i zero h = refl
   numbers-part i (suc n) h =
-      let r : numbersAt row (i + 1) n ≡ take n (drop (suc i) row) = numbers-part (i + 1) n (omega arith) ∙ ap (λ k. take n (drop k row)) (add-one i) in
+      let r : numbersAt row (i + 1) n ≡ take n (drop (suc i) row) =
+      numbers-part (i + 1) n (omega arith) ∙ ap (λ k. take n (drop k row)) (add-one i) in
       let l : i < length row = omega arith in
       rw (drop-cons row i 0 l, r)
 

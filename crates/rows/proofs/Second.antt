@@ -7,7 +7,8 @@ use native.Mathlib.Omega.{arith}
 use borrow.Author.Tests.{lt-ltb, le-ltb, ltb-true, ltb-false}
 use lib.ListN.{length, getD, take, drop, List·getD-eq-default}
 use lib.Dec.{ltb}
-use Rattle.scope.specs.Plan.{Place, numbersAt, flagged, secondStart, secondCount, secondAt, placeAt, placeCount, messageAt, messageCount, planOf, pathOf}
+use Rattle.scope.specs.Plan.{Place, numbersAt, flagged, secondStart, secondCount, secondAt, placeAt, placeCount, messageAt, messageCount}
+use Rattle.scope.specs.Plan.{planOf, pathOf}
 use Rattle.scope.specs.Spare.{placeOf}
 use Rattle.scope.specs.SecondPath.{messageIndex, placeIndex, hasSecond}
 use Rattle.rows.specs.View.{IsPlace, IsSpan, secondPart, secondIndex, secondEnd}
@@ -47,7 +48,8 @@ module _ (row : List ℕ) (i : ℕ) (r : RowPlace) (here : IsPlace row i r) wher
   unfolding numbersAt
   links-are = rw (here .second, here .count) (by (flagged row i))
     where
-      by : (t : Bool) → numbersAt row (secondStart i) (cond t (secondCount row i) 0) ≡ cond t (numbersAt row (secondStart i) (secondCount row i)) []
+      by : (t : Bool) →
+          numbersAt row (secondStart i) (cond t (secondCount row i) 0) ≡ cond t (numbersAt row (secondStart i) (secondCount row i)) []
       by true = refl
       by false = refl
 
@@ -98,7 +100,8 @@ module _ (row : List ℕ) (m p : ℕ) where
       record { begins = rw e f; ends = rw e (omega (arith, t)) }
 
   -- the part of the row there is the second path
-  pub part-between : (r : Span) → IsSpan (secondIndex row m p) (secondEnd row m p) r → take (r .to - r .from) (drop (r .from) row) ≡ secondPart row m p
+  pub part-between : (r : Span) → IsSpan (secondIndex row m p) (secondEnd row m p) r →
+      take (r .to - r .from) (drop (r .from) row) ≡ secondPart row m p
   part-between r s = by (hasSecond row m p) refl
     where
       by : (t : Bool) → hasSecond row m p ≡ t → take (r .to - r .from) (drop (r .from) row) ≡ secondPart row m p
@@ -156,7 +159,8 @@ module _ (row : List ℕ) (m p : ℕ) where
 
   -- and it lies within the row
   pub span-within : PlanLies row → (r : Span) → IsSpan (secondIndex row m p) (secondEnd row m p) r → (r .from ≤ r .to) × (r .to ≤ length row)
-  span-within l r s = by (ltb m (messageCount row)) (ltb p (placeCount row (messageIndex row m))) (flagged row (placeIndex row m p)) refl refl refl
+  span-within l r s =
+      by (ltb m (messageCount row)) (ltb p (placeCount row (messageIndex row m))) (flagged row (placeIndex row m p)) refl refl refl
     where
       nowhere : hasSecond row m p ≡ false → (r .from ≤ r .to) × (r .to ≤ length row)
       nowhere e =
@@ -164,7 +168,8 @@ module _ (row : List ℕ) (m p : ℕ) where
           let t : r .to ≡ 0 = s .ends ∙ rw e in
           (omega arith, omega arith)
 
-      by : (x y z : Bool) → ltb m (messageCount row) ≡ x → ltb p (placeCount row (messageIndex row m)) ≡ y → flagged row (placeIndex row m p) ≡ z →
+      by : (x y z : Bool) → ltb m (messageCount row) ≡ x → ltb p (placeCount row (messageIndex row m)) ≡ y →
+          flagged row (placeIndex row m p) ≡ z →
           (r .from ≤ r .to) × (r .to ≤ length row)
       by true true true a b c =
           let e : hasSecond row m p ≡ true = rw (a, b, c) in

@@ -11,7 +11,8 @@ use lib.ListN.{length, drop, drop-of-length-le}
 use lib.Seq.{drop-cons}
 use lib.Dec.{ltb, eqb, eqb·suc-zero}
 use Rattle.scope.specs.declared.Field.{Field}
-use Rattle.scope.specs.declared.Field.the-variants.{Vertices, Links, Messages, Timeout, From, To, Length, Link, Slot, Flag, SecondLength, SecondLink, End}
+use Rattle.scope.specs.declared.Field.the-variants.{Vertices, Links, Messages, Timeout, From, To, Length, Link, Slot, Flag, SecondLength}
+use Rattle.scope.specs.declared.Field.the-variants.{SecondLink, End}
 use Rattle.scope.proofs.Outcomes.{not-both}
 use Rattle.scope.specs.Outcome.{gives, refuse}
 use Rattle.scope.specs.Fields.{widthOf, following, nextMessage, nextPlace}
@@ -48,7 +49,8 @@ module _ (row : List ℕ) where
   took f i j ej w e = by (ltb i (length row)) refl
     where
       fits : (t : Bool) → ltb (at row i) (2 ^ widthOf 6 f) ≡ t → i < length row →
-          cond t (walkFrom (record { slot = 6; next = following f (at row i) }) (i + 1) (drop (i + 1) row)) (refuse 3 i) ≡ gives (length row) → Took row f i j
+          cond t (walkFrom (record { slot = 6; next = following f (at row i) }) (i + 1) (drop (i + 1) row)) (refuse 3 i) ≡ gives (length row) →
+          Took row f i j
       fits true s h g = record { inside = h; small = ltb-true (at row i) (2 ^ widthOf 6 f) s; next = rw ej g }
       fits false s h g = not-both g
 
@@ -121,7 +123,8 @@ module _ (row : List ℕ) where
       c : Took row (Flag p m) (i + 2) (i + 3)
       c = took (Flag p m) (i + 2) (i + 3) (omega arith) refl (b .next)
 
-      with-second : eqb (at row (i + 2)) 1 ≡ true → Took row (SecondLength p m) (i + 3) (i + 4) → Seconds (at row (i + 3)) p m (i + 4) → Placed p m i
+      with-second : eqb (at row (i + 2)) 1 ≡ true → Took row (SecondLength p m) (i + 3) (i + 4) → Seconds (at row (i + 3)) p m (i + 4) →
+          Placed p m i
       with-second s d r =
           let e : i + (4 + (at row (i + 3) + 1)) ≡ i + 4 + suc (at row (i + 3)) = omega arith in
           let f : at row (i + 3) + 1 ≡ suc (at row (i + 3)) = add-one (at row (i + 3)) in

@@ -12,6 +12,7 @@ use borrow.Author.Tests.{lt-ltb, le-ltb, ltb-true, ltb-false, eq-eqb, ne-eqb, eq
 use Rattle.scope.specs.Lowest.{seek, lowest}
 use Rattle.scope.proofs.Lowest.{seek-most}
 use Rattle.scope.specs.Cycle.{byNumber, foremost}
+use Rattle.table.proofs.Laws.{lowest-more}
 use Rattle.step.specs.declared.Position.{Position}
 use Rattle.step.specs.Where.{positionOf}
 use Rattle.step.specs.Stand.{home, positionsOf}
@@ -76,37 +77,14 @@ module _ (e : ℕ) where
 
 -- the lowest below one more number: it was found before, it is that number, or it is not
 module _ (test : ℕ → Bool) where
-  snoc : (n i : ℕ) → seek test (suc n) i ≡ cond (ltb (seek test n i) (i + n)) (seek test n i) (cond (test (i + n)) (i + n) (i + n + 1))
-  unfolding seek
-  snoc zero i =
-      let z : i + 0 ≡ i = omega arith in
-      rw (z, le-ltb i i (omega arith))
-  snoc (suc n) i = by (test i) refl (snoc n (i + 1))
-    where
-      by : (b : Bool) → test i ≡ b →
-          seek test (suc n) (i + 1) ≡ cond (ltb (seek test n (i + 1)) (i + 1 + n)) (seek test n (i + 1))
-          (cond (test (i + 1 + n)) (i + 1 + n) (i + 1 + n + 1)) →
-          cond b i (seek test (suc n) (i + 1)) ≡
-          cond (ltb (cond b i (seek test n (i + 1))) (i + suc n)) (cond b i (seek test n (i + 1)))
-          (cond (test (i + suc n)) (i + suc n) (i + suc n + 1))
-      by true e r = rw (lt-ltb i (i + suc n) (omega arith))
-      by false e r =
-          let z : i + 1 + n ≡ i + suc n = omega arith in
-          rw z at r
-
-  more : (n : ℕ) → lowest test (n + 1) ≡ cond (ltb (lowest test n) n) (lowest test n) (cond (test n) n (n + 1))
-  more n =
-      let z : 0 + n ≡ n = omega arith in
-      ap (λ k. seek test k 0) (add-one n) ∙ (rw z at (snoc n 0))
-
   pub lowest-keep : (n : ℕ) → lowest test n < n → lowest test (n + 1) ≡ lowest test n
-  lowest-keep n h = more n ∙ rw (lt-ltb (lowest test n) n h)
+  lowest-keep n h = lowest-more test n ∙ rw (lt-ltb (lowest test n) n h)
 
   pub lowest-here : (n : ℕ) → lowest test n ≡ n → test n ≡ true → lowest test (n + 1) ≡ n
-  lowest-here n h t = more n ∙ rw (le-ltb (lowest test n) n (omega arith), t)
+  lowest-here n h t = lowest-more test n ∙ rw (le-ltb (lowest test n) n (omega arith), t)
 
   pub lowest-next : (n : ℕ) → lowest test n ≡ n → test n ≡ false → lowest test (n + 1) ≡ n + 1
-  lowest-next n h t = more n ∙ rw (le-ltb (lowest test n) n (omega arith), t)
+  lowest-next n h t = lowest-more test n ∙ rw (le-ltb (lowest test n) n (omega arith), t)
 
 -- whoever is found in the list, and where nobody is
 module _ (tried : List ℕ) (e : ℕ) where

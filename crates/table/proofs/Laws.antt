@@ -13,7 +13,8 @@ use lib.Seq.{getD-set-same, getD-set-other}
 use lib.Dec.{ltb, eqb}
 use Rattle.scope.specs.Limits.{mostSlots, mostLinks, tableSize}
 use Rattle.scope.specs.Lowest.{seek, lowest}
-use Rattle.scope.specs.Plan.{Place, placeAt, placeSize, placesAt, afterPlaces, placeCount, messageAt, afterMessage, messageCount, firstMessage, planOf, pathOf}
+use Rattle.scope.specs.Plan.{Place, placeAt, placeSize, placesAt, afterPlaces, placeCount, messageAt, afterMessage, messageCount}
+use Rattle.scope.specs.Plan.{firstMessage, planOf, pathOf}
 use Rattle.scope.specs.SecondPath.{messageIndex}
 use Rattle.scope.specs.Good.{holds}
 use Rattle.scope.specs.Cycle.{entryOf, tableOf}
@@ -32,12 +33,17 @@ stays old = by (ltb 0 old) refl
     by true h = refl
     by false h = let l : old ≤ 0 = ltb-false 0 old h in omega arith
 
+-- w was put at a link and a slot of a table
+abbrev Marked : ℕ → ℕ → ℕ → List ℕ → List ℕ → Type 0
+Marked w link slot table new = Table (λ i e. marked w link slot i e (entryAt table i e)) new
+
 module _ (table : List ℕ) (w link slot : ℕ) (long : length table ≡ tableSize) where
   -- nothing is put where the slot and the link are held already
-  kept : ((i e : ℕ) → i < mostSlots → e < mostLinks → link ≡ e → slot ≡ i → 0 < entryAt table i e) → Table (λ i e. marked w link slot i e (entryAt table i e)) table
+  kept : ((i e : ℕ) → i < mostSlots → e < mostLinks → link ≡ e → slot ≡ i → 0 < entryAt table i e) → Marked w link slot table table
   kept held = record { long = long; is = λ i e hi he. by (entryAt table i e) (eqb link e) (eqb slot i) refl refl (held i e hi he) }
     where
-      by : {i e : ℕ} (old : ℕ) (s t : Bool) → eqb link e ≡ s → eqb slot i ≡ t → (link ≡ e → slot ≡ i → 0 < old) → old ≡ cond (ltb 0 old) old (cond (s && t) w 0)
+      by : {i e : ℕ} (old : ℕ) (s t : Bool) → eqb link e ≡ s → eqb slot i ≡ t → (link ≡ e → slot ≡ i → 0 < old) →
+          old ≡ cond (ltb 0 old) old (cond (s && t) w 0)
       by {i} {e} old true true p q held =
           let h : ltb 0 old ≡ true = lt-ltb 0 old (held (eqb-true link e p) (eqb-true slot i q)) in
           rw h
@@ -45,13 +51,13 @@ module _ (table : List ℕ) (w link slot : ℕ) (long : length table ≡ tableSi
       by old false t p q held = sym (stays old)
 
   -- the table has no such link, no such slot; or they are held
-  pub mark-no-link : mostLinks ≤ link → Table (λ i e. marked w link slot i e (entryAt table i e)) table
+  pub mark-no-link : mostLinks ≤ link → Marked w link slot table table
   mark-no-link h = kept (λ i e hi he p q. omega arith)
 
-  pub mark-no-slot : mostSlots ≤ slot → Table (λ i e. marked w link slot i e (entryAt table i e)) table
+  pub mark-no-slot : mostSlots ≤ slot → Marked w link slot table table
   mark-no-slot h = kept (λ i e hi he p q. omega arith)
 
-  pub mark-held : (x : ℕ) → x ≡ entryAt table slot link → (x ≡ 0 → ⊥) → Table (λ i e. marked w link slot i e (entryAt table i e)) table
+  pub mark-held : (x : ℕ) → x ≡ entryAt table slot link → (x ≡ 0 → ⊥) → Marked w link slot table table
   mark-held x z h = kept (λ i e hi he p q. held i e p q)
     where
       some : (x : ℕ) → (x ≡ 0 → ⊥) → 0 < x
@@ -63,15 +69,19 @@ module _ (table : List ℕ) (w link slot : ℕ) (long : length table ≡ tableSi
 
   -- they are free
   pub mark-free : (k : ℕ) → k ≡ indexOf slot link → link < mostLinks → slot < mostSlots → (x : ℕ) → x ≡ entryAt table slot link → x ≡ 0 →
-      Table (λ i e. marked w link slot i e (entryAt table i e)) (set table k w)
+      Marked w link slot table (set table k w)
   mark-free k z hl hs x y h =
-      record { long = length-set table k w ∙ long; is = λ i e hi he. entry-in (set table k w) i e hi he ∙ by i e hi he (eqb link e) (eqb slot i) refl refl }
+      record {
+        long = length-set table k w ∙ long;
+        is = λ i e hi he. entry-in (set table k w) i e hi he ∙ by i e hi he (eqb link e) (eqb slot i) refl refl;
+      }
     where
       free : (i e : ℕ) → link ≡ e → slot ≡ i → entryAt table i e ≡ 0
       free i e p q = rw (← p, ← q, ← y) h
 
       -- another entry stays as it was
-      other : (i e : ℕ) → i < mostSlots → e < mostLinks → (indexOf i e ≡ k → ⊥) → getD (set table k w) (indexOf i e) 0 ≡ cond (ltb 0 (entryAt table i e)) (entryAt table i e) 0
+      other : (i e : ℕ) → i < mostSlots → e < mostLinks → (indexOf i e ≡ k → ⊥) →
+          getD (set table k w) (indexOf i e) 0 ≡ cond (ltb 0 (entryAt table i e)) (entryAt table i e) 0
       other i e hi he n = getD-set-other table k (indexOf i e) w 0 n ∙ sym (entry-in table i e hi he) ∙ sym (stays (entryAt table i e))
 
       by : (i e : ℕ) → i < mostSlots → e < mostLinks → (s t : Bool) → eqb link e ≡ s → eqb slot i ≡ t →
@@ -126,7 +136,7 @@ module _ (row : List ℕ) (i w : ℕ) (old : List ℕ) (n : ℕ) where
       }
 
   pub entering-next : (j k : ℕ) (table new : List ℕ) (here : RowPlace) → Entering row i w old n j k table → k < n → 0 < w →
-      IsPlace row j here → Table (λ s e. marked w (here .link) (here .slot) s e (entryAt table s e)) new →
+      IsPlace row j here → Marked w (here .link) (here .slot) table new →
       Entering row i w old n (here .next) (k + 1) new
   entering-next j k table new here g h hw is m =
       record {
@@ -154,21 +164,29 @@ module _ (row : List ℕ) (i w : ℕ) (old : List ℕ) (n : ℕ) where
         table =
             record {
               long = g .long;
-              is = λ s e hs he. sym (enter-none w s e (entryAt table s e)) ∙ ap (λ ps. entered w ps s e (entryAt table s e)) (sym (places-none row j n k h)) ∙ g .is s e hs he;
+              is = λ s e hs he. none s e ∙ g .is s e hs he;
             };
       }
+    where
+      none : (s e : ℕ) → entryAt table s e ≡ entered w (placesAt row j (n - k)) s e (entryAt table s e)
+      none s e = sym (enter-none w s e (entryAt table s e)) ∙ ap (λ ps. entered w ps s e (entryAt table s e)) (sym (places-none row j n k h))
 
 -- zeros, one byte after the other
-pub zeros-next : (table : List ℕ) (k : ℕ) → k < length table → ((j : ℕ) → j < k → getD table j 0 ≡ 0) → (j : ℕ) → j < k + 1 → getD (set table k 0) j 0 ≡ 0
-zeros-next table k h z = below-more (λ j. getD (set table k 0) j 0 ≡ 0) k (λ j l. getD-set-other table k j 0 0 (λ e. omega arith) ∙ z j l) (getD-set-same table k 0 0 h)
+pub zeros-next : (table : List ℕ) (k : ℕ) → k < length table → ((j : ℕ) → j < k → getD table j 0 ≡ 0) → (j : ℕ) → j < k + 1 →
+    getD (set table k 0) j 0 ≡ 0
+zeros-next table k h z =
+    below-more (λ j. getD (set table k 0) j 0 ≡ 0) k (λ j l. getD-set-other table k j 0 0 (λ e. omega arith) ∙ z j l)
+    (getD-set-same table k 0 0 h)
 
-pub zeros-done : (table : List ℕ) (k : ℕ) → length table ≡ tableSize → tableSize ≤ k → ((j : ℕ) → j < k → getD table j 0 ≡ 0) → Table (λ i e. 0) table
+pub zeros-done : (table : List ℕ) (k : ℕ) → length table ≡ tableSize → tableSize ≤ k → ((j : ℕ) → j < k → getD table j 0 ≡ 0) →
+    Table (λ i e. 0) table
 zeros-done table k long h z = record { long = long; is = λ i e hi he. entry-in table i e hi he ∙ z (indexOf i e) (omega arith) }
 
 -- the lowest of one number more
-lowest-next : (test : ℕ → Bool) (m : ℕ) → lowest test (m + 1) ≡ cond (ltb (lowest test m) m) (lowest test m) (cond (test m) m (m + 1))
+pub lowest-more : (test : ℕ → Bool) (m : ℕ) → lowest test (m + 1) ≡ cond (ltb (lowest test m) m) (lowest test m) (cond (test m) m (m + 1))
 unfolding seek
-lowest-next test m = ap (lowest test) (add-one m) ∙ last 0 m ∙ ap (λ k. cond (ltb (seek test m 0) k) (seek test m 0) (cond (test k) k (k + 1))) (zero-add m)
+lowest-more test m =
+    ap (lowest test) (add-one m) ∙ last 0 m ∙ ap (λ k. cond (ltb (seek test m 0) k) (seek test m 0) (cond (test k) k (k + 1))) (zero-add m)
   where
     last : (i n : ℕ) → seek test (suc n) i ≡ cond (ltb (seek test n i) (i + n)) (seek test n i) (cond (test (i + n)) (i + n) (i + n + 1))
     last i zero =
@@ -181,15 +199,17 @@ lowest-next test m = ap (lowest test) (add-one m) ∙ last 0 m ∙ ap (λ k. con
         same = omega arith
 
         by : (t : Bool) →
-            cond t i (cond (ltb (seek test n (i + 1)) (i + 1 + n)) (seek test n (i + 1)) (cond (test (i + 1 + n)) (i + 1 + n) (i + 1 + n + 1))) ≡
-            cond (ltb (cond t i (seek test n (i + 1))) (i + suc n)) (cond t i (seek test n (i + 1))) (cond (test (i + suc n)) (i + suc n) (i + suc n + 1))
+            cond t i
+            (cond (ltb (seek test n (i + 1)) (i + 1 + n)) (seek test n (i + 1)) (cond (test (i + 1 + n)) (i + 1 + n) (i + 1 + n + 1))) ≡
+            cond (ltb (cond t i (seek test n (i + 1))) (i + suc n)) (cond t i (seek test n (i + 1)))
+            (cond (test (i + suc n)) (i + suc n) (i + suc n + 1))
         by true = let f : ltb i (i + suc n) ≡ true = lt-ltb i (i + suc n) (omega arith) in rw f
         by false = rw same
 
 -- the entry of one message more
 pub entry-next : (test : ℕ → Bool) (m : ℕ) →
     cond (ltb 0 (entryOf m (lowest test m))) (entryOf m (lowest test m)) (cond (test m) (m + 1) 0) ≡ entryOf (m + 1) (lowest test (m + 1))
-entry-next test m = by (lowest test m) (ltb (lowest test m) m) (test m) refl ∙ ap (entryOf (m + 1)) (sym (lowest-next test m))
+entry-next test m = by (lowest test m) (ltb (lowest test m) m) (test m) refl ∙ ap (entryOf (m + 1)) (sym (lowest-more test m))
   where
     by : (l : ℕ) (s t : Bool) → ltb l m ≡ s →
         cond (ltb 0 (cond s (l + 1) 0)) (cond s (l + 1) 0) (cond t (m + 1) 0) ≡ entryOf (m + 1) (cond s l (cond t m (m + 1)))
@@ -203,11 +223,13 @@ entry-next test m = by (lowest test m) (ltb (lowest test m) m) (test m) refl ∙
 
 module _ (row : List ℕ) where
   -- a loop over the messages, at message m: it begins, it goes on, it is done
-  pub below-first : (j : ℕ) (table : List ℕ) → Is (messageIndex row 0) (131077 + 0 * 4295229441) j → Table (λ i e. 0) table → Below row 0 j table
+  pub below-first : (j : ℕ) (table : List ℕ) → Is (messageIndex row 0) (131077 + 0 * 4295229441) j → Table (λ i e. 0) table →
+      Below row 0 j table
   unfolding seek
   below-first j table i t = record { index = i .is; small = i .small; table = record { long = t .long; is = t .is } }
 
-  pub below-next : (m j r : ℕ) (table new : List ℕ) → m < messageCount row → Below row m j table → Entered row j (m + 1) table new r → Below row (m + 1) r new
+  pub below-next : (m j r : ℕ) (table new : List ℕ) → m < messageCount row → Below row m j table → Entered row j (m + 1) table new r →
+      Below row (m + 1) r new
   below-next m j r table new h b n =
       record {
         index = n .next ∙ ap (afterMessage row) (b .index) ∙ sym (messages-suc row (firstMessage row) m);
@@ -215,7 +237,8 @@ module _ (row : List ℕ) where
         table = record { long = n .table .long; is = λ i e hi he. n .table .is i e hi he ∙ step i e hi he };
       }
     where
-      step : (i e : ℕ) → i < mostSlots → e < mostLinks → entered (m + 1) (messageAt row j) i e (entryAt table i e) ≡ ownerBelow (planOf row) (m + 1) i e
+      step : (i e : ℕ) → i < mostSlots → e < mostLinks →
+          entered (m + 1) (messageAt row j) i e (entryAt table i e) ≡ ownerBelow (planOf row) (m + 1) i e
       step i e hi he =
           rw (b .table .is i e hi he, b .index, ← path-at row m h) (entry-next (λ k. holds e i (pathOf (planOf row) k)) m)
 

@@ -1,4 +1,5 @@
--- `rows::after_places` meets its contract. The invariant: the index after the places left is the one asked for, and no place took more than 65540 numbers. Assumes nothing.
+-- `rows::after_places` meets its contract. The invariant: the index after the places left is the one asked for, and no place took more than
+-- 65540 numbers. Assumes nothing.
 use Prim.Native.Nat.{_+_, _-_, _*_, _≤_}
 use mathlib.Core.Path.{_≡_, sym, _∙_}
 use native.Mathlib.Omega.{arith}
@@ -31,7 +32,7 @@ loop-again : tie.Need-loop-again Inv-loop μ-loop
 loop-again c =
     let a = c .before .before .before .before .args in
     let l = c .before .before .loop in
-    let n = law.places-go (a .row .now) (l .at) (a .n) (l .k) (c .place-at .result .next) (c .before .loop-test .taken) (c .place-at .ensures .next) in
+    let n = law.places-go (a .row .now) (l .at) (a .n) (l .k) _ (c .before .loop-test .taken) (c .place-at .ensures .next) in
     (n ∙ l .inv .0, omega arith, omega arith)
 
 returns : tie.Need-returns Inv-loop μ-loop

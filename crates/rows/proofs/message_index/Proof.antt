@@ -28,8 +28,11 @@ add-at c = search needs
 loop-holds : tie.Need-loop-holds Inv-loop μ-loop
 loop-holds c =
     let a = c .before .before .args in
-    let e : c .links .result * 2 + 5 ≡ firstMessage (a .row .now) = omega arith in
-    (law.messages-first (a .row .now) (c .links .result * 2 + 5) (a .m) ∙ ap (λ i. afterMessages (a .row .now) i (a .m)) e, omega arith, omega arith)
+    let e : c .links .result * 2 + 5 ≡ firstMessage (a .row .now) = omega arith in (
+      law.messages-first (a .row .now) (c .links .result * 2 + 5) (a .m) ∙ ap (λ i. afterMessages (a .row .now) i (a .m)) e,
+      omega arith,
+      omega arith,
+    )
 
 after-message-requires : tie.Need-after-message-requires Inv-loop μ-loop
 after-message-requires c κs = search needs
@@ -44,7 +47,7 @@ loop-again : tie.Need-loop-again Inv-loop μ-loop
 loop-again c =
     let a = c .before .before .before .before .before .args in
     let l = c .before .before .loop in
-    let n = law.messages-next (a .row .now) (l .at) (a .m) (l .k) (c .after-message .result) (c .before .loop-test .taken) (c .after-message .ensures .is) in
+    let n = law.messages-next (a .row .now) (l .at) (a .m) (l .k) _ (c .before .loop-test .taken) (c .after-message .ensures .is) in
     (n ∙ l .inv .0, omega arith, omega arith)
 
 returns : tie.Need-returns Inv-loop μ-loop

@@ -28,13 +28,13 @@ loop-less : tie.Need-loop-less Inv-loop μ-loop
 loop-less c = search needs
 
 loop-again : tie.Need-loop-again Inv-loop μ-loop
-loop-again c = (simp length-set (omega arith), law.zeros-next (c .before .loop .table) (c .before .loop .k) (omega arith) (c .before .loop .inv .1))
+loop-again c = let l = c .before .loop in (simp length-set (omega arith), law.zeros-next (l .table) (l .k) (omega arith) (l .inv .1))
 
 same-length : tie.Need-same-length Inv-loop μ-loop
 same-length c = search needs
 
 returns : tie.Need-returns Inv-loop μ-loop
-returns c = law.zeros-done (c .before .loop .table) (c .before .loop .k) (c .before .loop .inv .0) (c .loop-test .left) (c .before .loop .inv .1)
+returns c = let l = c .before .loop in law.zeros-done (l .table) (l .k) (l .inv .0) (c .loop-test .left) (l .inv .1)
 
 pub clear-spec : {M : Type 1} → statement M
 clear-spec =

@@ -1,4 +1,5 @@
--- `table::enter` meets its contract. The invariant `Entering`: the places left, put into the table as it is, make what is asked. Assumes nothing.
+-- `table::enter` meets its contract. The invariant `Entering`: the places left, put into the table as it is, make what is asked. Assumes
+-- nothing.
 use Prim.Native.Nat.{_-_}
 use native.Mathlib.Omega.{arith}
 use borrow.Author.Needs.{needs}
@@ -51,7 +52,8 @@ same-length c = search needs
 returns : tie.Need-returns Inv-loop μ-loop
 returns c = let a = c .before .before .before .before .before .args in
     let l = c .before .loop in
-    law.entering-done (a .row .now) (a .i) (a .w) (a .table .now) (c .before .before .place-count .result) (l .at) (l .k) (l .table) (l .inv) (c .loop-test .left) (c .before .before .place-count .ensures .small)
+    law.entering-done (a .row .now) (a .i) (a .w) (a .table .now) _ (l .at) (l .k) (l .table) (l .inv) (c .loop-test .left)
+    (c .before .before .place-count .ensures .small)
 
 pub enter-spec : {M : Type 1} → statement M
 enter-spec =

@@ -18,18 +18,25 @@ shared-slice-read-result : tie.Need-shared-slice-read-result
 shared-slice-read-result c = search needs
 
 returns-3 : tie.Need-returns-3
-returns-3 c = let a = c .before .before .before .before .before .before .args in entry-is (a .table .now) (a .slot) (a .link) (c .before .before .before .before .if1 .left) (c .before .before .before .if2 .left) (c .before .before .index .result) (c .before .before .index .ensures)
+returns-3 c =
+    let i = c .before .before in
+    let a = i .before .before .before .before .args in
+    entry-is (a .table .now) (a .slot) (a .link) (i .before .before .if1 .left) (i .before .if2 .left) _ (i .index .ensures)
 
 shared-slice-read-result-2 : tie.Need-shared-slice-read-result-2
 shared-slice-read-result-2 c = search needs
 
 returns-4 : tie.Need-returns-4
-returns-4 c = let a = c .before .before .before .before .before .before .before .args in entry-is (a .table .now) (a .slot) (a .link) (c .before .before .before .before .before .if1 .left) (c .before .before .before .before .if2 .left) (c .before .before .before .index .result) (c .before .before .before .index .ensures)
+returns-4 c =
+    let i = c .before .before .before in
+    let a = i .before .before .before .before .args in
+    entry-is (a .table .now) (a .slot) (a .link) (i .before .before .if1 .left) (i .before .if2 .left) _ (i .index .ensures)
 
 returns-5 : tie.Need-returns-5
 returns-5 c =
-    let a = c .before .before .before .before .before .before .args in
-    entry-end (a .table .now) (a .slot) (a .link) (c .before .before .before .before .if1 .left) (c .before .before .before .if2 .left) (c .before .before .index .result) (c .before .before .index .ensures) (c .if4 .left)
+    let i = c .before .before in
+    let a = i .before .before .before .before .args in
+    entry-end (a .table .now) (a .slot) (a .link) (i .before .before .if1 .left) (i .before .if2 .left) _ (i .index .ensures) (c .if4 .left)
 
 pub entry-spec : {M : Type 1} → statement M
 entry-spec =

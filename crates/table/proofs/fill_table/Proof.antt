@@ -25,8 +25,10 @@ message-index-requires : tie.Need-message-index-requires Inv-loop μ-loop
 message-index-requires c κs = search needs
 
 loop-holds : tie.Need-loop-holds Inv-loop μ-loop
-loop-holds c = let row = c .before .before .before .before .before .before .before .before .args .row .now in
-    (law.below-first row (c .message-index .result) (c .before .before .before .before .clear .last .0) (c .message-index .ensures) (c .before .before .before .before .clear .ensures), omega arith)
+loop-holds c =
+    let z = c .before .before .before .before in
+    let row = z .before .before .before .before .args .row .now in
+    (law.below-first row _ (z .clear .last .0) (c .message-index .ensures) (z .clear .ensures), omega arith)
 
 add-w : tie.Need-add-w Inv-loop μ-loop
 add-w c = search needs
@@ -44,17 +46,25 @@ loop-less : tie.Need-loop-less Inv-loop μ-loop
 loop-less c = search needs
 
 loop-again : tie.Need-loop-again Inv-loop μ-loop
-loop-again c = let l = c .before .before .before .before .before .loop in
-    let h : l .m < messageCount (c .before .before .before .before .before .before .before .before .before .before .before .before .before .before .args .row .now) = omega (arith, c .before .before .before .before .before .before .before .messages .ensures .is, c .before .before .before .before .loop-test .taken) in
-    (law.below-next (c .before .before .before .before .before .before .before .before .before .before .before .before .before .before .args .row .now) (l .m) (l .at) (c .before .before .enter .result) (l .table) (c .before .before .enter .last .1 .1 .1 .0) h (l .inv .0) (c .before .before .enter .ensures), omega arith)
+loop-again c =
+    let e = c .before .before in
+    let t = e .before .before in
+    let l = t .before .loop in
+    let n = t .before .before .before in
+    let row = n .before .before .before .before .before .before .before .args .row .now in
+    let h : l .m < messageCount row = omega (arith, n .messages .ensures .is, t .loop-test .taken) in
+    (law.below-next row (l .m) (l .at) _ (l .table) (e .enter .last .1 .1 .1 .0) h (l .inv .0) (e .enter .ensures), omega arith)
 
 same-length : tie.Need-same-length Inv-loop μ-loop
 same-length c = search needs
 
 returns : tie.Need-returns Inv-loop μ-loop
-returns c = let l = c .before .loop in
-    let e : l .m ≡ messageCount (c .before .before .before .before .before .before .before .before .before .before .args .row .now) = omega (arith, c .before .before .before .messages .ensures .is, c .loop-test .left, l .inv .1) in
-    law.below-all (c .before .before .before .before .before .before .before .before .before .before .args .row .now) (l .m) (l .at) (l .table) e (l .inv .0)
+returns c =
+    let l = c .before .loop in
+    let n = c .before .before .before in
+    let row = n .before .before .before .before .before .before .before .args .row .now in
+    let e : l .m ≡ messageCount row = omega (arith, n .messages .ensures .is, c .loop-test .left, l .inv .1) in
+    law.below-all row (l .m) (l .at) (l .table) e (l .inv .0)
 
 pub fill-table-spec : {M : Type 1} → statement M
 fill-table-spec =

@@ -5,10 +5,14 @@ use Rattle.table.proofs.mark.Statement.{statement}
 use Rattle.table.proofs.mark.Tie as tie
 
 returns : tie.Need-returns
-returns c = let a = c .before .before .args in law.mark-no-link (a .table .now) (a .w) (a .link) (a .slot) (c .before .before .pre) (c .if1 .taken)
+returns c =
+    let s = c .before .before in
+    law.mark-no-link (s .args .table .now) (s .args .w) (s .args .link) (s .args .slot) (s .pre) (c .if1 .taken)
 
 returns-2 : tie.Need-returns-2
-returns-2 c = let a = c .before .before .before .args in law.mark-no-slot (a .table .now) (a .w) (a .link) (a .slot) (c .before .before .before .pre) (c .if2 .taken)
+returns-2 c =
+    let s = c .before .before .before in
+    law.mark-no-slot (s .args .table .now) (s .args .w) (s .args .link) (s .args .slot) (s .pre) (c .if2 .taken)
 
 entry-requires : tie.Need-entry-requires
 entry-requires c κs = search needs
@@ -18,8 +22,9 @@ same-length c = search needs
 
 returns-3 : tie.Need-returns-3
 returns-3 c =
-    let a = c .before .before .before .before .before .before .args in
-    law.mark-held (a .table .now) (a .w) (a .link) (a .slot) (c .before .before .before .before .before .before .pre) _ (c .before .entry .ensures) (c .if3 .taken)
+    let s = c .before .before .before .before .before .before in
+    let a = s .args in
+    law.mark-held (a .table .now) (a .w) (a .link) (a .slot) (s .pre) _ (c .before .entry .ensures) (c .if3 .taken)
 
 index-requires : tie.Need-index-requires
 index-requires c κs = search needs
@@ -32,8 +37,10 @@ same-length-2 c = search needs
 
 returns-4 : tie.Need-returns-4
 returns-4 c =
-    let a = c .before .before .before .before .before .before .before .args in
-    law.mark-free (a .table .now) (a .w) (a .link) (a .slot) (c .before .before .before .before .before .before .before .pre) (c .index .result) (c .index .ensures) (c .before .before .before .before .before .if1 .left) (c .before .before .before .before .if2 .left)
+    let b = c .before .before .before .before in
+    let s = b .before .before .before in
+    let a = s .args in
+    law.mark-free (a .table .now) (a .w) (a .link) (a .slot) (s .pre) _ (c .index .ensures) (b .before .if1 .left) (b .if2 .left)
     _ (c .before .before .entry .ensures) (c .before .if3 .left)
 
 pub mark-spec : {M : Type 1} → statement M
