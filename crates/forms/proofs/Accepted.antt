@@ -32,7 +32,8 @@ walks s i n [] e = by (eqb (width s) 0) refl e
     by false z e = not-both e
 walks s i n (v ∷ vs) e = by (eqb (width s) 0) refl (ltb v (2 ^ width s)) refl (walks (step s v) (i + 1) n vs) e
   where
-    by : (t : Bool) → eqb (width s) 0 ≡ t → (u : Bool) → ltb v (2 ^ width s) ≡ u → (walkFrom (step s v) (i + 1) vs ≡ gives n → Walks (step s v) vs) →
+    by : (t : Bool) → eqb (width s) 0 ≡ t → (u : Bool) → ltb v (2 ^ width s) ≡ u →
+        (walkFrom (step s v) (i + 1) vs ≡ gives n → Walks (step s v) vs) →
         cond t (refuse 4 i) (cond u (walkFrom (step s v) (i + 1) vs) (refuse 3 i)) ≡ gives n → Walks s (v ∷ vs)
     by true z u l more e = not-both e
     by false z true l more e = next (eqb-false (width s) 0 z) (ltb-true v (2 ^ width s) l) (more e)
@@ -64,7 +65,8 @@ unfolding costs packed
 costs-bits s [] = refl
 costs-bits s (v ∷ vs) =
     ap (λ (n : ℕ). width s + n) (costs-bits (step s v) vs)
-    ∙ sym (length-append (bitsOf (width s) v) (packed (step s v) vs) ∙ ap (λ (n : ℕ). n + length (packed (step s v) vs)) (length-bitsOf (width s) v))
+    ∙ sym (length-append (bitsOf (width s) v) (packed (step s v) vs) ∙ ap (λ (n : ℕ). n + length (packed (step s v) vs))
+    (length-bitsOf (width s) v))
 
 pub walks-numbers : {s : Fields} {vs : List ℕ} → Walks s vs → length vs ≤ numbers s
 walks-numbers {s} {vs} h = rw (costs-numbers s vs) at (walks-cost (λ w. 1) h)
@@ -89,7 +91,8 @@ walks-small narrow (next h l more) (suc i) = walks-small narrow more i
 -- the bits of a file from bit p on, with n turns at most, up to bit `end`
 pub data Goes (bs : List ℕ) (end : ℕ) : ℕ → Fields → ℕ → Type 0 where
   stop : {n : ℕ} {s : Fields} {p : ℕ} → width s ≡ 0 → p ≡ end → Goes bs end n s p
-  on : {n : ℕ} {s : Fields} {p : ℕ} → (width s ≡ 0 → ⊥) → p + width s ≤ length bs → Goes bs end n (step s (fieldAt bs p (width s))) (p + width s) →
+  on : {n : ℕ} {s : Fields} {p : ℕ} → (width s ≡ 0 → ⊥) → p + width s ≤ length bs →
+      Goes bs end n (step s (fieldAt bs p (width s))) (p + width s) →
       Goes bs end (suc n) s p
 
 pub same-end : (p end : ℕ) → gives p ≡ gives end → p ≡ end
@@ -106,8 +109,10 @@ goes bs end (suc n) s p e =
     by (eqb (width s) 0) refl (leb (p + width s) (length bs)) refl (goes bs end n (step s (fieldAt bs p (width s))) (p + width s)) e
   where
     by : (t : Bool) → eqb (width s) 0 ≡ t → (u : Bool) → leb (p + width s) (length bs) ≡ u →
-        (walkBits n (step s (fieldAt bs p (width s))) (p + width s) bs ≡ gives end → Goes bs end n (step s (fieldAt bs p (width s))) (p + width s)) →
-        cond t (gives p) (cond u (walkBits n (step s (fieldAt bs p (width s))) (p + width s) bs) (refuse 2 p)) ≡ gives end → Goes bs end (suc n) s p
+        (walkBits n (step s (fieldAt bs p (width s))) (p + width s) bs ≡ gives end → Goes bs end n (step s (fieldAt bs p (width s)))
+        (p + width s)) →
+        cond t (gives p) (cond u (walkBits n (step s (fieldAt bs p (width s))) (p + width s) bs) (refuse 2 p)) ≡ gives end →
+        Goes bs end (suc n) s p
     by true z u l more e = stop (eqb-true (width s) 0 z) (same-end p end e)
     by false z true l more e = on (eqb-false (width s) 0 z) (leb-true (p + width s) (length bs) l) (more e)
     by false z false l more e = not-both e

@@ -36,7 +36,8 @@ pub record OnFile (file row₀ row : List ℕ) (s : Fields) (p i : ℕ) : Type 0
   pub inside : p ≤ 8 * length file
   pub narrow : s .slot ≤ 16
 
-pub starts : (file row : List ℕ) (s : Fields) → 0 < length file → longestRow ≤ length row → s ≡ opening → OnFile file (set row 0 edition) (set row 0 edition) s 4 1
+pub starts : (file row : List ℕ) (s : Fields) → 0 < length file → longestRow ≤ length row → s ≡ opening →
+    OnFile file (set row 0 edition) (set row 0 edition) s 4 1
 unfolding rowOf
 starts file [] s some room e = absurd (omega arith)
 starts file (x ∷ row) s some room e =
@@ -56,7 +57,8 @@ starts file (x ∷ row) s some room e =
     })
 
 module _ (file row₀ row : List ℕ) (s : Fields) (p i : ℕ) (on : OnFile file row₀ row s p i) where
-  pub goes-on : (t : Fields) (w v : ℕ) → longestRow ≤ length row₀ → w ≡ width s → (w ≡ 0 → ⊥) → p + w ≤ 8 * length file → Read file p w v → t ≡ step s v →
+  pub goes-on : (t : Fields) (w v : ℕ) → longestRow ≤ length row₀ → w ≡ width s → (w ≡ 0 → ⊥) → p + w ≤ 8 * length file → Read file p w v →
+      t ≡ step s v →
       OnFile file row₀ (set row i v) t (p + w) (i + 1)
   goes-on t w v room is some fits read next =
       let bs = bits file in
@@ -73,7 +75,8 @@ module _ (file row₀ row : List ℕ) (s : Fields) (p i : ℕ) (on : OnFile file
         written =
             rw (add-one i, take-suc-set row i v place, append-snoc (take i row) v (fieldsOf (turns file (suc i)) t (p + w) bs))
             (rw (← add-one i, next, v′, is)
-            (ap (λ (l : List ℕ). take i row ++ l) (sym (ap (λ (k : ℕ). fieldsOf k s p bs) one ∙ fields-step bs s p (turns file (i + 1)) nonzero within))
+            (ap (λ (l : List ℕ). take i row ++ l)
+            (sym (ap (λ (k : ℕ). fieldsOf k s p bs) one ∙ fields-step bs s p (turns file (i + 1)) nonzero within))
             ∙ on .written));
         rest =
             drop-set-lt (i + 1) row i v (omega arith) ∙ sym (drop-drop 1 i row) ∙ ap (drop 1) (on .rest) ∙ drop-drop 1 i row₀;

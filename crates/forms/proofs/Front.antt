@@ -70,7 +70,8 @@ walk-front bs k (suc n) (suc m) s p b l room f g =
         let long : length (take k bs) ≡ k = length-take-le k bs l in
         bits-step (take k bs) s p n some (omega arith)
         ∙ ap (λ (x : ℕ). walkBits n (step s x) (p + width s) (take k bs)) (field-front bs k p (width s) l near)
-        ∙ more (omega (arith, falls (λ w. w) s v some small)) (omega (arith, falls (λ w. 1) s v some small)) (omega (arith, falls (λ w. 1) s v some small))
+        ∙ more (omega (arith, falls (λ w. w) s v some small)) (omega (arith, falls (λ w. 1) s v some small))
+        (omega (arith, falls (λ w. 1) s v some small))
         ∙ sym (bits-step bs s p m some inside)
 
 -- where so much follows the last field, it is refused
@@ -114,7 +115,8 @@ front-decides file more = by (eqb (fieldAt (bits file) 0 4) edition) refl
         ∙ walk-front (bits file) enough (length (bits short)) (length (bits file)) opening 4 (are-bits file) kept
         (omega (arith, wide-opening)) (omega (arith, numbers-opening, long)) (omega (arith, numbers-opening, kept))
 
-    after : (o : Outcome) → walkBits (length (bits file)) opening 4 (bits file) ≡ o → andThen o (endsAt (bits short)) ≡ andThen o (endsAt (bits file))
+    after : (o : Outcome) → walkBits (length (bits file)) opening 4 (bits file) ≡ o →
+        andThen o (endsAt (bits short)) ≡ andThen o (endsAt (bits file))
     after (gives end) w =
         let most : end ≤ 4 + wide opening = goes-bound (are-bits file) (goes (bits file) end (length (bits file)) opening 4 w) in
         far (bits short) end (omega (arith, long, wide-opening)) ∙ sym (far (bits file) end (omega (arith, kept, wide-opening)))

@@ -60,9 +60,11 @@ Counts row s p i = p + length (packed s (drop i row)) ≡ length (rowBits row)
 
 pub counts-first : (row : List ℕ) (s : Fields) → s ≡ opening → Counts row s 4 1
 counts-first row s e =
-    rw e (sym (length-append (bitsOf 4 1) (packed opening (drop 1 row)) ∙ ap (λ (n : ℕ). n + length (packed opening (drop 1 row))) (length-bitsOf 4 1)))
+    rw e (sym (length-append (bitsOf 4 1) (packed opening (drop 1 row)) ∙ ap (λ (n : ℕ). n + length (packed opening (drop 1 row)))
+    (length-bitsOf 4 1)))
 
-pub counts-next : (row : List ℕ) (s t : Fields) (p i w v : ℕ) → Counts row s p i → i < length row → w ≡ width s → v ≡ getD row i 0 → t ≡ step s v →
+pub counts-next : (row : List ℕ) (s t : Fields) (p i w v : ℕ) → Counts row s p i → i < length row → w ≡ width s → v ≡ getD row i 0 →
+    t ≡ step s v →
     Counts row t (p + w) (i + 1)
 counts-next row s t p i w v h l is read leads =
     let e : length (packed s (drop i row)) ≡ width s + length (packed (step s (getD row i 0)) (drop (i + 1) row)) =
@@ -91,13 +93,16 @@ put-after : (bs : List ℕ) (p w v : ℕ) → p + w ≤ length bs → take (p + 
 put-after bs p w v l =
     let long : length (bitsOf w v) ≡ w = length-bitsOf w v in
     let size : length (take p bs ++ bitsOf w v) ≡ p + w =
-    length-append (take p bs) (bitsOf w v) ∙ ap (λ (n : ℕ). n + length (bitsOf w v)) (length-take-le p bs (omega arith)) ∙ ap (λ (n : ℕ). p + n) long in
-    ap (take (p + w)) (sets-eq (bitsOf w v) bs p (omega arith)) ∙ take-at (take p bs ++ bitsOf w v) (drop (p + length (bitsOf w v)) bs) (p + w) size
+    length-append (take p bs) (bitsOf w v) ∙ ap (λ (n : ℕ). n + length (bitsOf w v)) (length-take-le p bs (omega arith)) ∙
+    ap (λ (n : ℕ). p + n) long in
+    ap (take (p + w)) (sets-eq (bitsOf w v) bs p (omega arith)) ∙
+    take-at (take p bs ++ bitsOf w v) (drop (p + length (bitsOf w v)) bs) (p + w) size
 
 pub edition-inside : (row file : List ℕ) → Fitting row file → 4 ≤ 8 * length file
 edition-inside row file h = omega (arith, h .room, length-file row, counts-first row opening refl)
 
-pub pack-first : (row file after : List ℕ) (s : Fields) → Fitting row file → length after ≡ length file → bits after ≡ sets (bits file) 0 (bitsOf 4 1) →
+pub pack-first : (row file after : List ℕ) (s : Fields) → Fitting row file → length after ≡ length file →
+    bits after ≡ sets (bits file) 0 (bitsOf 4 1) →
     s ≡ opening → OnPack row after after s 4 1
 pack-first row file after s h same put start =
     let walk : Walks opening (drop 1 row) = row-walks row (length row) (h .complete) in
@@ -106,7 +111,8 @@ pack-first row file after s h same put start =
     let room : 0 + 4 ≤ length (bits file) = rw length-bits (omega (arith, edition-inside row file h)) in
     rw start
     (record {
-      written = ap (λ (l : List ℕ). take 4 l ++ packed opening (drop 1 row)) put ∙ ap (λ (l : List ℕ). l ++ packed opening (drop 1 row)) (put-after (bits file) 0 4 1 room);
+      written = ap (λ (l : List ℕ). take 4 l ++ packed opening (drop 1 row)) put ∙
+          ap (λ (l : List ℕ). l ++ packed opening (drop 1 row)) (put-after (bits file) 0 4 1 room);
       counts = count;
       walks = walk;
       long = refl;
@@ -143,11 +149,13 @@ module _ (row file₀ file : List ℕ) (s : Fields) (p i : ℕ) (on : OnPack row
   packs-done l =
       record {
         end = counts-done row s p i (on .counts) l;
-        written = sym (append-nil (take p (bits file))) ∙ ap (λ (b : List ℕ). take p (bits file) ++ b) (sym (rest-none row s i l)) ∙ on .written;
+        written = sym (append-nil (take p (bits file))) ∙ ap (λ (b : List ℕ). take p (bits file) ++ b) (sym (rest-none row s i l)) ∙
+            on .written;
       }
 
 -- the zero bits after the last field make the file whole
-pub packs-whole : (row before after : List ℕ) (p : ℕ) → Packed row before p → length before ≡ length (fileOf row) → length after ≡ length before → AreBytes after →
+pub packs-whole : (row before after : List ℕ) (p : ℕ) → Packed row before p → length before ≡ length (fileOf row) →
+    length after ≡ length before → AreBytes after →
     bits after ≡ sets (bits before) p (bitsOf (8 * length before - p) 0) → after ≡ fileOf row
 unfolding fileOf
 packs-whole row before after p h size same bytes put =
@@ -157,7 +165,8 @@ packs-whole row before after p h size same bytes put =
     let end : p ≡ length (rowBits row) = h .end in
     let room : p + k ≡ length (bits before) = rw length-bits (omega arith) in
     let zero-length : length (bitsOf k 0) ≡ k = length-bitsOf k 0 in
-    let none : drop (p + length (bitsOf k 0)) (bits before) ≡ [] = drop-of-length-le (bits before) {i = p + length (bitsOf k 0)} (omega arith) in
+    let none : drop (p + length (bitsOf k 0)) (bits before) ≡ [] = drop-of-length-le (bits before) {i = p + length (bitsOf k 0)}
+    (omega arith) in
     let k-is : k ≡ 8 * n - length (rowBits row) = omega arith in
     let whole : bits after ≡ rowBits row ++ replicate (8 * n - length (rowBits row)) 0 =
     put ∙ sets-eq (bitsOf k 0) (bits before) p (omega arith)

@@ -74,7 +74,8 @@ module _ (row : List ℕ) (w : ℕ) where
       walkFrom s i (drop i row) ≡ andThen (fieldsFrom w n i (drop i row)) (λ j. walkFrom t j (drop j row))
   unfolding Steps fieldsFrom
   steps-walk zero s t i some e = ap (λ (s : Fields). walkFrom s i (drop i row)) e
-  steps-walk (suc n) s t i some (wide, rest) = by (ltb i (length row)) refl (ltb (getD row i 0) (2 ^ w)) refl (steps-walk n (step s (getD row i 0)) t (i + 1) some rest)
+  steps-walk (suc n) s t i some (wide, rest) = by (ltb i (length row)) refl (ltb (getD row i 0) (2 ^ w)) refl
+      (steps-walk n (step s (getD row i 0)) t (i + 1) some rest)
     where
       after : ℕ → Outcome
       after j = walkFrom t j (drop j row)
@@ -86,11 +87,14 @@ module _ (row : List ℕ) (w : ℕ) where
           walkFrom (step s (getD row i 0)) (i + 1) (drop (i + 1) row) ≡ andThen (fieldsFrom w n (i + 1) (drop (i + 1) row)) after →
           walkFrom s i (drop i row) ≡ andThen (fieldsFrom w (suc n) i (drop i row)) after
       by false l d v next =
-          from-short row s i (ltb-false i (length row) l) nonzero ∙ sym (ap (λ (o : Outcome). andThen o after) (none row w n i (ltb-false i (length row) l)))
+          from-short row s i (ltb-false i (length row) l) nonzero ∙
+          sym (ap (λ (o : Outcome). andThen o after) (none row w n i (ltb-false i (length row) l)))
       by true l false v next =
-          from-large row s i (ltb-true i (length row) l) nonzero (rw wide (ltb-false (getD row i 0) (2 ^ w) v)) ∙ sym (ap (λ (o : Outcome). andThen o after) (large row w n i (ltb-true i (length row) l) (ltb-false (getD row i 0) (2 ^ w) v)))
+          from-large row s i (ltb-true i (length row) l) nonzero (rw wide (ltb-false (getD row i 0) (2 ^ w) v)) ∙
+          sym (ap (λ (o : Outcome). andThen o after) (large row w n i (ltb-true i (length row) l) (ltb-false (getD row i 0) (2 ^ w) v)))
       by true l true v next =
-          from-step row s i (ltb-true i (length row) l) nonzero (rw wide (ltb-true (getD row i 0) (2 ^ w) v)) ∙ next ∙ sym (ap (λ (o : Outcome). andThen o after) (fits row w n i (ltb-true i (length row) l) (ltb-true (getD row i 0) (2 ^ w) v)))
+          from-step row s i (ltb-true i (length row) l) nonzero (rw wide (ltb-true (getD row i 0) (2 ^ w) v)) ∙ next ∙
+          sym (ap (λ (o : Outcome). andThen o after) (fits row w n i (ltb-true i (length row) l) (ltb-true (getD row i 0) (2 ^ w) v)))
 
   -- where they end
   pub fields-end : (n i j : ℕ) → i ≤ length row → fieldsFrom w n i (drop i row) ≡ gives j → (j ≡ i + n) × (j ≤ length row)
@@ -99,7 +103,8 @@ module _ (row : List ℕ) (w : ℕ) where
   fields-end (suc n) i j l e = by (ltb i (length row)) refl (ltb (getD row i 0) (2 ^ w)) refl (fields-end n (i + 1) j)
     where
       by : (b : Bool) → ltb i (length row) ≡ b → (d : Bool) → ltb (getD row i 0) (2 ^ w) ≡ d →
-          (i + 1 ≤ length row → fieldsFrom w n (i + 1) (drop (i + 1) row) ≡ gives j → (j ≡ i + 1 + n) × (j ≤ length row)) → (j ≡ i + suc n) × (j ≤ length row)
+          (i + 1 ≤ length row → fieldsFrom w n (i + 1) (drop (i + 1) row) ≡ gives j → (j ≡ i + 1 + n) × (j ≤ length row)) →
+          (j ≡ i + suc n) × (j ≤ length row)
       by false h d v next = not-both (sym (none row w n i (ltb-false i (length row) h)) ∙ e)
       by true h false v next = not-both (sym (large row w n i (ltb-true i (length row) h) (ltb-false (getD row i 0) (2 ^ w) v)) ∙ e)
       by true h true v next =
@@ -156,14 +161,18 @@ module _ (row : List ℕ) (f g : ℕ → ℕ → Field) (i : ℕ) where
       o ≡ fieldsFrom w n i (drop i row) → Passes row f g i o
   fields-pass w n o some l steps e =
       record {
-        same = λ p m. steps-walk row w n (at (f p m)) (at (g p m)) i some (steps p m) ∙ ap (λ (o : Outcome). andThen o (restOf row (g p m))) (sym e);
+        same = λ p m. steps-walk row w n (at (f p m)) (at (g p m)) i some (steps p m) ∙
+            ap (λ (o : Outcome). andThen o (restOf row (g p m))) (sym e);
         inside = λ j gave. fields-end row w n i j l (sym e ∙ gave) .1;
       }
 
   module _ (h : ℕ → ℕ → Field) (o : Outcome) (passes : Passes row f g i o) where
     pub pass-then : (j : ℕ) (after : Outcome) → o ≡ gives j → Passes row g h j after → Passes row f h i after
     pass-then j after e next =
-        record { same = λ p m. passes .same p m ∙ ap (λ (o : Outcome). andThen o (restOf row (g p m))) e ∙ next .same p m; inside = next .inside }
+        record {
+          same = λ p m. passes .same p m ∙ ap (λ (o : Outcome). andThen o (restOf row (g p m))) e ∙ next .same p m;
+          inside = next .inside;
+        }
 
     pub pass-bad : (r : Refusal) → o ≡ refused r → Passes row f h i (refused r)
     pass-bad r e =

@@ -25,7 +25,8 @@ module _ (row : List ℕ) (i : ℕ) (l : i ≤ length row) (o : Outcome) where
   pub links-of-second : (n k : ℕ) → k ≡ n + 1 → o ≡ fieldsFrom 6 k i (drop i row) → Passes row (SecondLink n) nextPlace i o
   links-of-second n k is e =
       let same : k ≡ suc n = omega (arith, is) in
-      fields-pass row (SecondLink n) nextPlace i 6 (suc n) o (omega arith) l (λ p m. second-steps row n p m i) (e ∙ ap (λ k. fieldsFrom 6 k i (drop i row)) same)
+      fields-pass row (SecondLink n) nextPlace i 6 (suc n) o (omega arith) l (λ p m. second-steps row n p m i)
+      (e ∙ ap (λ k. fieldsFrom 6 k i (drop i row)) same)
 
   -- a place
   pub held-of-place : o ≡ fieldsFrom 6 2 i (drop i row) → Passes row Link Flag i o
@@ -42,24 +43,28 @@ module _ (row : List ℕ) (i : ℕ) (l : i ≤ length row) (o : Outcome) where
   count-of-message e = fields-pass row (λ p m. Length m) (λ p m. Link (getD row i 0) m) i 4 1 o (omega arith) l (λ p m. (refl, refl)) e
 
   -- what comes before the messages
-  pub messages-of-plan : (n : ℕ) → i ≡ 3 → o ≡ fieldsFrom 5 1 i (drop i row) → Passes row (λ p m. Messages n) (λ p m. Timeout n (getD row 3 0)) i o
+  pub messages-of-plan : (n : ℕ) → i ≡ 3 → o ≡ fieldsFrom 5 1 i (drop i row) →
+      Passes row (λ p m. Messages n) (λ p m. Timeout n (getD row 3 0)) i o
   unfolding Steps
   messages-of-plan n third e =
       fields-pass row (λ p m. Messages n) (λ p m. Timeout n (getD row 3 0)) i 5 1 o (omega arith) l
       (λ p m. (refl, ap (λ k. at (Timeout n (getD row k 0))) third)) e
 
-  pub links-of-plan : (n b k : ℕ) → k ≡ (n + 1) * 2 + 1 → o ≡ fieldsFrom 6 k i (drop i row) → Passes row (λ p m. Timeout n b) (λ p m. Length b) i o
+  pub links-of-plan : (n b k : ℕ) → k ≡ (n + 1) * 2 + 1 → o ≡ fieldsFrom 6 k i (drop i row) →
+      Passes row (λ p m. Timeout n b) (λ p m. Length b) i o
   unfolding Steps
   links-of-plan n b k is e =
       let half = twice-is n in
       let same : k ≡ suc (suc (suc (twice n))) = omega (arith, is, half) in
-      fields-pass row (λ p m. Timeout n b) (λ p m. Length b) i 6 (suc (suc (suc (twice n)))) o (omega arith) l (λ p m. (refl, link-steps row n b (i + 1)))
+      fields-pass row (λ p m. Timeout n b) (λ p m. Length b) i 6 (suc (suc (suc (twice n)))) o (omega arith) l
+      (λ p m. (refl, link-steps row n b (i + 1)))
       (e ∙ ap (λ k. fieldsFrom 6 k i (drop i row)) same)
 
 pub sizes-of-plan : (row : List ℕ) → 1 ≤ length row → (o : Outcome) → o ≡ fieldsFrom 6 2 1 (drop 1 row) →
     Passes row (λ p m. Vertices) (λ p m. Messages (getD row 2 0)) 1 o
 unfolding Steps
-sizes-of-plan row l o e = fields-pass row (λ p m. Vertices) (λ p m. Messages (getD row 2 0)) 1 6 2 o (omega arith) l (λ p m. (refl, (refl, refl))) e
+sizes-of-plan row l o e = fields-pass row (λ p m. Vertices) (λ p m. Messages (getD row 2 0)) 1 6 2 o (omega arith) l
+    (λ p m. (refl, (refl, refl))) e
 
 -- the flag says whether a second path follows
 pub flag-set : (row : List ℕ) (i v : ℕ) (o : Outcome) → v ≡ 1 → Passes row SecondLength nextPlace i o → Passes row (afterFlag v) nextPlace i o
@@ -133,8 +138,10 @@ module _ (row : List ℕ) (some : 0 < length row) (first : getD row 0 0 ≡ edit
     (head : Passes row (λ p m. Vertices) (λ p m. Length (getD row 3 0)) 1 o) where
   pub row-head : (j n : ℕ) (after : Outcome) → o ≡ gives j → n ≡ getD row 3 0 + 1 → after ≡ restOf row (nextMessage n) j → after ≡ walkRow row
   row-head j n after e is rest =
-      let begun : nextMessage n ≡ Length (getD row 3 0) = next-message n (omega (arith, is)) ∙ ap Length (let d : n - 1 ≡ getD row 3 0 = omega (arith, is) in d) in
-      rest ∙ ap (λ (f : Field). restOf row f j) begun ∙ sym (row-opens row some first ∙ head .same 0 0 ∙ ap (λ (o : Outcome). andThen o (restOf row (Length (getD row 3 0)))) e)
+      let begun : nextMessage n ≡ Length (getD row 3 0) = next-message n (omega (arith, is)) ∙
+      ap Length (let d : n - 1 ≡ getD row 3 0 = omega (arith, is) in d) in
+      rest ∙ ap (λ (f : Field). restOf row f j) begun ∙
+      sym (row-opens row some first ∙ head .same 0 0 ∙ ap (λ (o : Outcome). andThen o (restOf row (Length (getD row 3 0)))) e)
 
   pub row-bad : (r : Refusal) → o ≡ refused r → refused r ≡ walkRow row
   row-bad r e = sym (row-opens row some first ∙ head .same 0 0 ∙ ap (λ (o : Outcome). andThen o (restOf row (Length (getD row 3 0)))) e)

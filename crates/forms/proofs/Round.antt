@@ -16,12 +16,14 @@ use Rattle.scope.specs.Fields.{width, step, opening, edition}
 use Rattle.scope.specs.Row.{walkFrom, walkRow}
 use Rattle.scope.specs.Bits.{bitsOf, bits, fieldAt, numberFrom, bytesOf}
 use Rattle.scope.specs.File.{walkBits, fieldsOf, zeros, endsAt, walkFile, rowOf, packed, rowBits, wholeBytes, fileOf}
-use Rattle.bits.proofs.Laws.{AreBits, AreBytes, length-bitsOf, length-bits, are-bits, are-bitsOf, are-append, field-bits, number-bitsOf, bytes-bits, bits-bytes}
+use Rattle.bits.proofs.Laws.{AreBits, AreBytes, length-bitsOf, length-bits, are-bits, are-bitsOf, are-append, field-bits, number-bitsOf}
+use Rattle.bits.proofs.Laws.{bytes-bits, bits-bytes}
 use Rattle.scope.specs.Limits.{longestRow, longestFile}
 use Rattle.grammar.proofs.Most.{numbers-opening, wide-opening}
 use Rattle.forms.proofs.Walk.{bits-end, bits-step, fields-end, fields-step}
 use Rattle.forms.proofs.Tail.{and-split, zeros-are}
-use Rattle.forms.proofs.Accepted.{Walks, done, next, walks-back, walks-numbers, walks-turns, walks-small, Goes, stop, on, goes, goes-inside, goes-bound, goes-walks, same-end}
+use Rattle.forms.proofs.Accepted.{Walks, done, next, walks-back, walks-numbers, walks-turns, walks-small, Goes, stop, on, goes}
+use Rattle.forms.proofs.Accepted.{goes-inside, goes-bound, goes-walks, same-end}
 use Rattle.forms.proofs.Whole.{file-opens}
 use Rattle.forms.proofs.Packing.{row-walks, row-bits-most, length-file}
 
@@ -39,7 +41,8 @@ ends-are bs e end h = by (ltb (length bs) (e + 8) && zeros (drop e bs)) refl h
   where
     by : (t : Bool) → (ltb (length bs) (e + 8) && zeros (drop e bs)) ≡ t → cond t (gives e) (refuse 4 e) ≡ gives end →
         (e ≡ end) × (length bs < e + 8) × (zeros (drop e bs) ≡ true)
-    by true t h = let both = and-split (ltb (length bs) (e + 8)) (zeros (drop e bs)) t in (same-end e end h, ltb-true (length bs) (e + 8) (both .0), both .1)
+    by true t h = let both = and-split (ltb (length bs) (e + 8)) (zeros (drop e bs)) t in
+        (same-end e end h, ltb-true (length bs) (e + 8) (both .0), both .1)
     by false t h = not-both h
 
 pub accepts : (file : List ℕ) (end : ℕ) → walkFile file ≡ gives end → Accepts file end
@@ -49,7 +52,8 @@ accepts file end e = by (ltb (length (bits file)) 4) refl (eqb (fieldAt (bits fi
     all : length (bits file) ≡ 8 * length file
     all = length-bits file
 
-    walked : (o : Outcome) → 4 ≤ length (bits file) → fieldAt (bits file) 0 4 ≡ edition → walkBits (length (bits file)) opening 4 (bits file) ≡ o →
+    walked : (o : Outcome) → 4 ≤ length (bits file) → fieldAt (bits file) 0 4 ≡ edition →
+        walkBits (length (bits file)) opening 4 (bits file) ≡ o →
         andThen o (endsAt (bits file)) ≡ gives end → Accepts file end
     walked (gives m) l f w e =
         let are = ends-are (bits file) m end e in
@@ -63,15 +67,18 @@ accepts file end e = by (ltb (length (bits file)) 4) refl (eqb (fieldAt (bits fi
     walked (refused r) l f w e = not-both e
 
     by : (t : Bool) → ltb (length (bits file)) 4 ≡ t → (u : Bool) → eqb (fieldAt (bits file) 0 4) edition ≡ u →
-        cond t (refuse 2 0) (cond u (andThen (walkBits (length (bits file)) opening 4 (bits file)) (endsAt (bits file))) (refuse 1 0)) ≡ gives end →
+        cond t (refuse 2 0) (cond u (andThen (walkBits (length (bits file)) opening 4 (bits file)) (endsAt (bits file))) (refuse 1 0)) ≡ gives
+        end →
         Accepts file end
     by true t u v e = not-both e
     by false t true v e =
-        walked (walkBits (length (bits file)) opening 4 (bits file)) (ltb-false (length (bits file)) 4 t) (eqb-true (fieldAt (bits file) 0 4) edition v) refl e
+        walked (walkBits (length (bits file)) opening 4 (bits file)) (ltb-false (length (bits file)) 4 t)
+        (eqb-true (fieldAt (bits file) 0 4) edition v) refl e
     by false t false v e = not-both e
 
 -- the fields of the bits, packed again, are those bits
-goes-packed : {bs : List ℕ} {end n : ℕ} {s : Fields} {p : ℕ} → AreBits bs → Goes bs end n s p → take p bs ++ packed s (fieldsOf n s p bs) ≡ take end bs
+goes-packed : {bs : List ℕ} {end n : ℕ} {s : Fields} {p : ℕ} → AreBits bs → Goes bs end n s p →
+    take p bs ++ packed s (fieldsOf n s p bs) ≡ take end bs
 unfolding packed
 goes-packed {bs} {n = n} {s = s} {p = p} b (stop z e) = rw (fields-end bs s p n z, e) (append-nil _)
 goes-packed {bs} {end} {s = s} {p = p} b (on {n = n} h l more) =
@@ -136,10 +143,13 @@ walks-goes {s} bs rest p (suc m) (next {v = v} {vs = vs} h small more) e l =
     let after = packed (step s v) vs in
     let is : drop p bs ≡ bitsOf w v ++ (after ++ rest) = e ∙ append-assoc (bitsOf w v) after rest in
     let field : fieldAt bs p w ≡ v =
-    ap (λ (t : List ℕ). numberFrom 0 (take w t)) is ∙ ap (numberFrom 0) (take-at (bitsOf w v) (after ++ rest) w (length-bitsOf w v)) ∙ number-bitsOf w v small in
-    let beyond : drop (p + w) bs ≡ after ++ rest = sym (drop-drop w p bs) ∙ ap (drop w) is ∙ drop-at (bitsOf w v) (after ++ rest) w (length-bitsOf w v) in
+    ap (λ (t : List ℕ). numberFrom 0 (take w t)) is ∙ ap (numberFrom 0) (take-at (bitsOf w v) (after ++ rest) w (length-bitsOf w v)) ∙
+    number-bitsOf w v small in
+    let beyond : drop (p + w) bs ≡ after ++ rest = sym (drop-drop w p bs) ∙ ap (drop w) is ∙
+    drop-at (bitsOf w v) (after ++ rest) w (length-bitsOf w v) in
     let long : length bs - p ≡ w + length (after ++ rest) =
-    sym (length-drop p bs) ∙ ap length is ∙ length-append (bitsOf w v) (after ++ rest) ∙ ap (λ (n : ℕ). n + length (after ++ rest)) (length-bitsOf w v) in
+    sym (length-drop p bs) ∙ ap length is ∙ length-append (bitsOf w v) (after ++ rest) ∙
+    ap (λ (n : ℕ). n + length (after ++ rest)) (length-bitsOf w v) in
     let fits : p + w ≤ length bs = omega (arith, h) in
     let on = walks-goes bs rest (p + w) m more beyond (omega arith) in
     let size : p + w + length after ≡ p + length (bitsOf w v ++ after) =
@@ -169,7 +179,8 @@ module _ (row : List ℕ) (n : ℕ) (walked : walkRow row ≡ gives n) where
   unfolding walkRow
   split = by row walked
     where
-      head : (t : Bool) (v : ℕ) (vs : List ℕ) → eqb v edition ≡ t → cond t (walkFrom opening 1 vs) (refuse 1 0) ≡ gives n → v ∷ vs ≡ edition ∷ vs
+      head : (t : Bool) (v : ℕ) (vs : List ℕ) → eqb v edition ≡ t → cond t (walkFrom opening 1 vs) (refuse 1 0) ≡ gives n →
+          v ∷ vs ≡ edition ∷ vs
       head true v vs t e = ap (λ (x : ℕ). x ∷ vs) (eqb-true v edition t)
       head false v vs t e = not-both e
 
@@ -218,10 +229,12 @@ module _ (row : List ℕ) (n : ℕ) (walked : walkRow row ≡ gives n) where
   parts = file-bits ∙ append-assoc (bitsOf 4 1) (packed opening (drop 1 row)) (replicate spare 0)
 
   bits-long : length (rowBits row) ≡ 4 + length (packed opening (drop 1 row))
-  bits-long = length-append (bitsOf 4 1) (packed opening (drop 1 row)) ∙ ap (λ (k : ℕ). k + length (packed opening (drop 1 row))) (length-bitsOf 4 1)
+  bits-long = length-append (bitsOf 4 1) (packed opening (drop 1 row)) ∙
+      ap (λ (k : ℕ). k + length (packed opening (drop 1 row))) (length-bitsOf 4 1)
 
   file-long : length (bits (fileOf row)) ≡ length (rowBits row) + spare
-  file-long = ap length file-bits ∙ length-append (rowBits row) (replicate spare 0) ∙ ap (λ (k : ℕ). length (rowBits row) + k) (length-replicate spare 0)
+  file-long = ap length file-bits ∙ length-append (rowBits row) (replicate spare 0) ∙
+      ap (λ (k : ℕ). length (rowBits row) + k) (length-replicate spare 0)
 
   back : (walkBits (length (bits (fileOf row))) opening 4 (bits (fileOf row)) ≡ gives (4 + length (packed opening (drop 1 row)))) ×
       (fieldsOf (length (bits (fileOf row))) opening 4 (bits (fileOf row)) ≡ drop 1 row)

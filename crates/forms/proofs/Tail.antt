@@ -62,10 +62,12 @@ module _ (file : List ℕ) (end : ℕ) where
         number-zeros (drop end (bits file)) (ap (numberFrom 0) (sym (rest e)) ∙ z),
       )
 
-  pub ends-one : wholeBytes end ≡ length file → (fieldAt (bits file) end (8 * wholeBytes end - end) ≡ 0 → ⊥) → endsAt (bits file) end ≡ refuse 4 end
+  pub ends-one : wholeBytes end ≡ length file → (fieldAt (bits file) end (8 * wholeBytes end - end) ≡ 0 → ⊥) →
+      endsAt (bits file) end ≡ refuse 4 end
   unfolding endsAt
   ends-one e h = by (zeros (drop end (bits file))) refl
     where
-      by : (t : Bool) → zeros (drop end (bits file)) ≡ t → cond (ltb (length (bits file)) (end + 8) && zeros (drop end (bits file))) (gives end) (refuse 4 end) ≡ refuse 4 end
+      by : (t : Bool) → zeros (drop end (bits file)) ≡ t →
+          cond (ltb (length (bits file)) (end + 8) && zeros (drop end (bits file))) (gives end) (refuse 4 end) ≡ refuse 4 end
       by true z = absurd (h (ap (numberFrom 0) (rest e) ∙ zeros-number (drop end (bits file)) z))
       by false z = rw (z, lt-ltb (length (bits file)) (end + 8) (rw length-bits (omega arith)))

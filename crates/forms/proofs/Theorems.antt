@@ -53,6 +53,7 @@ pub front-decides : (file : List ℕ) → longestFile < length file → walkFile
 front-decides = front.front-decides
 
 -- what `forms::unpack` leaves at the front of the buffer is the file's row
-pub unpacked-row : (file entry exit : List ℕ) (walked : Outcome) (r : Unpacked) → Unpacks file entry exit walked r → take (r .count) exit ≡ rowOf file
+pub unpacked-row : (file entry exit : List ℕ) (walked : Outcome) (r : Unpacked) → Unpacks file entry exit walked r →
+    take (r .count) exit ≡ rowOf file
 unpacked-row file entry exit walked r h =
     ap (take (r .count)) (h .row) ∙ take-at (rowOf file) (drop (length (rowOf file)) entry) (r .count) (sym (h .count))

@@ -18,7 +18,8 @@ use Rattle.forms.specs.Unpack.{Unpacks}
 use Rattle.grammar.proofs.Most.{wide-opening}
 use Rattle.forms.proofs.Accepted.{Goes, goes, goes-inside, goes-bound}
 
-pub empty-file : (file row : List ℕ) (r : Unpacked) → length file ≡ 0 → longestRow ≤ length row → outcomeOf (r .answer) ≡ refuse 2 0 → r .count ≡ 1 →
+pub empty-file : (file row : List ℕ) (r : Unpacked) → length file ≡ 0 → longestRow ≤ length row → outcomeOf (r .answer) ≡ refuse 2 0 →
+    r .count ≡ 1 →
     Unpacks file row (set row 0 edition) (walkFile file) r
 unfolding walkFile rowOf fieldsOf bits
 empty-file [] [] r none room is count = absurd (omega arith)
@@ -48,4 +49,5 @@ module _ (file : List ℕ) (some : length file ≡ 0 → ⊥) where
 -- the same row with the answer of the whole file
 pub with-answer : (file entry exit : List ℕ) (walked o : Outcome) (r t : Unpacked) → Unpacks file entry exit walked r → walkFile file ≡ o →
     outcomeOf (t .answer) ≡ o → t .count ≡ r .count → Unpacks file entry exit (walkFile file) t
-with-answer file entry exit walked o r t h is says count = record { answer = says ∙ sym is; count = count ∙ h .count; few = omega (arith, h .few); row = h .row }
+with-answer file entry exit walked o r t h is says count =
+    record { answer = says ∙ sym is; count = count ∙ h .count; few = omega (arith, h .few); row = h .row }

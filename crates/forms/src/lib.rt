@@ -1,6 +1,7 @@
-// Files and rows of a plan: a walk over the fields of either, with refusals 1 to 4, and each written as the other. A file is walked by
-// one loop that asks `grammar` for the next field; so is a row that becomes a file. A row is judged part by part, fields of one width
-// at once. proofs/Theorems.antt says what follows: files and rows give each other, and how long they can be. It leans on scope's `Row` and `File`.
+// Files and rows of a plan: a walk over the fields of either, with refusals 1 to 4, and each written as the other. A file is walked by one
+// loop that asks `grammar` for the next field, and so is a row that becomes a file; a row is judged part by part, fields of one width at
+// once. proofs/Theorems.antt says what follows: files and rows give each other, and how long they can be. It leans on scope's `Row` and
+// `File`.
 use grammar::opening;
 use grammar::step;
 use grammar::width;

@@ -70,7 +70,11 @@ module _ (plan : Plan) (path : List ℕ) (v : ℕ) where
   pub walking-first : v < mostVertices → Walking plan path v v 0 (set (replicate mostVertices 0) v 1)
   unfolding has
   walking-first h =
-      record { met = v ∷ []; marked = marks-more mostVertices (λ x. false) (replicate mostVertices 0) v (marks-none mostVertices) h; same = refl }
+      record {
+        met = v ∷ [];
+        marked = marks-more mostVertices (λ x. false) (replicate mostVertices 0) v (marks-none mostVertices) h;
+        same = refl;
+      }
 
   module _ (u k : ℕ) (marks : List ℕ) (w : Walking plan path v u k marks) where
     -- nothing is left
@@ -108,14 +112,16 @@ module _ (plan : Plan) (path : List ℕ) (v : ℕ) where
         pub walking-again : (getD marks (r .to) 0 ≡ 0 → ⊥) → record { rule = 3; step = k } ≡ firstFault plan (v ∷ []) v 0 path
         walking-again d =
             let t : has (linkOf plan e .to) (w .met) ≡ true =
-            ap (λ x. has x (w .met)) (sym (ends .to)) ∙ marks-met mostVertices (λ x. has x (w .met)) marks (r .to) (w .marked) (ends .to-small) d in
+            ap (λ x. has x (w .met)) (sym (ends .to)) ∙ marks-met mostVertices (λ x. has x (w .met)) marks (r .to) (w .marked) (ends .to-small)
+            d in
             fault e (on .here) (on .is) 3 (rw (is-link, joined, t)) refl
 
         pub walking-next : getD marks (r .to) 0 ≡ 0 → Walking plan path v (r .to) (k + 1) (set marks (r .to) 1)
         unfolding firstFault has
         walking-next d =
             let t : has (linkOf plan e .to) (w .met) ≡ false =
-            ap (λ x. has x (w .met)) (sym (ends .to)) ∙ marks-new mostVertices (λ x. has x (w .met)) marks (r .to) (w .marked) (ends .to-small) d in
+            ap (λ x. has x (w .met)) (sym (ends .to)) ∙ marks-new mostVertices (λ x. has x (w .met)) marks (r .to) (w .marked) (ends .to-small)
+            d in
             let z : faultAt plan (w .met) u e ≡ 0 = rw (is-link, joined, t) in
             let next : firstFault plan (w .met) u k (e ∷ drop (k + 1) path) ≡ firstFault plan (linkOf plan e .to ∷ w .met)
             (linkOf plan e .to) (k + 1) (drop (k + 1) path) = rw z in

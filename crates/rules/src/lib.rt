@@ -1,6 +1,6 @@
-// Refusals 5 to 10 of a row that has the form of a plan: `check` gives 0, or the lowest refusal that applies with its place, as
-// `rules` of document 01 says. The rules are numbered by their refusals: one loop looks for the lowest link or message that breaks rule n, and one
-// goes through the rules. It leans on `faults` for the test of one link or message, and on `rows` and `table`.
+// Refusals 5 to 10 of a row that has the form of a plan: `check` gives 0, or the lowest refusal that applies with its place, as `rules` of
+// document 01 says. The rules are numbered by their refusals: one loop looks for the lowest link or message that breaks rule n, and one goes
+// through the rules. It leans on `faults` for the test of one link or message, and on `rows` and `table`.
 use scope::Answer;
 use scope::limits::MESSAGES;
 use scope::limits::TABLE;

@@ -29,7 +29,8 @@ same-ends-requires c κs = search needs
 
 returns : tie.Need-returns Inv-loop μ-loop
 returns c =
-    let tested = ends-tested _ _ _ _ _ _ (c .before .before .ends-of2 .ensures) (c .before .before .before .before .before .ends-of .ensures) (c .before .same-ends .ensures) in
+    let tested = ends-tested _ _ _ _ _ _ (c .before .before .ends-of2 .ensures) (c .before .before .before .before .before .ends-of .ensures)
+    (c .before .same-ends .ensures) in
     some-found _ _ _ (c .before .before .before .before .loop .inv) (c .before .before .before .loop-test .taken) (tested ∙ c .if1 .taken)
 
 add-d : tie.Need-add-d Inv-loop μ-loop
@@ -40,7 +41,8 @@ loop-less c = search needs
 
 loop-again : tie.Need-loop-again Inv-loop μ-loop
 loop-again c =
-    let tested = ends-tested _ _ _ _ _ _ (c .before .before .ends-of2 .ensures) (c .before .before .before .before .before .ends-of .ensures) (c .before .same-ends .ensures) in
+    let tested = ends-tested _ _ _ _ _ _ (c .before .before .ends-of2 .ensures) (c .before .before .before .before .before .ends-of .ensures)
+    (c .before .same-ends .ensures) in
     seeking-next _ _ _ (c .before .before .before .before .loop .inv) (c .before .before .before .loop-test .taken) (tested ∙ c .if1 .left)
 
 returns-2 : tie.Need-returns-2 Inv-loop μ-loop

@@ -43,7 +43,8 @@ returns-3 : tie.Need-returns-3
 returns-3 c =
     let file = c .before .before .before .before .before .args .file .now in
     let end = c .before .before .before .before .before .args .end in
-    let same : wholeBytes end ≡ length file = omega (arith, c .before .before .before .before .before .pre .0, c .before .before .before .if1 .left) in
+    let same : wholeBytes end ≡ length file = omega
+    (arith, c .before .before .before .before .before .pre .0, c .before .before .before .if1 .left) in
     c .refuse2 .ensures ∙ sym (ends-one file end same (λ z. c .before .if2 .left (c .before .before .field .ensures .is ∙ z)))
 
 pub ends-spec : {M : Type 1} → statement M

@@ -27,7 +27,8 @@ opening-requires : tie.Need-opening-requires Inv-loop μ-loop
 opening-requires c κs = search needs
 
 loop-holds : tie.Need-loop-holds Inv-loop μ-loop
-loop-holds c = starts (c .before .before .before .args .file .now) (c .before .before .before .args .row .now) _ (c .before .before .before .pre .0) (c .before .before .before .pre .1) (c .opening .ensures)
+loop-holds c = starts (c .before .before .before .args .file .now) (c .before .before .before .args .row .now) _
+    (c .before .before .before .pre .0) (c .before .before .before .pre .1) (c .opening .ensures)
 
 width-requires : tie.Need-width-requires Inv-loop μ-loop
 width-requires c κs = search needs
@@ -42,8 +43,10 @@ returns c =
     let at = c .before .before .loop in
     let on = at .inv in
     let none : width (at .s) ≡ 0 = sym (c .before .width .ensures) ∙ c .if1 .taken in
-    gives-row file _ (at .row) (at .s) (at .p) (at .i) on (a .row .now) _ _ refl (rw length-set (c .before .before .before .before .before .before .pre .1))
-    (fields-end (bits file) (at .s) (at .p) (turns file (at .i)) none) (bits-end (bits file) (at .s) (at .p) (turns file (at .i)) none) refl refl
+    gives-row file _ (at .row) (at .s) (at .p) (at .i) on (a .row .now) _ _ refl
+    (rw length-set (c .before .before .before .before .before .before .pre .1))
+    (fields-end (bits file) (at .s) (at .p) (turns file (at .i)) none) (bits-end (bits file) (at .s) (at .p) (turns file (at .i)) none) refl
+    refl
 
 add-if2 : tie.Need-add-if2 Inv-loop μ-loop
 add-if2 c =
@@ -76,8 +79,10 @@ returns-2 c =
     let is = c .before .before .before .width .ensures in
     let some : width (at .s) ≡ 0 → ⊥ = λ z. c .before .before .if1 .left (is ∙ z) in
     let less : length (bits file) < at .p + width (at .s) = rw length-bits (omega (arith, is, c .before .if2 .taken)) in
-    gives-row file _ (at .row) (at .s) (at .p) (at .i) on (a .row .now) _ _ refl (rw length-set (c .before .before .before .before .before .before .before .before .pre .1))
-    (fields-short (bits file) (at .s) (at .p) (turns file (at .i)) some less) (bits-short (bits file) (at .s) (at .p) (turns file (at .i)) some less)
+    gives-row file _ (at .row) (at .s) (at .p) (at .i) on (a .row .now) _ _ refl
+    (rw length-set (c .before .before .before .before .before .before .before .before .pre .1))
+    (fields-short (bits file) (at .s) (at .p) (turns file (at .i)) some less)
+    (bits-short (bits file) (at .s) (at .p) (turns file (at .i)) some less)
     (c .refuse .ensures) refl
 
 field-requires : tie.Need-field-requires Inv-loop μ-loop
@@ -113,7 +118,14 @@ slice-write-row-2 c =
     let is = c .before .before .before .width .ensures in
     let nonzero : width (at .s) ≡ 0 → ⊥ = λ z. c .before .before .if1 .left (is ∙ z) in
     let less = falls (λ w. 1) (at .s) (c .field .result) nonzero (rw is at (c .field .ensures .small)) in
-    let place : at .i < length (at .row) = omega (arith, on .few, less, on .long, simp length-set at (on .long), c .before .before .before .before .before .before .before .before .pre .1) in
+    let place : at .i < length (at .row) = omega (
+      arith,
+      on .few,
+      less,
+      on .long,
+      simp length-set at (on .long),
+      c .before .before .before .before .before .before .before .before .pre .1,
+    ) in
     place
 
 step-requires : tie.Need-step-requires Inv-loop μ-loop
@@ -135,7 +147,8 @@ add-i c =
 
 loop-less : tie.Need-loop-less Inv-loop μ-loop
 loop-less c =
-    fewer (c .before .before .before .before .before .loop .s) _ _ _ (c .before .before .before .before .width .ensures) (c .before .before .before .if1 .left) (c .before .field .ensures .small) (c .step .ensures)
+    fewer (c .before .before .before .before .before .loop .s) _ _ _ (c .before .before .before .before .width .ensures)
+    (c .before .before .before .if1 .left) (c .before .field .ensures .small) (c .step .ensures)
 
 loop-again : tie.Need-loop-again Inv-loop μ-loop
 loop-again c =
@@ -143,7 +156,9 @@ loop-again c =
     let file = a .file .now in
     let at = c .before .before .before .before .before .loop in
     let on = at .inv in
-    goes-on file _ (at .row) (at .s) (at .p) (at .i) on _ _ _ (rw length-set (c .before .before .before .before .before .before .before .before .before .pre .1)) (c .before .before .before .before .width .ensures) (c .before .before .before .if1 .left)
+    goes-on file _ (at .row) (at .s) (at .p) (at .i) on _ _ _
+    (rw length-set (c .before .before .before .before .before .before .before .before .before .pre .1))
+    (c .before .before .before .before .width .ensures) (c .before .before .before .if1 .left)
     (omega (arith, c .before .before .if2 .left)) (c .before .field .ensures) (c .step .ensures)
 
 pub fill-spec : {M : Type 1} → statement M

@@ -17,7 +17,8 @@ mul-put c =
     let row = c .before .before .before .before .before .before .before .args .row .now in
     let fits = c .before .before .before .before .before .before .before .pre in
     let most = row-bits-most row (row-walks row (length row) (fits .complete)) in
-    let size : length (c .before .before .before .pack-fields .last .1 .0) ≡ wholeBytes (length (rowBits row)) = c .before .before .before .pack-fields .kept .1 .0 ∙ fits .room ∙ length-file row in
+    let size : length (c .before .before .before .pack-fields .last .1 .0) ≡ wholeBytes
+    (length (rowBits row)) = c .before .before .before .pack-fields .kept .1 .0 ∙ fits .room ∙ length-file row in
     omega (arith, most, size)
 
 sub-put : tie.Need-sub-put
@@ -26,7 +27,8 @@ sub-put c =
     let fits = c .before .before .before .before .before .before .before .pre in
     let most = row-bits-most row (row-walks row (length row) (fits .complete)) in
     let end = c .before .before .before .pack-fields .ensures .end in
-    let size : length (c .before .before .before .pack-fields .last .1 .0) ≡ wholeBytes (length (rowBits row)) = c .before .before .before .pack-fields .kept .1 .0 ∙ fits .room ∙ length-file row in
+    let size : length (c .before .before .before .pack-fields .last .1 .0) ≡ wholeBytes
+    (length (rowBits row)) = c .before .before .before .pack-fields .kept .1 .0 ∙ fits .room ∙ length-file row in
     omega (arith, most, end, size)
 
 put-requires : tie.Need-put-requires
@@ -35,7 +37,8 @@ put-requires c κs =
     let fits = c .before .before .before .before .before .before .before .pre in
     let most = row-bits-most row (row-walks row (length row) (fits .complete)) in
     let end = c .before .before .before .pack-fields .ensures .end in
-    let size : length (c .before .before .before .pack-fields .last .1 .0) ≡ wholeBytes (length (rowBits row)) = c .before .before .before .pack-fields .kept .1 .0 ∙ fits .room ∙ length-file row in (
+    let size : length (c .before .before .before .pack-fields .last .1 .0) ≡ wholeBytes
+    (length (rowBits row)) = c .before .before .before .pack-fields .kept .1 .0 ∙ fits .room ∙ length-file row in (
       record {
         narrow = omega (arith, end, size);
         near = omega (arith, most, end);
@@ -50,7 +53,10 @@ same-length c = search needs
 returns : tie.Need-returns
 returns c =
     let row = c .before .before .before .before .before .before .before .before .before .before .args .row .now in
-    packs-whole row (c .before .before .before .before .before .before .pack-fields .last .1 .0) _ _ (c .before .before .before .before .before .before .pack-fields .ensures) (c .before .before .before .before .before .before .pack-fields .kept .1 .0 ∙ c .before .before .before .before .before .before .before .before .before .before .pre .room) (c .before .before .put .kept .0)
+    packs-whole row (c .before .before .before .before .before .before .pack-fields .last .1 .0) _ _
+    (c .before .before .before .before .before .before .pack-fields .ensures)
+    (c .before .before .before .before .before .before .pack-fields .kept .1 .0 ∙
+    c .before .before .before .before .before .before .before .before .before .before .pre .room) (c .before .before .put .kept .0)
     (λ i. c .slice-known3 .given i .fits) (c .before .before .put .ensures)
 
 pub pack-spec : {M : Type 1} → statement M

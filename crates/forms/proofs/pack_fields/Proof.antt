@@ -5,7 +5,8 @@ use native.Mathlib.Omega.{arith}
 use lib.ListN.{length, getD}
 use Rattle.scope.specs.Fields.{width}
 use Rattle.grammar.proofs.Most.{width-most}
-use Rattle.forms.proofs.Packing.{OnPack, edition-inside, pack-first, head, next-inside, packs-on, packs-done, counts-room, row-walks, row-bits-most}
+use Rattle.forms.proofs.Packing.{OnPack, edition-inside, pack-first, head, next-inside, packs-on, packs-done, counts-room, row-walks}
+use Rattle.forms.proofs.Packing.{row-bits-most}
 use borrow.Author.Needs.{needs}
 use Rattle.forms.proofs.pack_fields.Statement.{statement}
 use Rattle.forms.proofs.pack_fields.Tie as tie
@@ -18,7 +19,8 @@ abbrev μ-loop : tie.MeasureT-loop
 
 put-requires : tie.Need-put-requires Inv-loop μ-loop
 put-requires c κs =
-    let inside = edition-inside (c .before .before .before .args .row .now) (c .before .before .before .args .file .now) (c .before .before .before .pre) in
+    let inside = edition-inside (c .before .before .before .args .row .now) (c .before .before .before .args .file .now)
+    (c .before .before .before .pre) in
     (record { narrow = omega arith; near = omega arith; inside = omega (arith, inside) }, omega arith)
 
 opening-requires : tie.Need-opening-requires Inv-loop μ-loop
@@ -26,7 +28,10 @@ opening-requires c κs = search needs
 
 loop-holds : tie.Need-loop-holds Inv-loop μ-loop
 loop-holds c =
-    pack-first (c .before .before .before .before .before .before .before .args .row .now) (c .before .before .before .before .before .before .before .args .file .now) _ _ (c .before .before .before .before .before .before .before .pre) (c .before .before .before .put .kept .0) (c .before .before .before .put .ensures) (c .opening .ensures)
+    pack-first (c .before .before .before .before .before .before .before .args .row .now)
+    (c .before .before .before .before .before .before .before .args .file .now) _ _
+    (c .before .before .before .before .before .before .before .pre) (c .before .before .before .put .kept .0)
+    (c .before .before .before .put .ensures) (c .opening .ensures)
 
 width-requires : tie.Need-width-requires Inv-loop μ-loop
 width-requires c κs = search needs
@@ -40,7 +45,9 @@ put-requires-2 c κs =
     let at = c .before .before .before .before .loop in
     let on = at .inv in
     let lt = c .before .before .before .loop-test .taken in
-    let most = row-bits-most row (row-walks row (length row) (c .before .before .before .before .before .before .before .before .before .before .before .before .pre .complete)) in
+    let most = row-bits-most row
+    (row-walks row (length row)
+    (c .before .before .before .before .before .before .before .before .before .before .before .before .pre .complete)) in
     let room = counts-room row (at .s) (at .p) (at .i) (on .counts) lt in
     let is = c .before .before .width .ensures in
     let small : getD row (at .i) 0 < 2 ^ width (at .s) = head row _ (at .file) (at .s) (at .p) (at .i) on lt .1 in
@@ -58,11 +65,15 @@ step-requires c κs = search needs
 
 add-p : tie.Need-add-p Inv-loop μ-loop
 add-p c =
-    let row = c .before .before .before .before .before .before .before .before .before .before .before .before .before .before .before .before .args .row .now in
+    let row = c .before .before .before .before .before .before .before .before .before .before .before .before .before .before .before .before
+    .args .row .now in
     let at = c .before .before .before .before .before .before .before .before .loop in
     let on = at .inv in
     let lt = c .before .before .before .before .before .before .before .loop-test .taken in
-    let most = row-bits-most row (row-walks row (length row) (c .before .before .before .before .before .before .before .before .before .before .before .before .before .before .before .before .pre .complete)) in
+    let most = row-bits-most row
+    (row-walks row (length row)
+    (c .before .before .before .before .before .before .before .before .before .before .before .before .before .before .before .before .pre
+    .complete)) in
     let room = counts-room row (at .s) (at .p) (at .i) (on .counts) lt in
     omega (arith, c .before .before .before .before .before .before .width .ensures, room, most)
 
@@ -76,11 +87,14 @@ loop-less c = search needs
 
 loop-again : tie.Need-loop-again Inv-loop μ-loop
 loop-again c =
-    let row = c .before .before .before .before .before .before .before .before .before .before .before .before .before .before .before .before .args .row .now in
+    let row = c .before .before .before .before .before .before .before .before .before .before .before .before .before .before .before .before
+    .args .row .now in
     let at = c .before .before .before .before .before .before .before .before .loop in
     let on = at .inv in
     let lt = c .before .before .before .before .before .before .before .loop-test .taken in
-    packs-on row _ (at .file) (at .s) (at .p) (at .i) on _ _ _ _ lt (c .before .before .before .before .before .before .width .ensures) (c .before .before .before .before .before .number .ensures .is) (c .before .before .before .put2 .kept .0) (c .before .before .before .put2 .ensures)
+    packs-on row _ (at .file) (at .s) (at .p) (at .i) on _ _ _ _ lt (c .before .before .before .before .before .before .width .ensures)
+    (c .before .before .before .before .before .number .ensures .is) (c .before .before .before .put2 .kept .0)
+    (c .before .before .before .put2 .ensures)
     (c .step .ensures)
 
 same-length : tie.Need-same-length Inv-loop μ-loop
@@ -89,7 +103,8 @@ same-length c = c .before .loop .inv .long ∙ c .before .before .before .before
 returns : tie.Need-returns Inv-loop μ-loop
 returns c =
     let at = c .before .loop in
-    packs-done (c .before .before .before .before .before .before .before .before .before .args .row .now) _ (at .file) (at .s) (at .p) (at .i) (at .inv) (c .loop-test .left)
+    packs-done (c .before .before .before .before .before .before .before .before .before .args .row .now) _ (at .file) (at .s) (at .p) (at .i)
+    (at .inv) (c .loop-test .left)
 
 pub pack-fields-spec : {M : Type 1} → statement M
 pack-fields-spec =

@@ -44,7 +44,8 @@ loop-less c = search needs
 loop-again : tie.Need-loop-again Inv-loop μ-loop
 loop-again c =
     let at = c .before .before .before .before .loop in
-    counts-next (c .before .before .before .before .before .before .before .args .row .now) (at .s) _ (at .p) (at .i) _ _ (at .inv) (c .before .before .before .loop-test .taken) (c .before .before .width .ensures) (c .before .number .ensures .is)
+    counts-next (c .before .before .before .before .before .before .before .args .row .now) (at .s) _ (at .p) (at .i) _ _ (at .inv)
+    (c .before .before .before .loop-test .taken) (c .before .before .width .ensures) (c .before .number .ensures .is)
     (c .step .ensures)
 
 returns : tie.Need-returns Inv-loop μ-loop

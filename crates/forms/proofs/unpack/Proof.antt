@@ -20,7 +20,8 @@ same-length c = search needs
 
 returns : tie.Need-returns
 returns c =
-    empty-file (c .before .before .before .before .args .file .now) (c .before .before .before .before .args .row .now) _ (c .before .if1 .taken) (c .before .before .before .before .pre) (c .refuse .ensures) refl
+    empty-file (c .before .before .before .before .args .file .now) (c .before .before .before .before .args .row .now) _
+    (c .before .if1 .taken) (c .before .before .before .before .pre) (c .refuse .ensures) refl
 
 fill-requires : tie.Need-fill-requires
 fill-requires c κs = search needs
@@ -39,7 +40,8 @@ returns-2 c =
     let file = c .before .before .before .before .before .before .before .before .before .before .args .file .now in
     let some = c .before .before .before .before .before .before .before .if1 .left in
     let filled = c .before .before .before .before .before .fill .ensures in
-    with-answer file _ _ _ (refuse 1 0) _ _ filled (other-edition file some (λ e. c .before .if2 .taken (c .before .before .field .ensures .is ∙ e)))
+    with-answer file _ _ _ (refuse 1 0) _ _ filled
+    (other-edition file some (λ e. c .before .if2 .taken (c .before .before .field .ensures .is ∙ e)))
     (c .refuse2 .ensures) refl
 
 enum-known-answer : tie.Need-enum-known-answer
@@ -65,7 +67,8 @@ returns-3 c =
     let some = c .before .before .before .before .before .before .before .before .before .before .if1 .left in
     let filled = c .before .before .before .before .before .before .before .before .fill .ensures in
     let walked = sym (filled .answer) ∙ ap outcomeOf (c .before .before .answer .given .1) in
-    let opens = file-opens file some (sym (c .before .before .before .before .before .field .ensures .is) ∙ c .before .before .before .before .if2 .left) in
+    let opens = file-opens file some
+    (sym (c .before .before .before .before .before .field .ensures .is) ∙ c .before .before .before .before .if2 .left) in
     with-answer file _ _ _ _ _ _ filled (opens ∙ ap (λ (o : Outcome). andThen o (endsAt (bits file))) walked) (c .ends .ensures) refl
 
 same-length-4 : tie.Need-same-length-4

@@ -1,7 +1,7 @@
 -- `forms::walk_fields` meets its contract. The loop's invariant: what is left gives the whole answer. Assumes nothing.
 use Prim.Native.Nat.{_+_, _-_, _^_, _≤_, _<_}
 use mathlib.Core.Path.{_∙_}
-use lib.ListN.{getD}
+use lib.ListN.{length, getD}
 use native.Mathlib.Omega.{arith}
 use borrow.Author.Needs.{needs}
 use Rattle.forms.proofs.Parts.{OnFields, fields-first, fields-large, fields-next, fields-short, fields-done}
@@ -42,8 +42,10 @@ returns c =
     let at = c .before .before .before .before .loop in
     let end = c .before .before .before .before .before .stop .ensures in
     let more = c .before .before .before .loop-test .taken in
-    let large : 2 ^ a .w ≤ getD (a .row .now) (at .k) 0 = rw (← c .before .before .before .before .before .before .power .ensures .is) (c .before .if1 .taken) in
-    c .refuse .ensures ∙ fields-large (a .row .now) (a .w) (a .n) (a .i) (at .k) (at .inv .0) (omega (arith, more, end .inside)) (omega (arith, more, end .most)) large
+    let large : 2 ^ a .w ≤ getD (a .row .now) (at .k) 0 = rw (← c .before .before .before .before .before .before .power .ensures .is)
+    (c .before .if1 .taken) in
+    c .refuse .ensures ∙ fields-large (a .row .now) (a .w) (a .n) (a .i) (at .k) (at .inv .0) (omega (arith, more, end .inside))
+    (omega (arith, more, end .most)) large
 
 add-k : tie.Need-add-k Inv-loop μ-loop
 add-k c = search needs
@@ -57,8 +59,11 @@ loop-again c =
     let at = c .before .before .before .loop in
     let end = c .before .before .before .before .stop .ensures in
     let more = c .before .before .loop-test .taken in
-    let small : getD (a .row .now) (at .k) 0 < 2 ^ a .w = rw (← c .before .before .before .before .before .power .ensures .is) (c .if1 .left) in
-    (fields-next (a .row .now) (a .w) (a .n) (a .i) (at .k) (at .inv .0) (omega (arith, more, end .inside)) (omega (arith, more, end .most)) small, omega (arith, more))
+    let power = c .before .before .before .before .before .power .ensures .is in
+    let small : getD (a .row .now) (at .k) 0 < 2 ^ a .w = rw (← power) (c .if1 .left) in
+    let inside : at .k < length (a .row .now) = omega (arith, more, end .inside) in
+    let few : at .k < a .i + a .n = omega (arith, more, end .most) in
+    (fields-next (a .row .now) (a .w) (a .n) (a .i) (at .k) (at .inv .0) inside few small, omega (arith, more))
 
 sub-if2 : tie.Need-sub-if2 Inv-loop μ-loop
 sub-if2 c = search needs
@@ -74,14 +79,16 @@ returns-2 c =
     let few = c .before .if2 .taken in
     let done = c .before .before .loop-test .left in
     let over : at .k < a .i + a .n = omega (arith, few, end .from, at .inv .1) in
-    c .refuse2 .ensures ∙ fields-short (a .row .now) (a .w) (a .n) (a .i) (at .k) (at .inv .0) (omega (arith, done, end .short (omega (arith, few, end .from)))) over
+    c .refuse2 .ensures ∙ fields-short (a .row .now) (a .w) (a .n) (a .i) (at .k) (at .inv .0)
+    (omega (arith, done, end .short (omega (arith, few, end .from)))) over
 
 returns-3 : tie.Need-returns-3 Inv-loop μ-loop
 returns-3 c =
     let a = c .before .before .before .before .before .before .args in
     let at = c .before .before .loop in
     let end = c .before .before .before .stop .ensures in
-    fields-done (a .row .now) (a .w) (a .n) (a .i) (at .k) (at .inv .0) (omega (arith, c .if2 .left, c .before .loop-test .left, at .inv .1, end .from, end .most))
+    fields-done (a .row .now) (a .w) (a .n) (a .i) (at .k) (at .inv .0)
+    (omega (arith, c .if2 .left, c .before .loop-test .left, at .inv .1, end .from, end .most))
 
 pub walk-fields-spec : {M : Type 1} → statement M
 walk-fields-spec =

@@ -40,8 +40,12 @@ walk-fields-requires-3 c κs =
     let row = c .before .before .before .before .before .before .before .before .before .before .args .row .now in
     let two = c .before .before .before .before .before .before .before .before .walk-fields .ensures in
     let gave = ap outcomeOf (c .before .before .before .before .before .before .sizes .given .1) in
-    let end = fields-end row 6 2 1 _ (c .before .before .before .before .before .before .before .before .before .before .pre) (sym two ∙ gave) in
-    (fields-end row 5 1 _ _ (end .1) (sym (c .before .before .before .before .walk-fields2 .ensures) ∙ ap outcomeOf (c .before .before .messages .given .1)) .1, omega arith)
+    let end = fields-end row 6 2 1 _ (c .before .before .before .before .before .before .before .before .before .before .pre)
+    (sym two ∙ gave) in (
+      fields-end row 5 1 _ _ (end .1)
+          (sym (c .before .before .before .before .walk-fields2 .ensures) ∙ ap outcomeOf (c .before .before .messages .given .1)) .1,
+      omega arith,
+    )
 
 enum-known-messages-2 : tie.Need-enum-known-messages-2
 enum-known-messages-2 c = search needs
@@ -54,12 +58,15 @@ returns c =
     let row = c .before .before .before .before .before .before .before .before .before .before .before .args .row .now in
     let two = c .before .before .before .before .before .before .before .before .before .walk-fields .ensures in
     let gave = ap outcomeOf (c .before .before .before .before .before .before .before .sizes .given .1) in
-    let end = fields-end row 6 2 1 _ (c .before .before .before .before .before .before .before .before .before .before .before .pre) (sym two ∙ gave) in
+    let end = fields-end row 6 2 1 _ (c .before .before .before .before .before .before .before .before .before .before .before .pre)
+    (sym two ∙ gave) in
     let one = c .before .before .before .before .before .walk-fields2 .ensures in
     let more = ap outcomeOf (c .before .before .before .messages .given .1) in
-    pass-then row _ _ 1 _ _ (sizes-of-plan row (c .before .before .before .before .before .before .before .before .before .before .before .pre) _ two) _ _ gave
+    pass-then row _ _ 1 _ _ (sizes-of-plan row (c .before .before .before .before .before .before .before .before .before .before .before .pre)
+    _ two) _ _ gave
     (pass-then row _ _ _ _ _ (messages-of-plan row _ (end .1) _ _ (end .0) one) _ _ more
-    (links-of-plan row _ (fields-end row 5 1 _ _ (end .1) (sym one ∙ more) .1) _ _ _ _ (ap (λ n. n * 2 + 1) (c .before .links .ensures .is)) (c .walk-fields3 .ensures)))
+    (links-of-plan row _ (fields-end row 5 1 _ _ (end .1) (sym one ∙ more) .1) _ _ _ _ (ap (λ n. n * 2 + 1) (c .before .links .ensures .is))
+    (c .walk-fields3 .ensures)))
 
 returns-2 : tie.Need-returns-2
 returns-2 c =
@@ -68,12 +75,14 @@ returns-2 c =
     let gave = ap outcomeOf (c .before .before .before .before .before .sizes .given .1) in
     let end = fields-end row 6 2 1 _ (c .before .before .before .before .before .before .before .before .before .pre) (sym two ∙ gave) in
     pass-then row _ _ 1 _ _ (sizes-of-plan row (c .before .before .before .before .before .before .before .before .before .pre) _ two) _ _ gave
-    (pass-bad row _ _ _ _ _ (messages-of-plan row _ (end .1) _ _ (end .0) (c .before .before .before .walk-fields2 .ensures)) _ (ap outcomeOf (c .before .messages2 .given .1)))
+    (pass-bad row _ _ _ _ _ (messages-of-plan row _ (end .1) _ _ (end .0) (c .before .before .before .walk-fields2 .ensures)) _
+    (ap outcomeOf (c .before .messages2 .given .1)))
 
 returns-3 : tie.Need-returns-3
 returns-3 c =
     let row = c .before .before .before .before .before .args .row .now in
-    pass-bad row _ _ 1 _ _ (sizes-of-plan row (c .before .before .before .before .before .pre) _ (c .before .before .before .walk-fields .ensures)) _ (ap outcomeOf (c .before .sizes2 .given .1))
+    pass-bad row _ _ 1 _ _ (sizes-of-plan row (c .before .before .before .before .before .pre) _
+    (c .before .before .before .walk-fields .ensures)) _ (ap outcomeOf (c .before .sizes2 .given .1))
 
 pub walk-head-spec : {M : Type 1} → statement M
 walk-head-spec =

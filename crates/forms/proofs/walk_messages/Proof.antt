@@ -31,7 +31,9 @@ returns c =
     let a = c .before .before .before .before .before .before .before .args in
     let at = c .before .before .before .before .before .loop in
     let passes = c .before .before .before .walk-message .ensures in
-    sym (going-bad (a .row .now) (λ left m. nextMessage left) (a .n) (a .i) (at .left) (at .at) (at .inv) _ (message-turn (a .row .now) (at .left) (at .at) _ (c .before .before .before .before .loop-test .taken) passes) _ (ap outcomeOf (c .before .passed2 .given .1)) 0)
+    sym (going-bad (a .row .now) (λ left m. nextMessage left) (a .n) (a .i) (at .left) (at .at) (at .inv) _
+    (message-turn (a .row .now) (at .left) (at .at) _ (c .before .before .before .before .loop-test .taken) passes) _
+    (ap outcomeOf (c .before .passed2 .given .1)) 0)
 
 sub-left : tie.Need-sub-left Inv-loop μ-loop
 sub-left c = search needs
@@ -44,13 +46,15 @@ loop-again c =
     let at = c .before .before .before .before .before .loop in
     let passes = c .before .before .before .walk-message .ensures in
     let gave = ap outcomeOf (c .before .passed .given .1) in
-    going-next _ _ _ _ (at .left) (at .at) (at .inv) _ (message-turn _ (at .left) (at .at) _ (c .before .before .before .before .loop-test .taken) passes) _ gave (passes .inside _ gave)
+    going-next _ _ _ _ (at .left) (at .at) (at .inv) _
+    (message-turn _ (at .left) (at .at) _ (c .before .before .before .before .loop-test .taken) passes) _ gave (passes .inside _ gave)
 
 refuse-requires : tie.Need-refuse-requires Inv-loop μ-loop
 refuse-requires c κs = search needs
 
 returns-2 : tie.Need-returns-2 Inv-loop μ-loop
-returns-2 c = c .refuse .ensures ∙ messages-more _ _ _ _ _ (c .before .before .before .loop .inv) (omega (arith, c .before .before .loop-test .left)) (c .before .if1 .taken)
+returns-2 c = c .refuse .ensures ∙ messages-more _ _ _ _ _ (c .before .before .before .loop .inv)
+    (omega (arith, c .before .before .loop-test .left)) (c .before .if1 .taken)
 
 returns-3 : tie.Need-returns-3 Inv-loop μ-loop
 returns-3 c = messages-done _ _ _ _ _ (c .before .before .loop .inv) (omega (arith, c .before .loop-test .left)) (c .if1 .left)

@@ -31,7 +31,10 @@ returns c =
     let a = c .before .before .before .before .before .before .before .args in
     let at = c .before .before .before .before .before .loop in
     let passes = c .before .before .before .walk-place .ensures in
-    places-bad (a .row .now) (a .n) (a .i) _ (going-bad (a .row .now) nextPlace (a .n) (a .i) (at .left) (at .at) (at .inv) _ (place-turn (a .row .now) (at .left) (at .at) _ (c .before .before .before .before .loop-test .taken) passes) _ (ap outcomeOf (c .before .passed2 .given .1)))
+    places-bad (a .row .now) (a .n) (a .i) _
+    (going-bad (a .row .now) nextPlace (a .n) (a .i) (at .left) (at .at) (at .inv) _
+    (place-turn (a .row .now) (at .left) (at .at) _ (c .before .before .before .before .loop-test .taken) passes) _
+    (ap outcomeOf (c .before .passed2 .given .1)))
 
 sub-left : tie.Need-sub-left Inv-loop μ-loop
 sub-left c = search needs
@@ -44,7 +47,8 @@ loop-again c =
     let at = c .before .before .before .before .before .loop in
     let passes = c .before .before .before .walk-place .ensures in
     let gave = ap outcomeOf (c .before .passed .given .1) in
-    going-next _ _ _ _ (at .left) (at .at) (at .inv) _ (place-turn _ (at .left) (at .at) _ (c .before .before .before .before .loop-test .taken) passes) _ gave (passes .inside _ gave)
+    going-next _ _ _ _ (at .left) (at .at) (at .inv) _
+    (place-turn _ (at .left) (at .at) _ (c .before .before .before .before .loop-test .taken) passes) _ gave (passes .inside _ gave)
 
 returns-2 : tie.Need-returns-2 Inv-loop μ-loop
 returns-2 c = places-done _ _ _ _ _ (c .before .loop .inv) (omega (arith, c .loop-test .left))

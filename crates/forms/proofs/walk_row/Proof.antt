@@ -23,7 +23,8 @@ refuse-requires-2 c κs = search needs
 returns-2 : tie.Need-returns-2
 returns-2 c =
     let some = c .before .before .before .if1 .left in
-    c .refuse2 .ensures ∙ sym (row-edition (c .before .before .before .before .before .args .row .now) (omega (arith, some)) (λ e. c .before .if2 .taken (c .before .before .number .ensures .is ∙ e)))
+    c .refuse2 .ensures ∙ sym (row-edition (c .before .before .before .before .before .args .row .now) (omega (arith, some))
+    (λ e. c .before .if2 .taken (c .before .before .number .ensures .is ∙ e)))
 
 walk-head-requires : tie.Need-walk-head-requires
 walk-head-requires c κs = search needs
@@ -44,14 +45,19 @@ returns-3 : tie.Need-returns-3
 returns-3 c =
     let row = c .before .before .before .before .before .before .before .before .before .before .args .row .now in
     let some = c .before .before .before .before .before .before .before .before .if1 .left in
-    row-head row (omega (arith, some)) (sym (c .before .before .before .before .before .before .before .number .ensures .is) ∙ c .before .before .before .before .before .before .if2 .left) _ (c .before .before .before .before .before .walk-head .ensures) _ _ _ (ap outcomeOf (c .before .before .before .head .given .1))
+    row-head row (omega (arith, some))
+    (sym (c .before .before .before .before .before .before .before .number .ensures .is) ∙
+    c .before .before .before .before .before .before .if2 .left) _ (c .before .before .before .before .before .walk-head .ensures) _ _ _
+    (ap outcomeOf (c .before .before .before .head .given .1))
     (c .before .messages .ensures .is) (c .walk-messages .ensures)
 
 returns-4 : tie.Need-returns-4
 returns-4 c =
     let row = c .before .before .before .before .before .before .before .before .args .row .now in
     let some = c .before .before .before .before .before .before .if1 .left in
-    row-bad row (omega (arith, some)) (sym (c .before .before .before .before .before .number .ensures .is) ∙ c .before .before .before .before .if2 .left) _ (c .before .before .before .walk-head .ensures) _ (ap outcomeOf (c .before .head2 .given .1))
+    row-bad row (omega (arith, some))
+    (sym (c .before .before .before .before .before .number .ensures .is) ∙ c .before .before .before .before .if2 .left) _
+    (c .before .before .before .walk-head .ensures) _ (ap outcomeOf (c .before .head2 .given .1))
 
 pub walk-row-spec : {M : Type 1} → statement M
 walk-row-spec =

@@ -24,7 +24,8 @@ add-walk-fields c = search needs
 walk-fields-requires-2 : tie.Need-walk-fields-requires-2
 walk-fields-requires-2 c κs =
     let a = c .before .before .before .before .before .before .args in
-    let end = fields-end (a .row .now) 4 1 (a .i) _ (c .before .before .before .before .before .before .pre) (sym (c .before .before .before .before .walk-fields .ensures) ∙ ap outcomeOf (c .before .before .count .given .1)) in
+    let end = fields-end (a .row .now) 4 1 (a .i) _ (c .before .before .before .before .before .before .pre)
+    (sym (c .before .before .before .before .walk-fields .ensures) ∙ ap outcomeOf (c .before .before .count .given .1)) in
     (end .1, omega arith)
 
 enum-known-count-2 : tie.Need-enum-known-count-2
@@ -43,7 +44,9 @@ returns c =
 returns-2 : tie.Need-returns-2
 returns-2 c =
     let a = c .before .before .before .before .before .args in
-    pass-bad (a .row .now) _ _ (a .i) _ _ (count-of-second (a .row .now) (a .i) (c .before .before .before .before .before .pre) _ (c .before .before .before .walk-fields .ensures)) _ (ap outcomeOf (c .before .count2 .given .1))
+    pass-bad (a .row .now) _ _ (a .i) _ _
+    (count-of-second (a .row .now) (a .i) (c .before .before .before .before .before .pre) _ (c .before .before .before .walk-fields .ensures))
+    _ (ap outcomeOf (c .before .count2 .given .1))
 
 pub walk-second-spec : {M : Type 1} → statement M
 walk-second-spec =

@@ -1,4 +1,5 @@
--- `paths::first_fault` meets its contract. The invariant `Walking`: the marks are those of the vertices met, and what is left has the first fault of the whole. Assumes nothing.
+-- `paths::first_fault` meets its contract. The invariant `Walking`: the marks are those of the vertices met, and what is left has the first
+-- fault of the whole. Assumes nothing.
 use Prim.Native.Nat.{_-_}
 use native.Mathlib.Omega.{arith}
 use borrow.Author.Needs.{needs}
@@ -18,13 +19,21 @@ abbrev μ-loop : tie.MeasureT-loop
 
 -- the link of a step, once it is known to be there
 on : (c : tie.After-struct-known Inv-loop μ-loop) →
-    OnLink (planOf (c .before .before .before .before .before .before .before .before .before .args .row .now)) (c .before .before .before .before .before .before .before .before .before .args .path .now) (c .before .before .before .before .before .loop .k) (c .before .before .before .number .result)
+    OnLink (planOf (c .before .before .before .before .before .before .before .before .before .args .row .now))
+    (c .before .before .before .before .before .before .before .before .before .args .path .now)
+    (c .before .before .before .before .before .loop .k) (c .before .before .before .number .result)
 on c =
     let row = c .before .before .before .before .before .before .before .before .before .args .row .now in
     record {
       here = c .before .before .before .before .loop-test .taken;
       is = c .before .before .before .number .ensures .is;
-      there = omega (arith, c .before .before .if1 .left, c .before .before .before .before .before .before .links .ensures .is, link-count row);
+      there = omega (
+        arith,
+        c .before .before .if1 .left,
+        c .before .before .before .before .before .before .links .ensures .is,
+        link-count
+            row,
+      );
     }
 
 links-requires : tie.Need-links-requires Inv-loop μ-loop
@@ -42,20 +51,23 @@ number-requires c κs = search needs
 returns : tie.Need-returns Inv-loop μ-loop
 returns c =
     let row = c .before .before .before .before .before .before .before .args .row .now in
-    law.walking-no-link _ _ _ _ _ _ (c .before .before .before .loop .inv) _ (c .before .before .loop-test .taken) (c .before .number .ensures .is)
+    law.walking-no-link _ _ _ _ _ _ (c .before .before .before .loop .inv) _ (c .before .before .loop-test .taken)
+    (c .before .number .ensures .is)
     (omega (arith, c .if1 .taken, c .before .before .before .before .links .ensures .is, link-count row))
 
 ends-of-requires : tie.Need-ends-of-requires Inv-loop μ-loop
 ends-of-requires c κs = search needs
 
 returns-2 : tie.Need-returns-2 Inv-loop μ-loop
-returns-2 c = law.walking-apart _ _ _ _ _ _ (c .before .before .before .before .before .before .loop .inv) _ (on (c .before)) _ (c .before .before .ends-of .ensures) (c .if2 .taken)
+returns-2 c = law.walking-apart _ _ _ _ _ _ (c .before .before .before .before .before .before .loop .inv) _ (on (c .before)) _
+    (c .before .before .ends-of .ensures) (c .if2 .taken)
 
 array-read-if3 : tie.Need-array-read-if3 Inv-loop μ-loop
 array-read-if3 c = search needs
 
 returns-3 : tie.Need-returns-3 Inv-loop μ-loop
-returns-3 c = law.walking-again _ _ _ _ _ _ (c .before .before .before .before .before .before .before .loop .inv) _ (on (c .before .before)) _ (c .before .before .before .ends-of .ensures) (c .before .if2 .left) (c .if3 .taken)
+returns-3 c = law.walking-again _ _ _ _ _ _ (c .before .before .before .before .before .before .before .loop .inv) _ (on (c .before .before)) _
+    (c .before .before .before .ends-of .ensures) (c .before .if2 .left) (c .if3 .taken)
 
 array-write-met-2 : tie.Need-array-write-met-2 Inv-loop μ-loop
 array-write-met-2 c = search needs
@@ -67,7 +79,8 @@ loop-less : tie.Need-loop-less Inv-loop μ-loop
 loop-less c = search needs
 
 loop-again : tie.Need-loop-again Inv-loop μ-loop
-loop-again c = law.walking-next _ _ _ _ _ _ (c .before .before .before .before .before .before .before .loop .inv) _ (on (c .before .before)) _ (c .before .before .before .ends-of .ensures) (c .before .if2 .left) (c .if3 .left)
+loop-again c = law.walking-next _ _ _ _ _ _ (c .before .before .before .before .before .before .before .loop .inv) _ (on (c .before .before)) _
+    (c .before .before .before .ends-of .ensures) (c .before .if2 .left) (c .if3 .left)
 
 returns-4 : tie.Need-returns-4 Inv-loop μ-loop
 returns-4 c = law.walking-done _ _ _ _ _ _ (c .before .loop .inv) (c .loop-test .left)

@@ -1,4 +1,5 @@
--- `paths::first_links` meets its contract. The invariant `Copying`: the links copied, and those of the places left, are the links asked. Assumes nothing.
+-- `paths::first_links` meets its contract. The invariant `Copying`: the links copied, and those of the places left, are the links asked.
+-- Assumes nothing.
 use Prim.Native.Nat.{_-_}
 use native.Mathlib.Omega.{arith}
 use borrow.Author.Needs.{needs}
