@@ -112,6 +112,15 @@ module _ (row : List ℕ) (w : ℕ) where
           let rest = next (omega (arith, below)) (sym (fits row w n i (ltb-true i (length row) h) (ltb-true (getD row i 0) (2 ^ w) v)) ∙ e) in
           (omega (arith, rest .0), rest .1)
 
+  -- a single one that is not refused is small
+  pub fields-small : (i j : ℕ) → fieldsFrom w 1 i (drop i row) ≡ gives j → getD row i 0 < 2 ^ w
+  fields-small i j e = by (ltb i (length row)) refl (ltb (getD row i 0) (2 ^ w)) refl
+    where
+      by : (b : Bool) → ltb i (length row) ≡ b → (d : Bool) → ltb (getD row i 0) (2 ^ w) ≡ d → getD row i 0 < 2 ^ w
+      by false h d v = not-both (sym (none row w 0 i (ltb-false i (length row) h)) ∙ e)
+      by true h false v = not-both (sym (large row w 0 i (ltb-true i (length row) h) (ltb-false (getD row i 0) (2 ^ w) v)) ∙ e)
+      by true h true v = ltb-true (getD row i 0) (2 ^ w) v
+
 -- where the fields stand at f
 abbrev pub at : Field → Fields
 at f = record { slot = opening .slot; next = f }

@@ -11,7 +11,6 @@ use Rattle.scope.specs.declared.Refusal.{Refusal}
 use Rattle.scope.specs.Outcome.{Outcome, gives, refused, refuse, andThen}
 use Rattle.scope.specs.Fields.{nextPlace, nextMessage, afterFlag, edition}
 use Rattle.scope.specs.Row.{walkRow}
-use Rattle.scope.proofs.Outcomes.{not-both}
 use Rattle.forms.specs.Walk.{fieldsFrom, restOf, Passes}
 use Rattle.forms.proofs.Walk.{from-end, from-more, row-opens}
 use Rattle.forms.proofs.Parts.{Steps, at, fields-pass, link-steps, second-steps, twice, twice-is, next-place, next-message}
@@ -74,64 +73,46 @@ pub flag-clear : (row : List ℕ) (i v : ℕ) → (v ≡ 1 → ⊥) → i ≤ le
 flag-clear row i v e l =
     record { same = λ p m. rw (ne-eqb v 1 e) refl; inside = λ j same. let is : i ≡ j = cc in omega (arith, is, l) }
 
--- a loop over n parts from index i on, with some left at another index; `next` is the field where so many are left, whatever comes after
-pub record Going (row : List ℕ) (next : ℕ → ℕ → Field) (n i left k : ℕ) : Type 0 where
-  pub same : (m : ℕ) → restOf row (next n m) i ≡ restOf row (next left m) k
+-- a loop over parts of a row that found nothing up to index k, where the next field is f: what is left gives the whole answer
+pub record Going (row : List ℕ) (whole : Outcome) (f : Field) (k : ℕ) : Type 0 where
+  pub same : whole ≡ restOf row f k
   pub inside : k ≤ length row
 
-module _ (row : List ℕ) (next : ℕ → ℕ → Field) (n i : ℕ) where
-  pub going-first : i ≤ length row → Going row next n i n i
-  going-first l = record { same = λ m. refl; inside = l }
+module _ (row : List ℕ) (whole : Outcome) (f g : Field) (k : ℕ) (going : Going row whole f k) (o : Outcome)
+    (turn : restOf row f k ≡ andThen o (restOf row g)) where
+  pub going-next : (j : ℕ) → o ≡ gives j → j ≤ length row → Going row whole g j
+  going-next j e l = record { same = going .same ∙ turn ∙ ap (λ (o : Outcome). andThen o (restOf row g)) e; inside = l }
 
-  module _ (left k : ℕ) (going : Going row next n i left k) (o : Outcome)
-      (turn : (m : ℕ) → restOf row (next left m) k ≡ andThen o (restOf row (next (left - 1) m))) where
-    pub going-next : (j : ℕ) → o ≡ gives j → j ≤ length row → Going row next n i (left - 1) j
-    going-next j e l =
-        record { same = λ m. going .same m ∙ turn m ∙ ap (λ (o : Outcome). andThen o (restOf row (next (left - 1) m))) e; inside = l }
+  pub going-bad : (r : Refusal) → o ≡ refused r → refused r ≡ whole
+  going-bad r e = sym (going .same ∙ turn ∙ ap (λ (o : Outcome). andThen o (restOf row g)) e)
 
-    pub going-bad : (r : Refusal) → o ≡ refused r → (m : ℕ) → restOf row (next n m) i ≡ refused r
-    going-bad r e m = going .same m ∙ turn m ∙ ap (λ (o : Outcome). andThen o (restOf row (next (left - 1) m))) e
+-- a place more, and a message more: how many places it has
+module _ (row : List ℕ) (places messages k : ℕ) (o : Outcome) where
+  pub place-turn : 0 < places → Passes row Link nextPlace k o →
+      restOf row (nextPlace places messages) k ≡ andThen o (restOf row (nextPlace (places - 1) messages))
+  place-turn some passes = ap (λ (f : Field). restOf row f k) (next-place places some messages) ∙ passes .same (places - 1) messages
 
-module _ (row : List ℕ) (left k : ℕ) (o : Outcome) (some : 0 < left) where
-  pub place-turn : Passes row Link nextPlace k o → (m : ℕ) → restOf row (nextPlace left m) k ≡ andThen o (restOf row (nextPlace (left - 1) m))
-  place-turn passes m = ap (λ (f : Field). restOf row f k) (next-place left some m) ∙ passes .same (left - 1) m
+  pub message-turn : places ≡ 0 → 0 < messages → k ≤ length row → o ≡ fieldsFrom 4 1 k (drop k row) → (n : ℕ) → n ≡ getD row k 0 + 1 →
+      restOf row (nextPlace places messages) k ≡ andThen o (restOf row (nextPlace n (messages - 1)))
+  message-turn none some l e n is =
+      let less : n - 1 ≡ getD row k 0 = omega (arith, is) in
+      let first : nextPlace places messages ≡ Length (messages - 1) = ap (λ p. nextPlace p messages) none ∙ next-message messages some in
+      let after : Link (getD row k 0) (messages - 1) ≡ nextPlace n (messages - 1) =
+      sym (next-place n (omega (arith, is)) (messages - 1) ∙ ap (λ p. Link p (messages - 1)) less) in
+      ap (λ (f : Field). restOf row f k) first ∙ count-of-message row k l o e .same 0 (messages - 1) ∙
+      ap (λ (f : Field). andThen o (restOf row f)) after
 
-  pub message-turn : Passes row (λ p m. Length m) (λ p m. nextMessage m) k o → (m : ℕ) →
-      restOf row (nextMessage left) k ≡ andThen o (restOf row (nextMessage (left - 1)))
-  message-turn passes m = ap (λ (f : Field). restOf row f k) (next-message left some) ∙ passes .same 0 (left - 1)
+-- the last message
+module _ (row : List ℕ) (whole : Outcome) (places messages k : ℕ) (going : Going row whole (nextPlace places messages) k) (p : places ≡ 0)
+    (m : messages ≡ 0) where
+  last : whole ≡ restOf row (nextPlace 0 0) k
+  last = going .same ∙ ap (λ n. restOf row (nextPlace n messages) k) p ∙ ap (λ n. restOf row (nextPlace 0 n) k) m
 
--- the places of a message, counted
-pub counted : (row : List ℕ) (i j n : ℕ) → n ≡ getD row i 0 + 1 → (o : Outcome) → Passes row (λ p m. nextPlace n m) (λ p m. nextMessage m) j o →
-    Passes row (λ p m. Link (getD row i 0) m) (λ p m. nextMessage m) j o
-counted row i j n is o passes =
-    let less : n - 1 ≡ getD row i 0 = omega (arith, is) in
-    record {
-      same = λ p m. ap (λ (f : Field). restOf row f j) (sym (next-place n (omega (arith, is)) m ∙ ap (λ k. Link k m) less)) ∙ passes .same p m;
-      inside = passes .inside;
-    }
+  pub messages-more : k < length row → refuse 4 k ≡ whole
+  messages-more l = sym (last ∙ from-more row (at (nextPlace 0 0)) k l refl)
 
--- all places of a message, and all messages
-pub places-done : (row : List ℕ) (n i left k : ℕ) → Going row nextPlace n i left k → left ≡ 0 →
-    Passes row (λ p m. nextPlace n m) (λ p m. nextMessage m) i (gives k)
-places-done row n i left k going z =
-    record {
-      same = λ p m. going .same m ∙ ap (λ (left : ℕ). restOf row (nextPlace left m) k) z;
-      inside = λ j e. let is : k ≡ j = cc in omega (arith, is, going .inside);
-    }
-
-pub places-bad : (row : List ℕ) (n i : ℕ) (r : Refusal) → ((m : ℕ) → restOf row (nextPlace n m) i ≡ refused r) →
-    Passes row (λ p m. nextPlace n m) (λ p m. nextMessage m) i (refused r)
-places-bad row n i r bad = record { same = λ p m. bad m; inside = λ j e. not-both e }
-
-module _ (row : List ℕ) (n i left k : ℕ) (going : Going row (λ left m. nextMessage left) n i left k) (z : left ≡ 0) where
-  last : restOf row (nextMessage n) i ≡ restOf row (nextMessage 0) k
-  last = going .same 0 ∙ ap (λ (left : ℕ). restOf row (nextMessage left) k) z
-
-  pub messages-more : k < length row → refuse 4 k ≡ restOf row (nextMessage n) i
-  messages-more l = sym (last ∙ from-more row (at (nextMessage 0)) k l refl)
-
-  pub messages-done : length row ≤ k → gives k ≡ restOf row (nextMessage n) i
-  messages-done l = sym (last ∙ from-end row (at (nextMessage 0)) k l refl)
+  pub messages-done : length row ≤ k → gives k ≡ whole
+  messages-done l = sym (last ∙ from-end row (at (nextPlace 0 0)) k l refl)
 
 -- the whole row
 module _ (row : List ℕ) (some : 0 < length row) (first : getD row 0 0 ≡ edition) (o : Outcome)

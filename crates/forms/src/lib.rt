@@ -106,58 +106,42 @@ fn walk_place(row: &[u16], i: usize) -> Answer
     }
 }
 
-// So many places.
-fn walk_places(row: &[u16], i: usize, n: usize) -> Answer
-    requires { ⌜ i ≤ length (now row) ⌝ }
-    ensures { λ r. ⌜ Passes (now (row .entry)) (λ p m. nextPlace n m) (λ p m. nextMessage m) i (outcomeOf r) ⌝ }
-{
-    let mut at = i;
-    let mut left = n;
-    while 0 < left {
-        let passed = walk_place(row, at);
-        match passed {
-            Answer::Gives(next) => {
-                at = next;
-            }
-            Answer::Refused(r) => {
-                return Answer::Refused(r);
-            }
-        }
-        left -= 1;
-    }
-    Answer::Gives(at)
-}
-
-// A message: how many places it has, and these.
-fn walk_message(row: &[u16], i: usize) -> Answer
-    requires { ⌜ i ≤ length (now row) ⌝ }
-    ensures { λ r. ⌜ Passes (now (row .entry)) (λ p m. Length m) (λ p m. nextMessage m) i (outcomeOf r) ⌝ }
-{
-    let count = walk_fields(row, i, 1, 4);
-    match count {
-        Answer::Gives(j) => walk_places(row, j, rows::place_count(row, i)),
-        Answer::Refused(r) => Answer::Refused(r),
-    }
-}
-
-// So many messages, and refusal 4 where more follows.
+// So many messages, each its number of places and these, and refusal 4 where more follows.
 fn walk_messages(row: &[u16], i: usize, n: usize) -> Answer
-    requires { ⌜ i ≤ length (now row) ⌝ }
+    requires { ⌜ (i ≤ length (now row)) × (n ≤ 65536) ⌝ }
     ensures { λ r. ⌜ outcomeOf r ≡ restOf (now (row .entry)) (nextMessage n) i ⌝ }
 {
     let mut at = i;
-    let mut left = n;
-    while 0 < left {
-        let passed = walk_message(row, at);
-        match passed {
+    let mut messages = n;
+    let mut places: usize = 0;
+    loop {
+        if places != 0 {
+            let place = walk_place(row, at);
+            match place {
+                Answer::Gives(next) => {
+                    at = next;
+                }
+                Answer::Refused(r) => {
+                    return Answer::Refused(r);
+                }
+            }
+            places -= 1;
+            continue;
+        }
+        if messages == 0 {
+            break;
+        }
+        let count = walk_fields(row, at, 1, 4);
+        match count {
             Answer::Gives(next) => {
+                places = rows::place_count(row, at);
                 at = next;
             }
             Answer::Refused(r) => {
                 return Answer::Refused(r);
             }
         }
-        left -= 1;
+        messages -= 1;
     }
     if at < row.len() {
         return refuse(4, at);

@@ -1,42 +1,44 @@
 -- `forms::walk_messages` meets its contract. The loop's invariant: what is left gives the whole answer. Assumes nothing.
-use mathlib.Core.Path.{sym, _∙_, ap}
+use Prim.Native.Nat.{_+_, _*_, _≤_}
+use mathlib.Core.Path.{refl, sym, _∙_, ap}
 use native.Mathlib.Omega.{arith}
-use Rattle.scope.specs.Fields.{nextMessage}
+use Rattle.scope.specs.Fields.{nextMessage, nextPlace}
 use Rattle.scope.specs.Outcome.{outcomeOf}
-use Rattle.forms.proofs.Passing.{Going, going-first, going-next, going-bad, message-turn, messages-more, messages-done}
+use Rattle.forms.specs.Walk.{restOf}
+use Rattle.forms.proofs.Parts.{fields-end, fields-small}
+use Rattle.forms.proofs.Passing.{Going, going-next, going-bad, place-turn, message-turn, messages-more, messages-done}
 use borrow.Author.Needs.{needs}
 use Rattle.forms.proofs.walk_messages.Statement.{statement}
 use Rattle.forms.proofs.walk_messages.Tie as tie
 
 abbrev Inv-loop : tie.InvT-loop
-Inv-loop row i n at₀ left₀ at left = Going row (λ left m. nextMessage left) n i left at
+Inv-loop row i n at₀ messages₀ places₀ at messages places =
+    Going row (restOf row (nextMessage n) i) (nextPlace places messages) at × (messages ≤ 65536) × (places ≤ 16)
 
 abbrev μ-loop : tie.MeasureT-loop
-μ-loop row i n at₀ left₀ at left = left
+μ-loop row i n at₀ messages₀ places₀ at messages places = messages * 17 + places
 
 loop-holds : tie.Need-loop-holds Inv-loop μ-loop
-loop-holds c = going-first _ _ _ _ (c .before .pre)
+loop-holds c = search needs
 
-walk-message-requires : tie.Need-walk-message-requires Inv-loop μ-loop
-walk-message-requires c κs = c .before .loop .inv .inside
+walk-place-requires : tie.Need-walk-place-requires Inv-loop μ-loop
+walk-place-requires c κs = search needs
 
-enum-known-passed : tie.Need-enum-known-passed Inv-loop μ-loop
-enum-known-passed c = search needs
+enum-known-place : tie.Need-enum-known-place Inv-loop μ-loop
+enum-known-place c = search needs
 
-enum-known-passed-2 : tie.Need-enum-known-passed-2 Inv-loop μ-loop
-enum-known-passed-2 c = search needs
+enum-known-place-2 : tie.Need-enum-known-place-2 Inv-loop μ-loop
+enum-known-place-2 c = search needs
 
 returns : tie.Need-returns Inv-loop μ-loop
 returns c =
-    let a = c .before .before .before .before .before .before .before .args in
     let at = c .before .before .before .before .before .loop in
-    let passes = c .before .before .before .walk-message .ensures in
-    sym (going-bad (a .row .now) (λ left m. nextMessage left) (a .n) (a .i) (at .left) (at .at) (at .inv) _
-    (message-turn (a .row .now) (at .left) (at .at) _ (c .before .before .before .before .loop-test .taken) passes) _
-    (ap outcomeOf (c .before .passed2 .given .1)) 0)
+    let some = c .before .before .before .before .if1 .taken in
+    let turn = place-turn _ (at .places) (at .messages) (at .at) _ (omega (arith, some)) (c .before .before .before .walk-place .ensures) in
+    going-bad _ _ _ _ _ (at .inv .0) _ turn _ (ap outcomeOf (c .before .place2 .given .1))
 
-sub-left : tie.Need-sub-left Inv-loop μ-loop
-sub-left c = search needs
+sub-places : tie.Need-sub-places Inv-loop μ-loop
+sub-places c = search needs
 
 loop-less : tie.Need-loop-less Inv-loop μ-loop
 loop-less c = search needs
@@ -44,20 +46,70 @@ loop-less c = search needs
 loop-again : tie.Need-loop-again Inv-loop μ-loop
 loop-again c =
     let at = c .before .before .before .before .before .loop in
-    let passes = c .before .before .before .walk-message .ensures in
-    let gave = ap outcomeOf (c .before .passed .given .1) in
-    going-next _ _ _ _ (at .left) (at .at) (at .inv) _
-    (message-turn _ (at .left) (at .at) _ (c .before .before .before .before .loop-test .taken) passes) _ gave (passes .inside _ gave)
+    let some = c .before .before .before .before .if1 .taken in
+    let passes = c .before .before .before .walk-place .ensures in
+    let gave = ap outcomeOf (c .before .place .given .1) in
+    let turn = place-turn _ (at .places) (at .messages) (at .at) _ (omega (arith, some)) passes in
+    (going-next _ _ _ _ _ (at .inv .0) _ turn _ gave (passes .inside _ gave), at .inv .1, omega (arith, at .inv .2))
+
+walk-fields-requires : tie.Need-walk-fields-requires Inv-loop μ-loop
+walk-fields-requires c κs = search needs
+
+enum-known-count : tie.Need-enum-known-count Inv-loop μ-loop
+enum-known-count c = search needs
+
+place-count-requires : tie.Need-place-count-requires Inv-loop μ-loop
+place-count-requires c κs = search needs
+
+enum-known-count-2 : tie.Need-enum-known-count-2 Inv-loop μ-loop
+enum-known-count-2 c = search needs
+
+returns-2 : tie.Need-returns-2 Inv-loop μ-loop
+returns-2 c =
+    let at = c .before .before .before .before .before .before .loop in
+    let some = c .before .before .before .before .if2 .left in
+    let turn = message-turn _ (at .places) (at .messages) (at .at) _ (c .before .before .before .before .before .if1 .left)
+    (omega (arith, some)) (at .inv .0 .inside) (c .before .before .before .walk-fields .ensures) _ refl in
+    going-bad _ _ _ _ _ (at .inv .0) _ turn _ (ap outcomeOf (c .before .count2 .given .1))
+
+sub-messages : tie.Need-sub-messages Inv-loop μ-loop
+sub-messages c = search needs
+
+loop-less-2 : tie.Need-loop-less-2 Inv-loop μ-loop
+loop-less-2 c =
+    let at = c .before .before .before .before .before .before .before .loop in
+    let row = c .before .before .before .before .before .before .before .before .before .args .row .now in
+    let some = c .before .before .before .before .before .if2 .left in
+    let small = fields-small row 4 (at .at) _
+    (sym (c .before .before .before .before .walk-fields .ensures) ∙ ap outcomeOf (c .before .before .count .given .1)) in
+    omega (arith, small, some, c .place-count .ensures .is)
+
+loop-again-2 : tie.Need-loop-again-2 Inv-loop μ-loop
+loop-again-2 c =
+    let at = c .before .before .before .before .before .before .before .loop in
+    let row = c .before .before .before .before .before .before .before .before .before .args .row .now in
+    let some = c .before .before .before .before .before .if2 .left in
+    let one = c .before .before .before .before .walk-fields .ensures in
+    let gave = ap outcomeOf (c .before .before .count .given .1) in
+    let counted = c .place-count .ensures .is in
+    let small = fields-small row 4 (at .at) _ (sym one ∙ gave) in
+    let turn = message-turn _ (at .places) (at .messages) (at .at) _ (c .before .before .before .before .before .before .if1 .left)
+    (omega (arith, some)) (at .inv .0 .inside) one _ counted in (
+      going-next _ _ _ _ _ (at .inv .0) _ turn _ gave (fields-end row 4 1 (at .at) _ (at .inv .0 .inside) (sym one ∙ gave) .1),
+      omega (arith, at .inv .1),
+      omega (arith, small, counted),
+    )
 
 refuse-requires : tie.Need-refuse-requires Inv-loop μ-loop
 refuse-requires c κs = search needs
 
-returns-2 : tie.Need-returns-2 Inv-loop μ-loop
-returns-2 c = c .refuse .ensures ∙ messages-more _ _ _ _ _ (c .before .before .before .loop .inv)
-    (omega (arith, c .before .before .loop-test .left)) (c .before .if1 .taken)
-
 returns-3 : tie.Need-returns-3 Inv-loop μ-loop
-returns-3 c = messages-done _ _ _ _ _ (c .before .before .loop .inv) (omega (arith, c .before .loop-test .left)) (c .if1 .left)
+returns-3 c = c .refuse .ensures ∙ messages-more _ _ _ _ _ (c .before .before .before .before .loop .inv .0)
+    (c .before .before .before .if1 .left) (c .before .before .if2 .taken) (c .before .if3 .taken)
+
+returns-4 : tie.Need-returns-4 Inv-loop μ-loop
+returns-4 c = messages-done _ _ _ _ _ (c .before .before .before .loop .inv .0) (c .before .before .if1 .left) (c .before .if2 .taken)
+    (c .if3 .left)
 
 pub walk-messages-spec : {M : Type 1} → statement M
 walk-messages-spec =
@@ -66,13 +118,21 @@ walk-messages-spec =
     Inv-loop
     μ-loop
     loop-holds
-    walk-message-requires
-    enum-known-passed
-    enum-known-passed-2
+    walk-place-requires
+    enum-known-place
+    enum-known-place-2
     returns
-    sub-left
+    sub-places
     loop-less
     loop-again
-    refuse-requires
+    walk-fields-requires
+    enum-known-count
+    place-count-requires
+    enum-known-count-2
     returns-2
-    returns-3)
+    sub-messages
+    loop-less-2
+    loop-again-2
+    refuse-requires
+    returns-3
+    returns-4)

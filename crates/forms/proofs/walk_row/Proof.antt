@@ -36,7 +36,10 @@ messages-requires : tie.Need-messages-requires
 messages-requires c κs = search needs
 
 walk-messages-requires : tie.Need-walk-messages-requires
-walk-messages-requires c κs = c .before .before .before .before .walk-head .ensures .inside _ (ap outcomeOf (c .before .before .head .given .1))
+walk-messages-requires c κs = (
+  c .before .before .before .before .walk-head .ensures .inside _ (ap outcomeOf (c .before .before .head .given .1)),
+  c .messages .ensures .small,
+)
 
 enum-known-head-2 : tie.Need-enum-known-head-2
 enum-known-head-2 c = search needs
