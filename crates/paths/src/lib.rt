@@ -12,35 +12,42 @@ ghost use Rattle.scope.specs.Good.{isPathFrom, endOf};
 ghost use Rattle.rows.specs.Lies.{PlanLies};
 ghost use Rattle.paths.specs.Path.{EndsOf, FirstLinks, firstFault};
 
+// Both ends of a link.
+pub struct Ends {
+    pub from: usize,
+    pub to: usize,
+}
+
 // The vertices where a link begins and ends, 0 where there is no such link.
+fn ends_at(row: &[u16], e: usize) -> Ends
+    requires { ⌜ e < 65536 ⌝ }
+    ensures { λ r. ⌜ (r .from ≡ linkOf (planOf (now (row .entry))) e .from) × (r .to ≡ linkOf (planOf (now (row .entry))) e .to) ⌝ }
+{
+    if e < rows::links(row) {
+        let from = rows::number(row, e * 2 + 5);
+        let to = rows::number(row, e * 2 + 6);
+        return Ends { from, to };
+    }
+    Ends { from: 0, to: 0 }
+}
+
 pub fn link_from(row: &[u16], e: usize) -> usize
     requires { ⌜ e < 65536 ⌝ }
     ensures { λ r. ⌜ r ≡ linkOf (planOf (now (row .entry))) e .from ⌝ }
 {
-    if e < rows::links(row) {
-        rows::number(row, e * 2 + 5)
-    } else {
-        0
-    }
+    let ends = ends_at(row, e);
+    ends.from
 }
 
 pub fn link_to(row: &[u16], e: usize) -> usize
     requires { ⌜ e < 65536 ⌝ }
     ensures { λ r. ⌜ r ≡ linkOf (planOf (now (row .entry))) e .to ⌝ }
 {
-    if e < rows::links(row) {
-        rows::number(row, e * 2 + 6)
-    } else {
-        0
-    }
+    let ends = ends_at(row, e);
+    ends.to
 }
 
-// Both ends of a link that is there.
-pub struct Ends {
-    pub from: usize,
-    pub to: usize,
-}
-
+// The same of a link that is there.
 pub fn ends_of(row: &[u16], e: usize) -> Ends
     requires { ⌜ PlanLies (now row) × (e < linkCount (now row)) ⌝ }
     ensures { λ r. ⌜ EndsOf (planOf (now (row .entry))) e r ⌝ }
