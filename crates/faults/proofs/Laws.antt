@@ -10,15 +10,14 @@ use lib.ListN.{length, getD, take, drop}
 use lib.Seq.{length-take-le, getD-take}
 use lib.Dec.{ltb, leb, eqb}
 use Rattle.scope.specs.Plan.{Plan, at, secondAt, secondCount, flagged, placeAt, placeSize, placesAt, afterPlaces, placeCount, messageAt, linkOf}
-use Rattle.scope.specs.Good.{isPathFrom, headOf, endOf, sameEnds, slotsRise, goodSecond, goodPlace, goodSeconds}
+use Rattle.scope.specs.Good.{isPathFrom, headOf, endOf, slotsRise, goodSecond, goodPlace, goodSeconds}
 use Rattle.rows.specs.declared.RowPlace.{RowPlace}
 use Rattle.rows.specs.View.{IsPlace}
 use Rattle.rows.proofs.Index.{places-suc}
 use Rattle.rows.proofs.Parts.{numbers-length, numbers-part, places-all, places-more, places-none}
 use Rattle.rows.proofs.Second.{no-links, some-links, links-next}
 use Rattle.table.specs.Table.{entryAt}
-use Rattle.paths.specs.declared.Ends.{Ends}
-use Rattle.paths.specs.Path.{EndsOf, FirstLinks}
+use Rattle.paths.specs.Path.{FirstLinks}
 use Rattle.paths.proofs.Laws.{head-first}
 use Rattle.faults.specs.Broken.{brokenPath, brokenSeconds, heldBelow, secondHolds}
 
@@ -42,11 +41,6 @@ module _ (w x y v a b : ℕ) (fv : v ≡ w) (fa : a ≡ x) (fb : b ≡ y) where
       twice : (t : Bool) → t ≡ not (not t)
       twice true = refl
       twice false = refl
-
--- two links by their ends
-pub ends-tested : (plan : Plan) (d e : ℕ) (x y : Ends) (t : Bool) → EndsOf plan d x → EndsOf plan e y →
-    t ≡ eqb (x .from) (y .from) && eqb (x .to) (y .to) → sameEnds (linkOf plan d) (linkOf plan e) ≡ t
-ends-tested plan d e x y t a b is = sym (is ∙ rw (a .from, a .to, b .from, b .to) refl)
 
 -- a loop over the places of the message at index i, at place k of n, which stands at index j
 pub record Passing (row : List ℕ) (i n j k : ℕ) : Type 0 where

@@ -1,17 +1,19 @@
-// Whether one link or one message breaks a rule of document 01: the tests of refusals 5 to 10. Each is its namesake in specs/ of
-// `scope` (Good) on the plan of a row; a message is told by its index. It leans on `rows`, `paths` and `table`.
-use paths::Ends;
+// Whether one link or one message breaks a rule of document 01: the tests of refusals 5 to 10, of refusal 6 the lowest link at once. Each is
+// its namesake in specs/ of `scope` (Good) on the plan of a row; a message is told by its index. It leans on `rows`, `paths` and `table`.
 use scope::limits::PLACES;
+use scope::limits::VERTICES;
 ghost use mathlib.Core.Path.{_≡_};
-ghost use mathlib.Core.Bool.{_&&_};
 ghost use Prim.Native.Nat.{_+_, _<_, _≤_, _^_};
-ghost use lib.Dec.{eqb};
 ghost use lib.ListN.{length};
 ghost use Rattle.scope.specs.Limits.{mostPlaces};
+ghost use Rattle.scope.specs.Lowest.{lowest};
 ghost use Rattle.scope.specs.Plan.{planOf, linkCount, placeAt, messageAt, placeSize, placeCount};
 ghost use Rattle.scope.specs.Good.{badEnds, repeats, goodPlace, goodSeconds};
 ghost use Rattle.rows.specs.Lies.{MessageLies, PlanLies};
 ghost use Rattle.faults.specs.Broken.{brokenPath, brokenSlots, brokenSeconds, heldBelow, secondHolds};
+
+// A number for each two vertices.
+const PAIRS: usize = VERTICES * VERTICES;
 
 // Refusal 5: an end of link e is not below V, or both are equal.
 pub fn bad_ends(row: &[u16], e: usize) -> bool
@@ -30,30 +32,24 @@ pub fn bad_ends(row: &[u16], e: usize) -> bool
     a == b
 }
 
-fn same_ends(a: Ends, b: Ends) -> bool
-    ensures { λ r. ⌜ r ≡ eqb (a .from) (b .from) && eqb (a .to) (b .to) ⌝ }
+// Refusal 6: the lowest link that repeats an earlier one, or how many links there are. One mark for each pair of vertices.
+pub fn lowest_repeat(row: &[u16]) -> usize
+    requires { ⌜ PlanLies (now row) ⌝ }
+    ensures { λ r. ⌜ r ≡ lowest (repeats (planOf (now (row .entry)))) (linkCount (now (row .entry))) ⌝ }
 {
-    if a.from == b.from {
-        return a.to == b.to;
-    }
-    false
-}
-
-// Refusal 6: link e repeats an earlier one.
-pub fn repeats_earlier(row: &[u16], e: usize) -> bool
-    requires { ⌜ PlanLies (now row) × (e < linkCount (now row)) ⌝ }
-    ensures { λ r. ⌜ r ≡ repeats (planOf (now (row .entry))) e ⌝ }
-{
-    let this = paths::ends_of(row, e);
-    let mut d = 0;
-    while d < e {
-        let other = paths::ends_of(row, d);
-        if same_ends(other, this) {
-            return true;
+    let links = rows::links(row);
+    let mut met = [0u8; PAIRS];
+    let mut e = 0;
+    while e < links {
+        let ends = paths::ends_of(row, e);
+        let k = ends.from * VERTICES + ends.to;
+        if met[k] != 0 {
+            return e;
         }
-        d += 1;
+        met[k] = 1;
+        e += 1;
     }
-    false
+    e
 }
 
 // Refusal 7: the first path of the message at an index breaks a rule other than that of slots.

@@ -11,7 +11,7 @@ use lib.Dec.{ltb, eqb}
 use Rattle.scope.specs.Lowest.{lowest}
 use Rattle.scope.specs.Outcome.{gives, refuse}
 use Rattle.scope.specs.Limits.{mostMessages}
-use Rattle.scope.specs.Plan.{Plan, messageAt, afterMessage, firstMessage, messageCount, planOf, pathOf}
+use Rattle.scope.specs.Plan.{linkCount, Plan, messageAt, afterMessage, firstMessage, messageCount, planOf, pathOf}
 use Rattle.scope.specs.Good.{badEnds, repeats, badFirstPath, badSlots, badTable, badSecondPath, rules}
 use Rattle.scope.specs.SecondPath.{messageIndex}
 use Rattle.rows.specs.View.{Is}
@@ -143,9 +143,6 @@ module _ (plan : Plan) (m : ℕ) where
   pub rule-five : (n : ℕ) → n ≡ 5 → badEnds plan m ≡ breaks plan n m
   rule-five n e = rw e
 
-  pub rule-six : (n : ℕ) → n ≡ 6 → repeats plan m ≡ breaks plan n m
-  rule-six n e = rw e
-
   pub rule-seven : (n : ℕ) → n ≡ 7 → badFirstPath plan m ≡ breaks plan n m
   rule-seven n e = rw e
 
@@ -163,6 +160,11 @@ module _ (plan : Plan) (m : ℕ) where
       let v : eqb n 8 ≡ false = ne-eqb n 8 (λ e. omega (arith, e, h)) in
       let w : eqb n 9 ≡ false = ne-eqb n 9 (λ e. omega (arith, e, h)) in
       rw (s, t, u, v, w)
+
+-- the rule of links that repeat
+pub six : (row : List ℕ) (n count r : ℕ) → n ≡ 6 → count ≡ countFor (planOf row) n → r ≡ lowest (repeats (planOf row)) (linkCount row) →
+    r ≡ lowest (breaks (planOf row) n) count
+six row n count r is counted e = rw (counted, is) (e ∙ ap (lowest (repeats (planOf row))) (sym (link-count row)))
 
 -- a loop over the rules, at rule n: it begins, it goes on, it gives a refusal, it is done
 module _ (plan : Plan) where

@@ -33,16 +33,13 @@ fn message_starts(row: &[u16]) -> [usize; MESSAGES]
     starts
 }
 
-// Whether link m, and from rule 7 on message m, breaks rule n.
+// Whether link m, and from rule 7 on message m, breaks rule n, which is not that of links that repeat.
 fn breaks(row: &[u16], starts: &[usize; MESSAGES], table: &[u8], n: usize, m: usize) -> bool
-    requires { ⌜ Judging (now row) (now starts) (now table) × (5 ≤ n) × (m < countFor (planOf (now row)) n) ⌝ }
+    requires { ⌜ Judging (now row) (now starts) (now table) × (5 ≤ n) × (n ≡ 6 → ⊥) × (m < countFor (planOf (now row)) n) ⌝ }
     ensures { λ r. ⌜ r ≡ breaks (planOf (now (row .entry))) n m ⌝ }
 {
     if n <= 6 {
-        if n == 5 {
-            return faults::bad_ends(row, m);
-        }
-        return faults::repeats_earlier(row, m);
+        return faults::bad_ends(row, m);
     }
     let i = starts[m];
     if n < 9 {
@@ -79,6 +76,9 @@ fn lowest_breaking(
     requires { ⌜ Judging (now row) (now starts) (now table) × (5 ≤ n) × (count ≡ countFor (planOf (now row)) n) ⌝ }
     ensures { λ r. ⌜ r ≡ lowest (breaks (planOf (now (row .entry))) n) count ⌝ }
 {
+    if n == 6 {
+        return faults::lowest_repeat(row);
+    }
     let mut m = 0;
     while m < count {
         if breaks(row, starts, table, n, m) {

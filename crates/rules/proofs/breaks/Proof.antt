@@ -4,7 +4,6 @@ use mathlib.Core.Path.{_∙_, sym, ap}
 use native.Mathlib.Omega.{arith}
 use lib.ListN.{length, getD}
 use Rattle.scope.specs.Plan.{planOf}
-use Rattle.rows.proofs.Parts.{link-count}
 use Rattle.faults.specs.Broken.{brokenPath, brokenSlots, brokenSeconds}
 use Rattle.rules.proofs.Below.{taken-is}
 use Rattle.rules.proofs.Laws as law
@@ -16,7 +15,7 @@ use Rattle.rules.proofs.breaks.Tie as tie
 of-message : (c : tie.After-i) → c .before .before .before .before .args .m < length
     (planOf (c .before .before .before .before .args .row .now) .messages)
 of-message c = law.of-messages (planOf (c .before .before .before .before .args .row .now)) (c .before .before .before .before .args .m)
-    (c .before .before .before .before .args .n) (c .before .if1 .left) (c .before .before .before .before .pre .2)
+    (c .before .before .before .before .args .n) (c .before .if1 .left) (c .before .before .before .before .pre .3)
 
 found : (c : tie.After-i) → Here (c .before .before .before .before .args .row .now) (c .before .before .before .before .args .m)
     (getD (c .before .before .before .before .args .starts .now) (c .before .before .before .before .args .m) 0)
@@ -24,28 +23,16 @@ found c = law.here _ _ _ (c .before .before .before .before .pre .0) (c .before 
 
 bad-ends-requires : tie.Need-bad-ends-requires
 bad-ends-requires c κs =
-    let a = c .before .before .before .before .args in
-    let w = law.of-links (planOf (a .row .now)) (a .m) (a .n) (omega (arith, c .before .if1 .taken))
-    (c .before .before .before .before .pre .2) in
-    omega (arith, w, law.links-few (a .row .now) (a .starts .now) (a .table .now) (c .before .before .before .before .pre .0))
+    let a = c .before .before .before .args in
+    let w = law.of-links (planOf (a .row .now)) (a .m) (a .n) (omega (arith, c .if1 .taken)) (c .before .before .before .pre .3) in
+    omega (arith, w, law.links-few (a .row .now) (a .starts .now) (a .table .now) (c .before .before .before .pre .0))
 
 returns : tie.Need-returns
 returns c =
-    let a = c .before .before .before .before .before .args in
-    c .bad-ends .ensures ∙ law.rule-five (planOf (a .row .now)) (a .m) (a .n) (c .before .if2 .taken)
-
-repeats-earlier-requires : tie.Need-repeats-earlier-requires
-repeats-earlier-requires c κs =
     let a = c .before .before .before .before .args in
-    let row = a .row .now in
-    let w = law.of-links (planOf row) (a .m) (a .n) (omega (arith, c .before .if1 .taken)) (c .before .before .before .before .pre .2) in
-    (c .before .before .before .before .pre .0 .lies, omega (arith, w, link-count row))
-
-returns-2 : tie.Need-returns-2
-returns-2 c =
-    let a = c .before .before .before .before .before .args in
-    c .repeats-earlier .ensures ∙ law.rule-six (planOf (a .row .now)) (a .m) (a .n)
-    (omega (arith, c .before .before .before .before .before .pre .1, c .before .if2 .left, c .before .before .if1 .taken))
+    let not-six = c .before .before .before .before .pre .2 in
+    c .bad-ends .ensures ∙ law.rule-five (planOf (a .row .now)) (a .m) (a .n)
+    (omega (arith, c .before .before .before .before .pre .1, not-six, c .before .if1 .taken))
 
 mul-i : tie.Need-mul-i
 mul-i c =
@@ -53,14 +40,14 @@ mul-i c =
     omega (
       arith,
       law.few (a .row .now) (a .starts .now) (a .table .now) (c .before .before .before .pre .0) (a .m) (a .n) (c .if1 .left)
-          (c .before .before .before .pre .2),
+          (c .before .before .before .pre .3),
     )
 
 element-copy-out-i : tie.Need-element-copy-out-i
 element-copy-out-i c =
     let a = c .before .before .before .args in
     let w = law.few (a .row .now) (a .starts .now) (a .table .now) (c .before .before .before .pre .0) (a .m) (a .n) (c .if1 .left)
-    (c .before .before .before .pre .2) in
+    (c .before .before .before .pre .3) in
     omega (arith, w, c .before .before .before .pre .0 .starts-are .long)
 
 bad-path-requires : tie.Need-bad-path-requires
@@ -71,46 +58,46 @@ bad-path-requires c κs = (
       (c .before .before) .lies .few,
 )
 
-returns-3 : tie.Need-returns-3
-returns-3 c =
+returns-2 : tie.Need-returns-2
+returns-2 c =
     let a = c .before .before .before .before .before .before .before .args in
     let plan = planOf (a .row .now) in
     c .bad-path .ensures ∙ sym (ap (brokenPath plan) (found (c .before .before .before) .is)) ∙
-    law.rule-seven plan (a .m) (a .n) (omega (arith, c .before .before .before .before .if1 .left, c .before .if4 .taken))
+    law.rule-seven plan (a .m) (a .n) (omega (arith, c .before .before .before .before .if1 .left, c .before .if3 .taken))
 
 bad-slots-requires : tie.Need-bad-slots-requires
 bad-slots-requires c κs = found (c .before .before) .near
 
-returns-4 : tie.Need-returns-4
-returns-4 c =
+returns-3 : tie.Need-returns-3
+returns-3 c =
     let a = c .before .before .before .before .before .before .before .args in
     let plan = planOf (a .row .now) in
     c .bad-slots .ensures ∙ sym (ap (brokenSlots plan) (found (c .before .before .before) .is)) ∙
-    law.rule-eight plan (a .m) (a .n) (omega (arith, c .before .if4 .left, c .before .before .if3 .taken))
+    law.rule-eight plan (a .m) (a .n) (omega (arith, c .before .if3 .left, c .before .before .if2 .taken))
 
 held-below-requires : tie.Need-held-below-requires
 held-below-requires c κs = found (c .before .before) .near
 
-returns-5 : tie.Need-returns-5
-returns-5 c =
+returns-4 : tie.Need-returns-4
+returns-4 c =
     let a = c .before .before .before .before .before .before .before .args in
     let row = a .row .now in
     let here = found (c .before .before .before) in
     c .held-below .ensures ∙
     taken-is (planOf row) (a .m) (a .table .now) (c .before .before .before .before .before .before .before .pre .0 .table-is)
     (of-message (c .before .before .before)) row (getD (a .starts .now) (a .m) 0) (here .lies) (here .is) ∙
-    law.rule-nine (planOf row) (a .m) (a .n) (omega (arith, c .before .before .if3 .left, c .before .if5 .taken))
+    law.rule-nine (planOf row) (a .m) (a .n) (omega (arith, c .before .before .if2 .left, c .before .if4 .taken))
 
 bad-seconds-requires : tie.Need-bad-seconds-requires
 bad-seconds-requires c κs =
     (c .before .before .before .before .before .before .pre .0 .lies, found (c .before .before) .near, found (c .before .before) .lies)
 
-returns-6 : tie.Need-returns-6
-returns-6 c =
+returns-5 : tie.Need-returns-5
+returns-5 c =
     let a = c .before .before .before .before .before .before .before .args in
     let plan = planOf (a .row .now) in
     c .bad-seconds .ensures ∙ sym (ap (brokenSeconds plan) (found (c .before .before .before) .is)) ∙
-    law.rule-ten plan (a .m) (a .n) (c .before .if5 .left)
+    law.rule-ten plan (a .m) (a .n) (c .before .if4 .left)
 
 pub breaks-spec : {M : Type 1} → statement M
 breaks-spec =
@@ -118,15 +105,13 @@ breaks-spec =
     (tie.spec
     bad-ends-requires
     returns
-    repeats-earlier-requires
-    returns-2
     mul-i
     element-copy-out-i
     bad-path-requires
-    returns-3
+    returns-2
     bad-slots-requires
-    returns-4
+    returns-3
     held-below-requires
-    returns-5
+    returns-4
     bad-seconds-requires
-    returns-6)
+    returns-5)

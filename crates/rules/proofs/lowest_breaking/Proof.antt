@@ -6,6 +6,7 @@ use borrow.Author.Needs.{needs}
 use Rattle.scope.specs.Plan.{planOf}
 use Rattle.scope.proofs.Seek.{Seeking, seeking-first, seeking-next, lowest-found, lowest-done}
 use Rattle.rules.specs.Rules.{breaks}
+use Rattle.rules.proofs.Laws as law
 use Rattle.rules.proofs.lowest_breaking.Statement.{statement}
 use Rattle.rules.proofs.lowest_breaking.Tie as tie
 
@@ -15,22 +16,25 @@ Inv-loop row starts table n count m₀ m = Seeking (breaks (planOf row) n) count
 abbrev μ-loop : tie.MeasureT-loop
 μ-loop row starts table n count m₀ m = count - m
 
-loop-holds : tie.Need-loop-holds Inv-loop μ-loop
-loop-holds c = let a = c .before .before .args in
-    seeking-first (breaks (planOf (a .row .now)) (a .n)) (a .count)
-
-breaks-requires : tie.Need-breaks-requires Inv-loop μ-loop
-breaks-requires c κs = (
-  c .before .before .before .before .pre .0,
-  c .before .before .before .before .pre .1,
-  omega
-      (arith, c .loop-test .taken, c .before .before .before .before .pre .2),
-)
+lowest-repeat-requires : tie.Need-lowest-repeat-requires Inv-loop μ-loop
+lowest-repeat-requires c κs = c .before .before .before .pre .0 .lies
 
 returns : tie.Need-returns Inv-loop μ-loop
-returns c = let a = c .before .before .before .before .before .before .args in
-    lowest-found (breaks (planOf (a .row .now)) (a .n)) (a .count) (c .before .before .before .loop .m)
-    (c .before .before .before .loop .inv) (c .before .before .loop-test .taken) (sym (c .before .breaks .ensures) ∙ c .if1 .taken)
+returns c =
+    let a = c .before .before .before .before .args in
+    law.six (a .row .now) (a .n) (a .count) _ (c .before .if1 .taken) (c .before .before .before .before .pre .2) (c .lowest-repeat .ensures)
+
+loop-holds : tie.Need-loop-holds Inv-loop μ-loop
+loop-holds c = seeking-first _ _
+
+breaks-requires : tie.Need-breaks-requires Inv-loop μ-loop
+breaks-requires c κs =
+    let pre = c .before .before .before .before .before .pre in
+    (pre .0, pre .1, c .before .before .if1 .left, omega (arith, c .loop-test .taken, pre .2))
+
+returns-2 : tie.Need-returns-2 Inv-loop μ-loop
+returns-2 c = lowest-found _ _ _ (c .before .before .before .loop .inv) (c .before .before .loop-test .taken)
+    (sym (c .before .breaks .ensures) ∙ c .if2 .taken)
 
 add-m : tie.Need-add-m Inv-loop μ-loop
 add-m c = search needs
@@ -39,13 +43,11 @@ loop-less : tie.Need-loop-less Inv-loop μ-loop
 loop-less c = search needs
 
 loop-again : tie.Need-loop-again Inv-loop μ-loop
-loop-again c = let a = c .before .before .before .before .before .before .args in
-    seeking-next (breaks (planOf (a .row .now)) (a .n)) (a .count) (c .before .before .before .loop .m)
-    (c .before .before .before .loop .inv) (c .before .before .loop-test .taken) (sym (c .before .breaks .ensures) ∙ c .if1 .left)
+loop-again c = seeking-next _ _ _ (c .before .before .before .loop .inv) (c .before .before .loop-test .taken)
+    (sym (c .before .breaks .ensures) ∙ c .if2 .left)
 
-returns-2 : tie.Need-returns-2 Inv-loop μ-loop
-returns-2 c = let a = c .before .before .before .before .args in
-    lowest-done (breaks (planOf (a .row .now)) (a .n)) (a .count) (c .before .loop .m) (c .before .loop .inv) (c .loop-test .left)
+returns-3 : tie.Need-returns-3 Inv-loop μ-loop
+returns-3 c = lowest-done _ _ _ (c .before .loop .inv) (c .loop-test .left)
 
 pub lowest-breaking-spec : {M : Type 1} → statement M
 lowest-breaking-spec =
@@ -53,10 +55,12 @@ lowest-breaking-spec =
     (tie.spec
     Inv-loop
     μ-loop
+    lowest-repeat-requires
+    returns
     loop-holds
     breaks-requires
-    returns
+    returns-2
     add-m
     loop-less
     loop-again
-    returns-2)
+    returns-3)
