@@ -14,13 +14,12 @@ use Rattle.scope.specs.Plan.{Plan, planOf}
 use Rattle.scope.specs.Cuts.{pairs}
 use Rattle.scope.specs.Cycle.{arrivals}
 use Rattle.scope.specs.Verdict.{Resistant, FirstFailing}
-use Rattle.step.specs.declared.Standing.{Standing}
-use Rattle.search.specs.declared.Asked.{Asked}
 use Rattle.search.specs.declared.Hunted.{Hunted}
 use Rattle.search.specs.Hunt.{Hunts}
 use Rattle.order.specs.Search.{NoneOf}
 use Rattle.bound.specs.Bound.{Fails}
 use Rattle.search.proofs.Answer.{all-leave}
+use Rattle.verdicts.specs.declared.Opening.{Opening}
 use Rattle.verdicts.specs.Lent.{MayAskOn}
 use Rattle.all_verdicts.specs.Answers.{failing, Says, seven, needed, AllSaid}
 use Rattle.all_verdicts.specs.Filling.{Filled, MayFill, MayPut}
@@ -43,27 +42,28 @@ unfolding Resistant
 lower-resistant plan k l m r h cuts good few = let enough = r cuts good few in omega arith
 
 -- the answers above l are there, and h is what was found for l
-pub record Descending (row : List ℕ) (a : Asked) (k : ℕ) (entry : List ℕ) (l : ℕ) (h : Hunted) (out : List ℕ) : Type 0 where
-  pub within : l ≤ a .messages
+pub record Descending (row : List ℕ) (o : Opening) (k : ℕ) (entry : List ℕ) (l : ℕ) (h : Hunted) (out : List ℕ) : Type 0 where
+  pub within : l ≤ o .asked .messages
   pub hunts : Hunts row l k h
   pub same : length out ≡ length entry
   pub each : (m : ℕ) → l < m → m ≤ length (planOf row .messages) → Says (planOf row) k m (seven m out)
   pub rest : drop (needed (planOf row)) out ≡ drop (needed (planOf row)) entry
 
-module _ (row table weights most : List ℕ) (ps : Standing) (a : Asked) (k : ℕ) (entry : List ℕ) (f : MayFill row table weights most ps a k (length entry)) where
+module _ (row table fragile seconds weights most : List ℕ) (o : Opening) (k : ℕ) (entry : List ℕ)
+    (f : MayFill row table fragile seconds weights most o k (length entry)) where
   -- any l may be asked
-  asking : (l low : ℕ) → l ≤ a .messages → low ≤ k + 1 → ((i : ℕ) → i < low → NoneOf (planOf row) (Fails (planOf row) l) [] i) →
-      MayAskOn row table weights most ps a l low k
+  asking : (l low : ℕ) → l ≤ o .asked .messages → low ≤ k + 1 → ((i : ℕ) → i < low → NoneOf (planOf row) (Fails (planOf row) l) [] i) →
+      MayAskOn row table fragile seconds weights most o l low k
   asking l low least within before =
-      record { lent = f .ask .lent; stand = f .ask .stand; least = least; few = f .ask .few; within = within; before = before }
+      record { lent = f .ask .lent; least = least; few = f .ask .few; within = within; before = before }
 
-  count : a .messages ≡ length (planOf row .messages)
+  count : o .asked .messages ≡ length (planOf row .messages)
   count = f .ask .lent .play .messages
 
-  pub ask-first : (l : ℕ) → l ≡ a .messages → MayAskOn row table weights most ps a l 0 k
+  pub ask-first : (l : ℕ) → l ≡ o .asked .messages → MayAskOn row table fragile seconds weights most o l 0 k
   ask-first l e = asking l 0 (omega arith) (omega arith) (λ i z. absurd (omega arith))
 
-  pub descend-first : (l : ℕ) (h : Hunted) → l ≡ a .messages → Hunts row l k h → Descending row a k entry l h entry
+  pub descend-first : (l : ℕ) (h : Hunted) → l ≡ o .asked .messages → Hunts row l k h → Descending row o k entry l h entry
   descend-first l h e hunts =
       record {
         within = omega arith;
@@ -73,7 +73,7 @@ module _ (row table weights most : List ℕ) (ps : Standing) (a : Asked) (k : �
         rest = refl;
       }
 
-  module _ (l : ℕ) (h : Hunted) (out : List ℕ) (g : Descending row a k entry l h out) where
+  module _ (l : ℕ) (h : Hunted) (out : List ℕ) (g : Descending row o k entry l h out) where
     front : length (take (2 * h .pairs) (h .numbers)) ≡ 2 * h .pairs
     front = length-take-le (2 * h .pairs) (h .numbers) (omega (arith, g .hunts .long, g .hunts .few, f .ask .few))
 
@@ -90,14 +90,14 @@ module _ (row table weights most : List ℕ) (ps : Standing) (a : Asked) (k : �
           enough = omega (arith, g .same, g .within, f .enough, count);
         }
 
-    pub ask-next : (m : ℕ) → h .found ≡ true → m ≡ h .arrivals → MayAskOn row table weights most ps a m (h .pairs) k
+    pub ask-next : (m : ℕ) → h .found ≡ true → m ≡ h .arrivals → MayAskOn row table fragile seconds weights most o m (h .pairs) k
     ask-next m t e =
         asking m (h .pairs) (omega (arith, less t, g .within)) (omega (arith, g .hunts .few))
         (λ i z x long good fails. g .hunts .fewer t i z x long good (omega (arith, less t)))
 
     -- the answers that were put
     pub descend-on : (next : Hunted) (out′ : List ℕ) → h .found ≡ true → length out′ ≡ length out →
-        Filled (h .arrivals + 1) (l + 1) (h .pairs + 1) (h .numbers) out out′ → Hunts row (h .arrivals) k next → Descending row a k entry (h .arrivals) next out′
+        Filled (h .arrivals + 1) (l + 1) (h .pairs + 1) (h .numbers) out out′ → Hunts row (h .arrivals) k next → Descending row o k entry (h .arrivals) next out′
     descend-on next out′ t size p n =
         record {
           within = omega (arith, less t, g .within);

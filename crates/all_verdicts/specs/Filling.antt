@@ -4,10 +4,9 @@ use mathlib.Core.Path.{_≡_}
 use mathlib.Core.List.{List, _∷_}
 use lib.ListN.{length, drop}
 use Rattle.scope.specs.Plan.{planOf}
-use Rattle.step.specs.declared.Standing.{Standing}
-use Rattle.search.specs.declared.Asked.{Asked}
 use Rattle.search.specs.declared.Hunted.{Hunted}
 use Rattle.plan.specs.Answers.{GoodRow}
+use Rattle.verdicts.specs.declared.Opening.{Opening}
 use Rattle.verdicts.specs.Lent.{MayAskOn}
 use Rattle.all_verdicts.specs.Answers.{seven, needed}
 
@@ -17,8 +16,8 @@ pub record Filled (from to head : ℕ) (numbers entry exit : List ℕ) : Type 0 
   pub above : (l : ℕ) → to ≤ l → drop (7 * l) exit ≡ drop (7 * l) entry
 
 -- the search may be asked for every l, and there is room for the answers
-pub record MayFill (row table weights most : List ℕ) (ps : Standing) (a : Asked) (k room : ℕ) : Type 0 where
-  pub ask : MayAskOn row table weights most ps a 0 0 k
+pub record MayFill (row table fragile seconds weights most : List ℕ) (o : Opening) (k room : ℕ) : Type 0 where
+  pub ask : MayAskOn row table fragile seconds weights most o 0 0 k
   pub enough : needed (planOf row) ≤ room
 
 -- a list that was found may be put as the answer for l

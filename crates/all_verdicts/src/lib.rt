@@ -1,14 +1,16 @@
 // All answers of a plan for one k at once, one for each l: document 01's refusals 1 to 11 and 13, or seven numbers for each l.
-// `all_answers` takes anything and asks nothing; `answers_good` takes a row that is known to be good. The first failing list for l is that for every lower l down to one more than its arrivals, so there is one
-// search for each distinct list. It leans on `plan` for refusals 1 to 10, on `search` for the search and on `verdicts` for what that is lent.
+// `all_answers` takes anything and asks nothing; `answers_good` takes a row that is known to be good. The first failing list for l is that for
+// every lower l down to one more than its arrivals, so there is one search for each distinct list. It leans on `plan` for refusals 1 to 10, on `search` for the search and on `verdicts` for what that is lent.
 use scope::Answer;
 use scope::limits::CUT_NUMBERS;
-use scope::limits::SLOTS;
+use scope::limits::CUTS;
+use scope::limits::SECONDS;
 use scope::limits::TABLE;
+use scope::limits::TOPS;
+use scope::limits::WEIGHTS;
 use scope::refuse;
-use search::Asked;
 use search::Hunted;
-use step::Standing;
+use verdicts::Opening;
 ghost use Prim.Native.Nat.{_+_, _*_, _≤_, _<_};
 ghost use mathlib.Core.Path.{_≡_};
 ghost use mathlib.Core.List.{_++_, _∷_};
@@ -54,22 +56,35 @@ fn put_failing(out: &mut [u16], l: usize, h: Hunted)
 fn descend(
     row: &[u16],
     table: &[u8],
+    fragile: &[u8],
+    seconds: &[u8],
     weights: &[u16],
     most: &[u16],
-    ps: Standing,
-    a: Asked,
+    o: Opening,
     k: usize,
     out: &mut [u16],
 )
-    requires { ⌜ MayFill (now row) (now table) (now weights) (now most) ps a k (length (now out)) ⌝ }
+    requires { ⌜ MayFill (now row) (now table) (now fragile) (now seconds) (now weights) (now most) o k (length (now out)) ⌝ }
     ensures { λ _. ⌜ AllSaid (planOf (now (row .entry))) k (now (out .entry)) (now (out .exit)) ⌝ }
 {
+    let a = o.asked;
     let mut l = a.messages;
-    let mut h = verdicts::ask(row, table, weights, most, ps, a, l, 0, k);
+    let mut h = verdicts::ask(row, table, fragile, seconds, weights, most, o, l, 0, k);
     while h.found {
         put_failing(out, l, h);
         l = h.arrivals;
-        let next = verdicts::ask(row, table, weights, most, ps, a, l, h.pairs, k);
+        let next = verdicts::ask(
+            row,
+            table,
+            fragile,
+            seconds,
+            weights,
+            most,
+            o,
+            l,
+            h.pairs,
+            k,
+        );
         h = next;
     }
     let zeros = [0u16; CUT_NUMBERS];
@@ -82,11 +97,19 @@ fn fill(row: &[u16], k: usize, out: &mut [u16])
     ensures { λ _. ⌜ AllSaid (planOf (now (row .entry))) k (now (out .entry)) (now (out .exit)) ⌝ }
 {
     let mut table = [0u8; TABLE];
-    let mut weights = [0u16; TABLE];
-    let mut most = [0u16; SLOTS];
-    let a = verdicts::lend(row, &mut table, &mut weights, &mut most);
-    let ps = cycle::start_all(row, a.messages);
-    descend(row, &table, &weights, &most, ps, a, k, out);
+    let mut fragile = [0u8; TABLE];
+    let mut seconds = [0u8; SECONDS];
+    let mut weights = [0u16; WEIGHTS];
+    let mut most = [0u16; TOPS];
+    let o = verdicts::lend(
+        row,
+        &mut table,
+        &mut fragile,
+        &mut seconds,
+        &mut weights,
+        &mut most,
+    );
+    descend(row, &table, &fragile, &seconds, &weights, &most, o, k, out);
 }
 
 // All answers of a good row: refusals 11 and 13, or how many numbers they are.
@@ -94,7 +117,7 @@ pub fn answers_good(row: &[u16], k: usize, out: &mut [u16]) -> Answer
     requires { ⌜ GoodRow (now row) ⌝ }
     ensures { λ r. ⌜ AnswersAll (now (row .entry)) k (now (out .entry)) (now (out .exit)) r ⌝ }
 {
-    if 3 < k {
+    if CUTS < k {
         return refuse(11, 0);
     }
     let needed = 7 * (rows::messages(row) + 1);

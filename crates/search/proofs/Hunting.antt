@@ -13,18 +13,17 @@ use Rattle.scope.specs.Cuts.{pairs}
 use Rattle.scope.specs.Cycle.{arrivals}
 use Rattle.laws.proofs.Cuts.{no-cuts}
 use Rattle.step.specs.declared.Standing.{Standing}
-use Rattle.bound.specs.Marks.{Marks}
 use Rattle.search.specs.declared.Asked.{Asked}
 use Rattle.search.specs.declared.Picked.{Picked}
+use Rattle.search.specs.declared.Hits.{Hits}
 use Rattle.search.specs.declared.Found.{Found}
 use Rattle.search.specs.declared.Hunted.{Hunted}
 use Rattle.order.specs.Search.{NoneOf}
 use Rattle.bound.specs.Bound.{Fails}
-use Rattle.search.specs.Hunt.{cutsOf, noPair, Seeks, noHunted, Holding, MaySeek, Sought, MayHunt, Hunts}
-use Rattle.search.specs.Risk.{MayMarkPicked}
+use Rattle.search.specs.Hunt.{noPair, noHits, Seeks, noHunted, Holding, MaySeek, Sought, MayHunt, Hunts}
 use Rattle.order.proofs.Pairs.{is-cut-list}
 use Rattle.search.proofs.Answer.{first-failing}
-use Rattle.search.proofs.Risk.{noughts, may-mark-picked}
+use Rattle.search.proofs.Risks.{noughts, covers-none}
 
 holding-none : (row : List ℕ) (a : Asked) → Holding row a noPair
 holding-none row a =
@@ -65,20 +64,17 @@ pub record Hunting (row : List ℕ) (a : Asked) (low k n : ℕ) : Type 0 where
   pub within : n ≤ k + 1
   pub leave : (i : ℕ) → i < n → NoneOf (planOf row) (Seeks row a) [] i
 
-module _ (row table weights most : List ℕ) (a : Asked) (ps : Standing) (low k : ℕ) (m : MayHunt row table weights most a ps low k) where
+module _ (row table fragile seconds weights most : List ℕ) (a : Asked) (ps : Standing) (low k : ℕ)
+    (m : MayHunt row table fragile seconds weights most a ps low k) where
   pub hunt-first : Hunting row a low k low
   hunt-first = record { within = m .within; leave = m .before }
 
-  pub may-mark-none : (p : Picked) → p ≡ noPair → MayMarkPicked p
-  may-mark-none p is =
-      rw is (may-mark-picked row table a noPair (m .ready .play) (holding-none row a) (omega arith))
-
-  pub may-seek : (n : ℕ) (p : Picked) (marks : List ℕ) → n ≤ k → p ≡ noPair → Marks table (cutsOf p) marks → MaySeek row table weights most marks a ps p n
-  may-seek n p marks h is marked =
+  pub may-seek : (n : ℕ) (p : Picked) (hits : Hits) → n ≤ k → p ≡ noPair → hits ≡ noHits → MaySeek row table fragile seconds weights most a hits ps p n
+  may-seek n p hits h is none =
       record {
         ready = m .ready;
         holding = rw is (holding-none row a);
-        marked = marked;
+        covers = rw (is, none) (covers-none row);
         stand = rw is (m .stand);
         few = rw is (omega (arith, m .few));
       }

@@ -1,38 +1,42 @@
 -- The two loops of the search: over the links of a slot, and over the slots.
 use Prim.Native.Nat.{ℕ, _+_, _-_, _*_, _≤_, _<_}
 use native.Mathlib.Omega.{arith}
-use mathlib.Core.Path.{_≡_, refl, sym, _∙_, subst}
+use mathlib.Core.Path.{_≡_, refl, sym, subst}
 use mathlib.Core.Bool.{Bool, true, false, not, _&&_, and-eq-true-iff}
 use mathlib.Core.List.{List, [], _∷_, _++_}
-use lib.ListN.{length, getD, take}
-use lib.Dec.{ltb}
-use borrow.Author.Tests.{ltb-true, not-false, not-true}
-use Rattle.scope.specs.Limits.{mostLinks, mostCuts}
+use lib.ListN.{length, take}
+use borrow.Author.Tests.{not-false, not-true}
+use Rattle.scope.specs.Limits.{mostLinks, mostMessages, mostCuts}
 use Rattle.scope.specs.Lowest.{seek}
 use Rattle.cuts.specs.Down.{isDown}
 use Rattle.scope.specs.Plan.{planOf}
 use Rattle.scope.proofs.Lowest.{seek-from, seek-most, seek-is, seek-low}
 use Rattle.step.specs.declared.Standing.{Standing}
 use Rattle.bound.specs.Harmed.{harmed}
-use Rattle.bound.specs.Marks.{Marks}
+use Rattle.bound.specs.Strips.{bared}
+use Rattle.bound.specs.Bounds.{weightIn, topIn, harmedAndBared}
 use Rattle.search.specs.declared.Asked.{Asked}
 use Rattle.search.specs.declared.Picked.{Picked}
+use Rattle.search.specs.declared.Hits.{Hits}
+use Rattle.search.specs.declared.Risk.{Risk}
+use Rattle.search.specs.declared.Loss.{Loss}
 use Rattle.search.specs.declared.Found.{Found}
 use Rattle.order.specs.Search.{code, Not, NoneOf, NoneIn}
-use Rattle.search.specs.Hunt.{cutsOf, withPair, passes, Seeks, noFound, Ready, Holding, StandAt, MayAdvance, MaySeek, MaySeekIn, Sought, SoughtIn}
-use Rattle.order.proofs.Steps.{none-before, passed, cut-already, no-list-here, first-here, slot-over, joined, first-in-slot, all-over, first-of-all}
-use Rattle.search.proofs.Weigh.{too-light, too-light-now}
+use Rattle.search.specs.Hunt.{cutsOf, withPair, lossOf, lossWith, tooLight, passes, Seeks, Fits, noFound, Ready, Holding, StandAt, Leaves}
+use Rattle.search.specs.Hunt.{MayPlayOut, MayAdvance, MaySeek, MaySeekIn, Sought, SoughtIn}
+use Rattle.order.proofs.Steps.{after, no-more, none-before, passed, cut-already, no-list-here, first-here, slot-over, joined, first-in-slot, all-over, first-of-all}
+use Rattle.search.proofs.Weigh.{which, too-light}
 use Rattle.search.proofs.Telling.{tells-none, tells-more}
-use Rattle.search.specs.Risk.{atRisk, MayMarkPicked}
+use Rattle.search.specs.Risks.{risksOf, MayCount, MayHit, IsHit, MayWeigh, MayTry}
 use Rattle.search.proofs.Picking.{named, cuts-more, holding-more, stand-more}
-use Rattle.search.proofs.Risk.{may-mark-picked, risk-is}
+use Rattle.search.proofs.Risks.{covers-more, counted, may-weigh}
 
 -- in slot s, from link e on: the lists whose next pair is there and before link i leave enough
-pub record Looking (row weights : List ℕ) (a : Asked) (p : Picked) (n s e i rest : ℕ) : Type 0 where
+pub record Looking (row weights : List ℕ) (a : Asked) (p : Picked) (n s e i : ℕ) (rest : Loss) : Type 0 where
   pub leave : NoneIn (planOf row) (Seeks row a) (cutsOf p) (n - 1) (code s e) (code s i)
   pub start : e ≤ i
   pub within : i ≤ a .links
-  pub may : i < a .links → passes (p .down) weights (s * mostLinks) (a .need) rest i ≡ true
+  pub may : i < a .links → passes (p .down) weights (a .need) rest s i ≡ true
 
 -- over the slots: the lists whose next pair comes before slot s and link e leave enough
 pub record Climbing (row : List ℕ) (a : Asked) (p : Picked) (n s e : ℕ) (qs : Standing) : Type 0 where
@@ -43,40 +47,55 @@ pub record Climbing (row : List ℕ) (a : Asked) (p : Picked) (n s e : ℕ) (qs 
   pub link : e ≤ a .links
   pub later : code (p .slot) (p .link) ≤ code s e
 
-module _ (row table weights most : List ℕ) (a : Asked) (p : Picked) (n : ℕ) (y : Ready row table weights most a) (h : Holding row a p)
-    (some : 0 < n) (room : p .count + n ≤ mostCuts) where
+module _ (row table fragile seconds weights most : List ℕ) (a : Asked) (p : Picked) (n : ℕ) (y : Ready row table fragile seconds weights most a)
+    (h : Holding row a p) (some : 0 < n) (room : p .count + n ≤ mostCuts) where
   few : length (planOf row .links) ≤ mostLinks
   few = omega (arith, y .play .links, y .play .few)
 
-  -- a link that may not be tried
-  not-tried : (s b rest risk : ℕ) → harmed (planOf row) (cutsOf p) s ≤ risk → rest ≡ risk + (n - 1) * getD most s 0 → b < a .links →
-      passes (p .down) weights (s * mostLinks) (a .need) rest b ≡ false → (x : List ℕ) → length x ≡ 2 * (n - 1) →
-      Not (planOf row) (Seeks row a) (cutsOf p ++ s ∷ b ∷ x)
-  not-tried s b rest risk at is l no-pass x long = by (isDown (p .down) b) refl no-pass
+  -- where too little is lost with a pair of slot s, it is with one of a later slot
+  all-light : (s i b : ℕ) (rest : Loss) → Leaves row (cutsOf p) most s (n - 1) rest → s ≤ i → b < a .links →
+      tooLight (a .need) (lossWith rest weights s b) ≡ true → (x : List ℕ) → length x ≡ 2 * (n - 1) → Not (planOf row) (Seeks row a) (cutsOf p ++ i ∷ b ∷ x)
+  all-light s i b rest v later there light x long =
+      let plan = planOf row in
+      let Answers = Seeks row a in
+      let start = code (p .slot) (p .link) in
+      let known : b < length (planOf row .links) = omega (arith, y .play .links) in
+      which (Not plan Answers (cutsOf p ++ i ∷ b ∷ x)) (a .need) (lossWith rest weights s b) light
+      (λ less.
+      too-light plan Answers (a .need) (harmed plan) (weightIn weights 0) (topIn most 0) (y .bounds .touches) few (cutsOf p) (p .count) start (h .chosen)
+      (n - 1) s i b later known (omega (arith, less, v .touches)) x long)
+      (λ less.
+      too-light plan Answers (a .need) (bared plan) (weightIn weights 1) (topIn most 1) (y .bounds .strips) few (cutsOf p) (p .count) start (h .chosen)
+      (n - 1) s i b later known (omega (arith, less, v .strips)) x long)
+      (λ less.
+      too-light plan Answers (2 * a .need) (harmedAndBared plan) (weightIn weights 2) (topIn most 2) (y .bounds .both) few (cutsOf p) (p .count) start
+      (h .chosen) (n - 1) s i b later known (omega (arith, less, v .both)) x long)
+
+  -- a link that may not be tried in slot s is not to be tried in a later one
+  not-tried : (s i b : ℕ) (rest : Loss) → Leaves row (cutsOf p) most s (n - 1) rest → s ≤ i → b < a .links →
+      passes (p .down) weights (a .need) rest s b ≡ false → (x : List ℕ) → length x ≡ 2 * (n - 1) →
+      Not (planOf row) (Seeks row a) (cutsOf p ++ i ∷ b ∷ x)
+  not-tried s i b rest v later l no-pass x long = by (isDown (p .down) b) refl no-pass
     where
-      by : (t : Bool) → isDown (p .down) b ≡ t → (not t && not (ltb (rest + getD weights (s * mostLinks + b) 0) (a .need))) ≡ false →
-          Not (planOf row) (Seeks row a) (cutsOf p ++ s ∷ b ∷ x)
-      by false e light =
-          let less = ltb-true (rest + getD weights (s * mostLinks + b) 0) (a .need)
-          (not-false (ltb (rest + getD weights (s * mostLinks + b) 0) (a .need)) light) in
-          too-light (planOf row) (Seeks row a) (a .need) weights most (y .bound) few (cutsOf p) (p .count) (code (p .slot) (p .link)) (h .chosen) (n - 1)
-          s b (omega arith) x long
+      by : (t : Bool) → isDown (p .down) b ≡ t → (not t && not (tooLight (a .need) (lossWith rest weights s b))) ≡ false →
+          Not (planOf row) (Seeks row a) (cutsOf p ++ i ∷ b ∷ x)
+      by false e light = all-light s i b rest v later l (not-false (tooLight (a .need) (lossWith rest weights s b)) light) x long
       by true e light =
           let who = named row a p h b e in
-          cut-already (planOf row) (Seeks row a) few (cutsOf p) (p .count) (code (p .slot) (p .link)) (h .chosen) (n - 1) s b (who .0)
+          cut-already (planOf row) (Seeks row a) few (cutsOf p) (p .count) (code (p .slot) (p .link)) (h .chosen) (n - 1) i b (who .0)
           (omega (arith, who .1, h .chosen .long)) (who .2) x
 
-  pub looked : (s e i rest r risk : ℕ) → harmed (planOf row) (cutsOf p) s ≤ risk → rest ≡ risk + (n - 1) * getD most s 0 → e ≤ i → i ≤ a .links →
+  pub looked : (s e i : ℕ) (rest : Loss) (r : ℕ) → Leaves row (cutsOf p) most s (n - 1) rest → e ≤ i → i ≤ a .links →
       NoneIn (planOf row) (Seeks row a) (cutsOf p) (n - 1) (code s e) (code s i) →
-      r ≡ seek (passes (p .down) weights (s * mostLinks) (a .need) rest) (a .links - i) i → Looking row weights a p n s e r rest
-  looked s e i rest r risk at is low high leave found =
-      let test = passes (p .down) weights (s * mostLinks) (a .need) rest in
+      r ≡ seek (passes (p .down) weights (a .need) rest s) (a .links - i) i → Looking row weights a p n s e r rest
+  looked s e i rest r v low high leave found =
+      let test = passes (p .down) weights (a .need) rest s in
       let from = seek-from test (a .links - i) i in
       let most′ = seek-most test (a .links - i) i in
       record {
         leave =
             passed (planOf row) (Seeks row a) few (cutsOf p) (p .count) (code (p .slot) (p .link)) (h .chosen) (n - 1) (code s e) s i r (omega (arith, y .play .few)) leave
-            (λ b u w. not-tried s b rest risk at is (omega arith) (seek-low test (a .links - i) i b u (omega arith)));
+            (λ b u w. not-tried s s b rest v (omega arith) (omega arith) (seek-low test (a .links - i) i b u (omega arith)));
         start = omega arith;
         within = omega arith;
         may = λ l. rw found (seek-is test (a .links - i) i (omega arith));
@@ -86,11 +105,11 @@ module _ (row table weights most : List ℕ) (a : Asked) (p : Picked) (n : ℕ) 
   pub look-first : (s e : ℕ) → NoneIn (planOf row) (Seeks row a) (cutsOf p) (n - 1) (code s e) (code s e)
   look-first s e x y z long low high = absurd (omega arith)
 
-  module _ (s e i rest : ℕ) (g : Looking row weights a p n s e i rest) where
+  module _ (s e i : ℕ) (rest : Loss) (g : Looking row weights a p n s e i rest) where
     pub not-cut-yet : i < a .links → isDown (p .down) i ≡ false
     not-cut-yet l =
         not-true (isDown (p .down) i)
-        (and-eq-true-iff (not (isDown (p .down) i)) (not (ltb (rest + getD weights (s * mostLinks + i) 0) (a .need))) .0 (g .may l) .0)
+        (and-eq-true-iff (not (isDown (p .down) i)) (not (tooLight (a .need) (lossWith rest weights s i))) .0 (g .may l) .0)
 
     module _ (r : Found) (l : i < a .links) (f : Sought row a (withPair p s i) (n - 1) r) where
       more : cutsOf (withPair p s i) ≡ cutsOf p ++ s ∷ i ∷ []
@@ -135,14 +154,20 @@ module _ (row table weights most : List ℕ) (a : Asked) (p : Picked) (n : ℕ) 
   whole = omega arith
 
   module _ (s e : ℕ) (qs : Standing) (g : Climbing row a p n s e qs) where
-    pub climb-light : (r : Found) (m risk : ℕ) (b : Bool) → r ≡ noFound → harmed (planOf row) (cutsOf p) s ≤ risk → m ≡ risk + n * getD most s 0 →
-        b ≡ ltb m (a .need) → b ≡ true → Sought row a p n r
-    climb-light r m risk b is at w t so =
-        let light = ltb-true m (a .need) (sym t ∙ so) in
+    -- no link of this slot may be tried
+    pub climb-stop : (r : Found) (rest : Loss) (f : ℕ) → r ≡ noFound → Leaves row (cutsOf p) most s (n - 1) rest →
+        f ≡ seek (passes (p .down) weights (a .need) rest s) (a .links - 0) 0 → a .links ≤ f → Sought row a p n r
+    climb-stop r rest f is v found over =
+        let plan = planOf row in
+        let Answers = Seeks row a in
         tells-none row _ _ (p .count + n) r is
         (rw whole at
-        (too-light-now (planOf row) (Seeks row a) (a .need) weights most (y .bound) few (cutsOf p) (p .count) (code (p .slot) (p .link)) (h .chosen) (n - 1)
-        s e (omega (arith, g .link, y .play .few)) (rw whole (omega arith)) (g .leave)))
+        (no-more plan Answers few (cutsOf p) (p .count) (code (p .slot) (p .link)) (h .chosen) (n - 1) s e (g .leave)
+        (λ i b x long low good it.
+        let next = after plan Answers few (cutsOf p) (p .count) (code (p .slot) (p .link)) (h .chosen) (n - 1) i b x good in
+        let there : b < a .links = omega (arith, next .link, y .play .links) in
+        not-tried s i b rest v (omega (arith, low, next .link, few, g .link, y .play .few)) there
+        (seek-low (passes (p .down) weights (a .need) rest s) (a .links - 0) 0 b (omega arith) (omega arith)) x long good it)))
 
     pub climb-over : (r : Found) → r ≡ noFound → a .timeout ≤ s → Sought row a p n r
     climb-over r is over =
@@ -180,76 +205,121 @@ pub goes-up : (test : ℕ → Bool) (n i r : ℕ) → r ≡ seek test n (i + 1) 
 goes-up test n i r e = omega (arith, seek-from test n (i + 1))
 
 -- the calls
-module _ (row table weights most : List ℕ) (a : Asked) (ps : Standing) (p : Picked) (n s e risk : ℕ) (m : MaySeekIn row table weights most a ps p n s e risk) where
-  next-holds : (i rest : ℕ) → Looking row weights a p n s e i rest → i < a .links → Holding row a (withPair p s i)
-  next-holds i rest g l =
+module _ (row table fragile seconds weights most : List ℕ) (a : Asked) (hits : Hits) (ps : Standing) (p : Picked) (n s e : ℕ) (rest : Loss)
+    (m : MaySeekIn row table fragile seconds weights most a hits ps p n s e rest) where
+  next-holds : (i : ℕ) → Looking row weights a p n s e i rest → i < a .links → Holding row a (withPair p s i)
+  next-holds i g l =
       holding-more row table a p (m .ready .play) (m .holding) s i (omega (arith, m .few, m .some)) (omega (arith, m .later, g .start)) (m .early) l
-      (not-cut-yet row table weights most a p n (m .ready) (m .holding) (m .some) (m .few) s e i rest g l)
+      (not-cut-yet row table fragile seconds weights most a p n (m .ready) (m .holding) (m .some) (m .few) s e i rest g l)
 
-  pub may-mark-next : (i rest : ℕ) (q : Picked) → Looking row weights a p n s e i rest → i < a .links → q ≡ withPair p s i → MayMarkPicked q
-  may-mark-next i rest q g l is =
-      rw is (may-mark-picked row table a (withPair p s i) (m .ready .play) (next-holds i rest g l) (omega (arith, m .few, m .some)))
+  count-messages : length (planOf row .messages) ≤ mostMessages
+  count-messages = omega (arith, m .ready .play .messages, m .stand .next .stand .few)
 
-  pub may-go-on : (i rest : ℕ) (q : Picked) (marks : List ℕ) → Looking row weights a p n s e i rest → i < a .links → q ≡ withPair p s i →
-      Marks table (cutsOf q) marks → MaySeek row table weights most marks a ps q (n - 1)
-  may-go-on i rest q marks g l is marked =
+  pub may-try : MayTry weights rest s
+  may-try = record { heavy = m .ready .heavy; fits = m .leaves .fits; early = omega (arith, m .early, m .ready .play .short) }
+
+  pub may-hit : (i : ℕ) → i < a .links → MayHit seconds hits s i
+  may-hit i l =
+      record {
+        long = m .ready .strip .long;
+        touched = m .covers .touches;
+        stripped = m .covers .strips;
+        slot = omega (arith, m .early, m .ready .play .short);
+        link = omega (arith, m .ready .play .few);
+      }
+
+  pub may-go-on : (i : ℕ) (q : Picked) (more : Hits) → Looking row weights a p n s e i rest → i < a .links → q ≡ withPair p s i →
+      IsHit table fragile seconds hits s i more → MaySeek row table fragile seconds weights most a more ps q (n - 1)
+  may-go-on i q more g l is hit =
       record {
         ready = m .ready;
-        holding = rw is (next-holds i rest g l);
-        marked = marked;
+        holding = rw is (next-holds i g l);
+        covers =
+            rw (is, cuts-more row table a p (m .ready .play) (m .holding) s i (omega (arith, m .few, m .some)))
+            (covers-more row table a (m .ready .play) fragile seconds (cutsOf p) (p .count) s i hits more (m .ready .strip) count-messages
+            (m .holding .chosen .long) (omega (arith, m .ready .play .links)) (m .covers) hit);
         stand = rw is (stand-more row table a p (m .ready .play) (m .holding) s i (omega (arith, m .few, m .some)) (a .messages) ps (m .stand));
         few = rw is (omega (arith, m .few, m .some));
       }
 
-  pub looks-first : (rest r : ℕ) → rest ≡ risk + (n - 1) * getD most s 0 →
-      r ≡ seek (passes (p .down) weights (s * mostLinks) (a .need) rest) (a .links - e) e → Looking row weights a p n s e r rest
-  looks-first rest r h found =
-      looked row table weights most a p n (m .ready) (m .holding) (m .some) (m .few) s e e rest r risk (m .count) h
-      (omega arith) (m .link) (look-first row table weights most a p n (m .ready) (m .holding) (m .some) (m .few) s e) found
+  pub looks-first : (r : ℕ) →
+      r ≡ seek (passes (p .down) weights (a .need) rest s) (a .links - e) e → Looking row weights a p n s e r rest
+  looks-first r found =
+      looked row table fragile seconds weights most a p n (m .ready) (m .holding) (m .some) (m .few) s e e rest r (m .leaves)
+      (omega arith) (m .link) (look-first row table fragile seconds weights most a p n (m .ready) (m .holding) (m .some) (m .few) s e) found
 
-  module _ (i rest : ℕ) (q : Picked) (r : Found) (g : Looking row weights a p n s e i rest) (l : i < a .links) (is : q ≡ withPair p s i)
+  module _ (i : ℕ) (q : Picked) (r : Found) (g : Looking row weights a p n s e i rest) (l : i < a .links) (is : q ≡ withPair p s i)
       (f : Sought row a q (n - 1) r) where
     found : Sought row a (withPair p s i) (n - 1) r
     found = rw is at f
 
     pub looks-some : r .found ≡ true → SoughtIn row a p n s e r
     looks-some t =
-        look-some row table weights most a p n (m .ready) (m .holding) (m .some) (m .few) s e i rest g r l found t
+        look-some row table fragile seconds weights most a p n (m .ready) (m .holding) (m .some) (m .few) s e i rest g r l found t
 
-    pub looks-on : (j : ℕ) → r .found ≡ false → rest ≡ risk + (n - 1) * getD most s 0 →
-        j ≡ seek (passes (p .down) weights (s * mostLinks) (a .need) rest) (a .links - (i + 1)) (i + 1) → Looking row weights a p n s e j rest
-    looks-on j t h next =
-        looked row table weights most a p n (m .ready) (m .holding) (m .some) (m .few) s e (i + 1) rest j risk (m .count) h
+    pub looks-on : (j : ℕ) → r .found ≡ false →
+        j ≡ seek (passes (p .down) weights (a .need) rest s) (a .links - (i + 1)) (i + 1) → Looking row weights a p n s e j rest
+    looks-on j t next =
+        looked row table fragile seconds weights most a p n (m .ready) (m .holding) (m .some) (m .few) s e (i + 1) rest j (m .leaves)
         (omega (arith, g .start)) (omega arith)
-        (look-on row table weights most a p n (m .ready) (m .holding) (m .some) (m .few) s e i rest g r l found t) next
+        (look-on row table fragile seconds weights most a p n (m .ready) (m .holding) (m .some) (m .few) s e i rest g r l found t) next
 
-module _ (row table weights most marks : List ℕ) (a : Asked) (ps : Standing) (p : Picked) (n : ℕ) (m : MaySeek row table weights most marks a ps p n)
-    (some : n ≡ 0 → ⊥) where
+pub may-play-out : (row table fragile seconds weights most : List ℕ) (a : Asked) (hits : Hits) (ps : Standing) (p : Picked) (n : ℕ) →
+    MaySeek row table fragile seconds weights most a hits ps p n → MayPlayOut row table a hits ps p
+may-play-out row table fragile seconds weights most a hits ps p n m =
+    record {
+      play = m .ready .play;
+      holding = m .holding;
+      stand = m .stand;
+      covers = m .covers;
+      weights = weights;
+      most = most;
+      bounds = m .ready .bounds;
+    }
+
+module _ (row table fragile seconds weights most : List ℕ) (a : Asked) (hits : Hits) (ps : Standing) (p : Picked) (n : ℕ)
+    (m : MaySeek row table fragile seconds weights most a hits ps p n) (some : n ≡ 0 → ⊥) where
   positive : 0 < n
   positive = omega (arith, some)
 
   pub climbs-first : Climbing row a p n (p .slot) (p .link) ps
-  climbs-first = climb-first row table weights most a p n (m .ready) (m .holding) positive (m .few) ps (m .stand)
+  climbs-first = climb-first row table fragile seconds weights most a p n (m .ready) (m .holding) positive (m .few) ps (m .stand)
 
   module _ (s e : ℕ) (qs : Standing) (g : Climbing row a p n s e qs) where
-    -- the messages at risk, as they are counted
-    counted : (risk : ℕ) → risk ≡ atRisk marks (qs .positions) (a .messages) → harmed (planOf row) (cutsOf p) s ≤ risk
-    counted risk is = omega (arith, risk-is row table marks a p (m .ready .play) (m .holding) (m .marked) s qs (g .stand))
+    pub may-count : MayCount (a .messages) hits
+    may-count = record { few = g .stand .next .stand .few; touched = m .covers .touches; stripped = m .covers .strips }
 
-    pub may-look : (risk : ℕ) → s < a .timeout → risk ≡ atRisk marks (qs .positions) (a .messages) → risk ≤ a .messages → MaySeekIn row table weights most a qs p n s e risk
-    may-look risk early is few =
-        record {
-          ready = m .ready;
-          holding = m .holding;
-          count = counted risk is;
-          small = omega (arith, g .stand .next .stand .few);
-          stand = g .stand;
-          few = m .few;
-          some = positive;
-          early = early;
-          link = g .link;
-          later = g .later;
-        }
+    pub may-weigh-rest : (risk : Risk) → s < a .timeout → risk ≡ risksOf hits (qs .positions) (a .messages) → MayWeigh risk (n - 1) most s
+    may-weigh-rest risk early is =
+        may-weigh row (a .messages) (cutsOf p) s qs (g .stand) (m .ready .play .messages) hits (m .covers) most (n - 1) risk is (omega (arith, m .few))
+        (m .ready .tops) (omega (arith, m .ready .play .short))
+
+    module _ (risk : Risk) (rest : Loss) (is : risk ≡ risksOf hits (qs .positions) (a .messages)) (so : (rest ≡ lossOf risk (n - 1) most s) × Fits rest) where
+      leaves : Leaves row (cutsOf p) most s (n - 1) rest
+      leaves = counted row (a .messages) (cutsOf p) s qs (g .stand) (m .ready .play .messages) hits (m .covers) most (n - 1) risk rest is (so .0) (so .1)
+
+      pub may-try-all : s < a .timeout → MayTry weights rest s
+      may-try-all early = record { heavy = m .ready .heavy; fits = so .1; early = omega (arith, m .ready .play .short) }
+
+      pub climbs-stop : (r : Found) (f : ℕ) → r ≡ noFound → f ≡ seek (passes (p .down) weights (a .need) rest s) (a .links - 0) 0 → a .links ≤ f →
+          Sought row a p n r
+      climbs-stop r f none =
+          climb-stop row table fragile seconds weights most a p n (m .ready) (m .holding) positive (m .few) s e qs g r rest f none leaves
+
+      pub may-look : s < a .timeout → MaySeekIn row table fragile seconds weights most a hits qs p n s e rest
+      may-look early =
+          record {
+            ready = m .ready;
+            holding = m .holding;
+            covers = m .covers;
+            leaves = leaves;
+            stand = g .stand;
+            few = m .few;
+            some = positive;
+            early = early;
+            link = g .link;
+            later = g .later;
+          }
 
     pub may-advance : s < a .timeout → MayAdvance row table a qs p
     may-advance early =
@@ -261,18 +331,13 @@ module _ (row table weights most marks : List ℕ) (a : Asked) (ps : Standing) (
           early = rw (g .stand .time) early;
         }
 
-    pub climbs-light : (r : Found) (w risk : ℕ) (b : Bool) → r ≡ noFound → risk ≡ atRisk marks (qs .positions) (a .messages) → w ≡ risk + n * getD most s 0 →
-        b ≡ ltb w (a .need) → b ≡ true → Sought row a p n r
-    climbs-light r w risk b is at =
-        climb-light row table weights most a p n (m .ready) (m .holding) positive (m .few) s e qs g r w risk b is (counted risk at)
-
     pub climbs-over : (r : Found) → r ≡ noFound → a .timeout ≤ s → Sought row a p n r
-    climbs-over = climb-over row table weights most a p n (m .ready) (m .holding) positive (m .few) s e qs g
+    climbs-over = climb-over row table fragile seconds weights most a p n (m .ready) (m .holding) positive (m .few) s e qs g
 
     pub climbs-some : (r : Found) → SoughtIn row a p n s e r → r .found ≡ true → Sought row a p n r
-    climbs-some = climb-some row table weights most a p n (m .ready) (m .holding) positive (m .few) s e qs g
+    climbs-some = climb-some row table fragile seconds weights most a p n (m .ready) (m .holding) positive (m .few) s e qs g
 
     pub climbs-on : (r : Found) → SoughtIn row a p n s e r → (rs : Standing) → r .found ≡ false → s < a .timeout →
         StandAt row (a .messages) (cutsOf p) (qs .time .0 + 1) rs → Climbing row a p n (s + 1) 0 rs
     climbs-on r f rs t early stand =
-        climb-on row table weights most a p n (m .ready) (m .holding) positive (m .few) s e qs g r f rs t early (rw (g .stand .time) at stand)
+        climb-on row table fragile seconds weights most a p n (m .ready) (m .holding) positive (m .few) s e qs g r f rs t early (rw (g .stand .time) at stand)

@@ -1,7 +1,7 @@
 pub mod Weigh
 pub mod Answer
 pub mod Picking
-pub mod Risk
+pub mod Risks
 pub mod Telling
 pub mod Playing
 pub mod Levels

@@ -19,13 +19,14 @@ use Rattle.step.specs.Slot.{downNow, MayGo, GoesOn}
 use Rattle.cycle.proofs.Agree.{slot-same}
 use Rattle.order.proofs.Prefix.{one-slot}
 use Rattle.order.proofs.Steps.{nothing-more, itself}
-use Rattle.bound.specs.Sums.{sumOf}
 use Rattle.search.specs.declared.Asked.{Asked}
 use Rattle.search.specs.declared.Picked.{Picked}
+use Rattle.search.specs.declared.Hits.{Hits}
+use Rattle.search.specs.declared.Risk.{Risk}
 use Rattle.search.specs.declared.Found.{Found}
 use Rattle.search.specs.Hunt.{cutsOf, Seeks, noFound, Playable, Holding, StandAt, MayPlayOut, MayAdvance, Sought}
-use Rattle.search.specs.Risk.{atRisk}
-use Rattle.search.proofs.Risk.{risk-is}
+use Rattle.search.specs.Risks.{risksOf, MayCount}
+use Rattle.search.proofs.Risks.{lost-counted}
 use Rattle.search.proofs.Telling.{tells-none, tells-some}
 
 module _ (row table : List ℕ) (a : Asked) (p : Picked) (y : Playable row table a) (h : Holding row a p) where
@@ -81,7 +82,7 @@ pub record Ending (row : List ℕ) (a : Asked) (p : Picked) (i : ℕ) (qs : Stan
   pub from : p .slot ≤ i
   pub early : i ≤ a .timeout
 
-module _ (row table marks : List ℕ) (a : Asked) (ps : Standing) (p : Picked) (m : MayPlayOut row table marks a ps p) where
+module _ (row table : List ℕ) (a : Asked) (hits : Hits) (ps : Standing) (p : Picked) (m : MayPlayOut row table a hits ps p) where
   pub ends-first : Ending row a p (p .slot) ps
   ends-first = record { stand = m .stand; from = omega arith; early = m .holding .slot }
 
@@ -99,18 +100,20 @@ module _ (row table marks : List ℕ) (a : Asked) (ps : Standing) (p : Picked) (
     pub ends-more : (rs : Standing) → i < a .timeout → StandAt row (a .messages) (cutsOf p) (qs .time .0 + 1) rs → Ending row a p (i + 1) rs
     ends-more rs l s = record { stand = rw (g .stand .time) at s; from = omega (arith, g .from); early = omega arith }
 
+    pub ends-count : MayCount (a .messages) hits
+    ends-count = record { few = g .stand .next .stand .few; touched = m .covers .touches; stripped = m .covers .strips }
+
     -- too few can be lost
-    pub ends-light : (r : Found) (risk : ℕ) (b : Bool) → r ≡ noFound → risk ≡ atRisk marks (qs .positions) (a .messages) → b ≡ ltb risk (a .need) → b ≡ true →
-        Sought row a p 0 r
-    unfolding sumOf
+    pub ends-light : (r : Found) (risk : Risk) (b : Bool) → r ≡ noFound → risk ≡ risksOf hits (qs .positions) (a .messages) → b ≡ ltb (risk .lost) (a .need) →
+        b ≡ true → Sought row a p 0 r
     ends-light r risk b is count t so =
-        let counted = risk-is row table marks a p (m .play) (m .holding) (m .marked) i qs (g .stand) in
-        let light = ltb-true risk (a .need) (sym t ∙ so) in
+        let few = lost-counted row (a .messages) (cutsOf p) i qs (g .stand) (m .play .messages) hits (m .covers) in
+        let light = ltb-true (risk .lost) (a .need) (sym t ∙ so) in
         tells-none row _ _ (p .count + 0) r is
-        (λ x rest good it.
-        let enough = m .bound .enough (cutsOf p) x (p .count) 0 i (omega (arith, g .early, m .play .timeout)) (m .holding .chosen .long) rest
-        (λ j l. absurd (omega arith)) good it in
-        omega (arith, enough, counted, count, light))
+        (nothing-more (planOf row) (Seeks row a) (cutsOf p)
+        (λ it.
+        omega
+        (arith, m .bounds .whole (cutsOf p) (p .count) i (omega (arith, g .early, m .play .timeout)) (m .holding .chosen .long) (m .holding .chosen .good) it, few, ap (λ (x : Risk). x .lost) count, light)))
 
     -- the end
     pub ends-over : (n : ℕ) → a .timeout ≤ i → n ≡ arrived (positionsOf row (a .messages) (qs .positions)) → n ≡ arrivals (planOf row) (cutsOf p)

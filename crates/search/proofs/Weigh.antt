@@ -1,26 +1,74 @@
--- What the pairs still to come can add to the messages that a list harms.
+-- What the pairs still to come can add to the messages that a list marks, once over any weight; and which of the three bounds it is that fails.
 use Prim.Native.Nat.{ℕ, zero, suc, _+_, _*_, _≤_, _<_}
 use native.Mathlib.Omega.{arith}
 use native.Mathlib.Nat.{suc-mul}
-use mathlib.Core.Path.{_≡_}
-use mathlib.Core.Bool.{true}
+use mathlib.Core.Path.{_≡_, refl}
+use mathlib.Core.Bool.{Bool, true, false, _||_}
 use mathlib.Core.List.{List, _∷_, _++_}
 use lib.ListN.{length, getD}
-use Rattle.scope.specs.Limits.{mostLinks}
+use lib.Dec.{ltb}
+use borrow.Author.Tests.{ltb-true, lt-ltb, le-ltb}
+use Rattle.scope.specs.Limits.{mostSlots, mostLinks, tableSize}
 use Rattle.scope.specs.Plan.{Plan}
 use Rattle.scope.specs.Cuts.{pairs, cutSlot, cutLink, isCutList}
 use Rattle.scope.proofs.Cuts.{slot-below, link-below}
 use Rattle.bound.specs.Sums.{sumOf}
 use Rattle.bound.specs.Touch.{harm}
-use Rattle.bound.specs.Harmed.{harmed, NotBefore}
-use Rattle.bound.specs.Bound.{weightIn, Bound}
-use Rattle.order.specs.Search.{code, Chosen, Not, NoneOf, NoneIn}
+use Rattle.bound.specs.Harmed.{NotBefore}
+use Rattle.bound.specs.Bounds.{BoundOn}
+use Rattle.order.specs.Search.{Chosen, Not}
 use Rattle.order.proofs.Parts.{slot-right, link-right, pairs-both}
 use Rattle.order.proofs.Pairs.{slots-from}
-use Rattle.order.proofs.Steps.{after, no-more}
+use Rattle.search.specs.declared.Loss.{Loss}
+use Rattle.search.specs.declared.Risk.{Risk}
+use Rattle.search.specs.Hunt.{lossOf, lossWith, tooLight, Fits}
 
-module _ (plan : Plan) (Answers : List ℕ → Type 0) (need : ℕ) (weights most : List ℕ) (bound : Bound plan Answers need weights most)
-    (links : length (plan .links) ≤ mostLinks) where
+-- what cannot answer fails one of the bounds
+pub which : (X : Type 0) (need : ℕ) (loss : Loss) → tooLight need loss ≡ true → (loss .touches < need → X) → (loss .strips < need → X) →
+    (loss .both < 2 * need → X) → X
+which X need loss light one two three = by (ltb (loss .touches) need) refl (ltb (loss .strips) need) refl light
+  where
+    by : (a : Bool) → ltb (loss .touches) need ≡ a → (b : Bool) → ltb (loss .strips) need ≡ b → (a || b || ltb (loss .both) (2 * need)) ≡ true → X
+    by true e b f t = one (ltb-true (loss .touches) need e)
+    by false e true f t = two (ltb-true (loss .strips) need f)
+    by false e false f t = three (ltb-true (loss .both) (2 * need) t)
+
+-- the three tests, one after another
+pub light-touches : (need : ℕ) (loss : Loss) → loss .touches < need → true ≡ tooLight need loss
+light-touches need loss h = rw (lt-ltb (loss .touches) need h) refl
+
+pub light-strips : (need : ℕ) (loss : Loss) → need ≤ loss .touches → loss .strips < need → true ≡ tooLight need loss
+light-strips need loss g h = rw (le-ltb (loss .touches) need g, lt-ltb (loss .strips) need h) refl
+
+pub light-both : (need : ℕ) (loss : Loss) → need ≤ loss .touches → need ≤ loss .strips → ltb (loss .both) (2 * need) ≡ tooLight need loss
+light-both need loss g h = rw (le-ltb (loss .touches) need g, le-ltb (loss .strips) need h) refl
+
+-- what the numbers of a slot and of a pair are
+losses-are : (risk : Risk) (n : ℕ) (most : List ℕ) (s x y z t u v : ℕ) → x ≡ getD most s 0 → y ≡ getD most (mostSlots + s) 0 → z ≡ getD most (2 * mostSlots + s) 0 →
+    t ≡ risk .touched + n * x → u ≡ risk .stripped + n * y → v ≡ risk .touched + risk .stripped + n * z →
+    _≡_ {A = Loss} (record { touches = t; strips = u; both = v }) (lossOf risk n most s)
+losses-are risk n most s x y z t u v a b c p q r =
+    let i : 0 * mostSlots + s ≡ s = omega arith in
+    let j : 1 * mostSlots + s ≡ mostSlots + s = omega arith in
+    rw (p, q, r, a, b, c, i, j) refl
+
+pub losses-is : (risk : Risk) (n : ℕ) (most : List ℕ) (s x y z t u v : ℕ) → x ≡ getD most s 0 → y ≡ getD most (mostSlots + s) 0 → z ≡ getD most (2 * mostSlots + s) 0 →
+    (t ≡ risk .touched + n * x) × (t ≤ 262144) → (u ≡ risk .stripped + n * y) × (u ≤ 262144) →
+    (v ≡ risk .touched + risk .stripped + n * z) × (v ≤ 262144) →
+    (_≡_ {A = Loss} (record { touches = t; strips = u; both = v }) (lossOf risk n most s)) × Fits (record { touches = t; strips = u; both = v })
+losses-is risk n most s x y z t u v a b c p q r =
+    (losses-are risk n most s x y z t u v a b c (p .0) (q .0) (r .0), record { touches = p .1; strips = q .1; both = r .1 })
+
+pub weighed-is : (rest : Loss) (weights : List ℕ) (s e x y z : ℕ) → x ≡ getD weights (s * mostLinks + e) 0 →
+    y ≡ getD weights (tableSize + (s * mostLinks + e)) 0 → z ≡ getD weights (2 * tableSize + (s * mostLinks + e)) 0 →
+    _≡_ {A = Loss} (record { touches = rest .touches + x; strips = rest .strips + y; both = rest .both + z }) (lossWith rest weights s e)
+weighed-is rest weights s e x y z a b c =
+    let i : 0 * tableSize + (s * mostLinks + e) ≡ s * mostLinks + e = omega arith in
+    let j : 1 * tableSize + (s * mostLinks + e) ≡ tableSize + (s * mostLinks + e) = omega arith in
+    rw (a, b, c, i, j) refl
+
+module _ (plan : Plan) (Answers : List ℕ → Type 0) (need : ℕ) (marked : List ℕ → ℕ → ℕ) (weight : ℕ → ℕ → ℕ) (top : ℕ → ℕ)
+    (bound : BoundOn plan Answers need marked weight top) (links : length (plan .links) ≤ mostLinks) where
   -- pairs that are not in a slot before s
   module _ (pre x : List ℕ) (d n s : ℕ) (long : length pre ≡ 2 * d) (rest : length x ≡ 2 * n) (good : isCutList plan (pre ++ x) ≡ true) where
     not-before : s ≤ cutSlot x 0 → NotBefore s x n
@@ -30,24 +78,18 @@ module _ (plan : Plan) (Answers : List ℕ → Type 0) (need : ℕ) (weights mos
         let here : cutSlot (pre ++ x) d ≡ cutSlot x 0 = rw z at (slot-right pre x d long 0) in
         omega (arith, from, here, slot-right pre x d long j)
 
-    one-pair : (j : ℕ) → j < n → s ≤ cutSlot x j → weightIn weights (cutSlot x j) (cutLink x j) ≤ getD most s 0
+    one-pair : (j : ℕ) → j < n → s ≤ cutSlot x j → weight (cutSlot x j) (cutLink x j) ≤ top s
     one-pair j h low =
         let there : d + j < pairs (pre ++ x) = omega (arith, pairs-both pre x d long n rest) in
         bound .later s (cutSlot x j) (cutLink x j) low (rw (slot-right pre x d long j) at (slot-below plan (pre ++ x) good (d + j) there))
         (rw (link-right pre x d long j) at (link-below plan (pre ++ x) good (d + j) there))
 
-    all-weigh : NotBefore s x n → (k : ℕ) → k ≤ n → harm (weightIn weights) x k ≤ k * getD most s 0
-    unfolding sumOf
-    all-weigh later zero h = omega arith
-    all-weigh later (suc k) h =
-        omega (arith, all-weigh later k (omega arith), one-pair k (omega arith) (later k (omega arith)), suc-mul k (getD most s 0))
-
     -- the first pair by its own weight
-    then-weigh : NotBefore s x n → (k : ℕ) → k < n → harm (weightIn weights) x (suc k) ≤ weightIn weights (cutSlot x 0) (cutLink x 0) + k * getD most s 0
+    then-weigh : NotBefore s x n → (k : ℕ) → k < n → harm weight x (suc k) ≤ weight (cutSlot x 0) (cutLink x 0) + k * top s
     unfolding sumOf
     then-weigh later zero h = omega arith
     then-weigh later (suc k) h =
-        omega (arith, then-weigh later k (omega arith), one-pair (suc k) h (later (suc k) h), suc-mul k (getD most s 0))
+        omega (arith, then-weigh later k (omega arith), one-pair (suc k) h (later (suc k) h), suc-mul k (top s))
 
   -- a list with k + 1 pairs more that answers has enough weight
   module _ (pre : List ℕ) (d k a b : ℕ) (x : List ℕ) (long : length pre ≡ 2 * d) (rest : length x ≡ 2 * k) (good : isCutList plan (pre ++ a ∷ b ∷ x) ≡ true)
@@ -61,30 +103,15 @@ module _ (plan : Plan) (Answers : List ℕ → Type 0) (need : ℕ) (weights mos
         let first : cutSlot (pre ++ a ∷ b ∷ x) d ≡ a = rw z at (slot-right pre (a ∷ b ∷ x) d long 0) in
         omega (arith, first, slot-below plan (pre ++ a ∷ b ∷ x) good d (omega (arith, pairs-both pre (a ∷ b ∷ x) d long (suc k) size)))
 
-    all-later : (s : ℕ) → s ≤ a → need ≤ harmed plan pre s + (1 + k) * getD most s 0
-    all-later s h =
-        let e : 1 + k ≡ suc k = omega arith in
+    then-later : (s : ℕ) → s ≤ a → need ≤ marked pre s + weight a b + k * top s
+    then-later s h =
         let later = not-before pre (a ∷ b ∷ x) d (suc k) s long size good h in
         let enough = bound .enough pre (a ∷ b ∷ x) d (suc k) s (omega (arith, early)) long size later good it in
-        rw e (omega (arith, enough, all-weigh pre (a ∷ b ∷ x) d (suc k) s long size good later (suc k) (omega arith)))
+        omega (arith, enough, then-weigh pre (a ∷ b ∷ x) d (suc k) s long size good later k (omega arith))
 
-    then-later : need ≤ harmed plan pre a + weightIn weights a b + k * getD most a 0
-    then-later =
-        let later = not-before pre (a ∷ b ∷ x) d (suc k) a long size good (omega arith) in
-        let enough = bound .enough pre (a ∷ b ∷ x) d (suc k) a (omega (arith, early)) long size later good it in
-        omega (arith, enough, then-weigh pre (a ∷ b ∷ x) d (suc k) a long size good later k (omega arith))
-
-  module _ (pre : List ℕ) (d start : ℕ) (chosen : Chosen plan pre d start) (k : ℕ) where
-    -- a pair that is too light
-    pub too-light : (s b : ℕ) → harmed plan pre s + weightIn weights s b + k * getD most s 0 < need → (x : List ℕ) → length x ≡ 2 * k →
-        Not plan Answers (pre ++ s ∷ b ∷ x)
-    too-light s b light x long good it = omega (arith, light, then-later pre d k s b x (chosen .long) long good it)
-
-    -- all pairs from a slot on are
-    pub too-light-now : (s e : ℕ) → e ≤ mostLinks → harmed plan pre s + (1 + k) * getD most s 0 < need → NoneIn plan Answers pre k 0 (code s e) →
-        NoneOf plan Answers pre (1 + k)
-    too-light-now s e h light before =
-        no-more plan Answers links pre d start chosen k s e before
-        (λ a b x long low good it.
-        let n = after plan Answers links pre d start chosen k a b x good in
-        omega (arith, light, all-later pre d k a b x (chosen .long) long good it s (omega (arith, n .link))))
+  -- a pair of slot s that is too light, and those of its link in later slots, which weigh no more
+  pub too-light : (pre : List ℕ) (d start : ℕ) → Chosen plan pre d start → (k s a b : ℕ) → s ≤ a → b < length (plan .links) →
+      marked pre s + weight s b + k * top s < need → (x : List ℕ) → length x ≡ 2 * k → Not plan Answers (pre ++ a ∷ b ∷ x)
+  too-light pre d start chosen k s a b h there light x long good it =
+      let falls = bound .falls s a b h (early pre d k a b x (chosen .long) long good it) there in
+      omega (arith, light, falls, then-later pre d k a b x (chosen .long) long good it s h)

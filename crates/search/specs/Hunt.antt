@@ -1,11 +1,11 @@
 -- The search in the code's own terms: what is asked, the pairs picked so far, and what was found.
 use Prim.Native.Nat.{ℕ, _+_, _-_, _*_, _≤_, _<_}
 use mathlib.Core.Path.{_≡_}
-use mathlib.Core.Bool.{Bool, true, false, not, _&&_}
+use mathlib.Core.Bool.{Bool, true, false, not, _&&_, _||_}
 use mathlib.Core.List.{List, []}
 use lib.ListN.{length, getD, take, set, replicate}
 use lib.Dec.{ltb}
-use Rattle.scope.specs.Limits.{mostCuts, mostSlots, mostLinks, tableSize}
+use Rattle.scope.specs.Limits.{mostCuts, mostSlots, mostLinks, mostEntries, weightsSize, topsSize, secondsSize}
 use Rattle.scope.specs.Plan.{planOf}
 use Rattle.scope.specs.Cuts.{isCut}
 use Rattle.scope.specs.Verdict.{FirstFailing}
@@ -15,11 +15,16 @@ use Rattle.table.specs.Table.{entryAt}
 use Rattle.step.specs.declared.Standing.{Standing}
 use Rattle.step.specs.Stand.{Become}
 use Rattle.order.specs.Search.{code, Chosen, NoneOf, FirstOf, NoneIn, FirstFrom}
-use Rattle.bound.specs.Bound.{Bound, Fails}
-use Rattle.bound.specs.Harmed.{harmed}
-use Rattle.bound.specs.Marks.{Marks}
+use Rattle.bound.specs.Bound.{Fails}
+use Rattle.bound.specs.Bounds.{weightIn, topIn, harmedAndBared, Bounds}
+use Rattle.bound.specs.Harmed.{isTouched, harmed}
+use Rattle.bound.specs.Strips.{strips, isStripped, bared}
+use Rattle.bound.specs.Marks.{stripHits}
 use Rattle.search.specs.declared.Asked.{Asked}
 use Rattle.search.specs.declared.Picked.{Picked}
+use Rattle.search.specs.declared.Hits.{Hits}
+use Rattle.search.specs.declared.Risk.{Risk}
+use Rattle.search.specs.declared.Loss.{Loss}
 use Rattle.search.specs.declared.Found.{Found}
 use Rattle.search.specs.declared.Hunted.{Hunted}
 
@@ -42,9 +47,37 @@ withPair p s e =
 abbrev pub noPair : Picked
 noPair = record { count = 0; slot = 0; link = 0; numbers = replicate (2 * mostCuts) 0; down = replicate mostLinks 0 }
 
+-- what can be lost where so many messages are at risk and n pairs more are to come, none before slot s
+abbrev pub lossOf : Risk → ℕ → List ℕ → ℕ → Loss
+lossOf risk n most s =
+    record {
+      touches = risk .touched + n * topIn most 0 s;
+      strips = risk .stripped + n * topIn most 1 s;
+      both = risk .touched + risk .stripped + n * topIn most 2 s;
+    }
+
+-- and with the pair (s, e)
+abbrev pub lossWith : Loss → List ℕ → ℕ → ℕ → Loss
+lossWith rest weights s e =
+    record {
+      touches = rest .touches + weightIn weights 0 s e;
+      strips = rest .strips + weightIn weights 1 s e;
+      both = rest .both + weightIn weights 2 s e;
+    }
+
+-- what can be lost is no large number
+pub record Fits (loss : Loss) : Type 0 where
+  pub touches : loss .touches ≤ 262144
+  pub strips : loss .strips ≤ 262144
+  pub both : loss .both ≤ 262144
+
+-- too few messages are touched, or stripped, or both together
+abbrev pub tooLight : ℕ → Loss → Bool
+tooLight need loss = ltb (loss .touches) need || ltb (loss .strips) need || ltb (loss .both) (2 * need)
+
 -- a link that is not cut already, and with which a list can answer where so much is lost besides
-abbrev pub passes : List ℕ → List ℕ → ℕ → ℕ → ℕ → ℕ → Bool
-passes down weights base need rest e = not (isDown down e) && not (ltb (rest + getD weights (base + e) 0) need)
+abbrev pub passes : List ℕ → List ℕ → ℕ → Loss → ℕ → ℕ → Bool
+passes down weights need rest s e = not (isDown down e) && not (tooLight need (lossWith rest weights s e))
 
 -- what is sought: of the search's words this alone knows the question
 abbrev pub Seeks : List ℕ → Asked → List ℕ → Type 0
@@ -66,12 +99,20 @@ pub record Playable (row table : List ℕ) (a : Asked) : Type 0 where
   pub messages : a .messages ≡ length (planOf row .messages)
   pub owner : (i : ℕ) → i < mostSlots → entryAt table i ≡ tableOf (planOf row) i
 
--- and with a bound
-pub record Ready (row table weights most : List ℕ) (a : Asked) : Type 0 where
+-- with what strips a message: a pair that does is found in the table of fragile places or among the second paths
+pub record Strippable (row fragile seconds : List ℕ) : Type 0 where
+  pub long : length seconds ≡ secondsSize
+  pub is : (m s e : ℕ) → m < length (planOf row .messages) → e < length (planOf row .links) →
+      strips (planOf row) m s e ≤ stripHits fragile seconds m s e
+
+-- and with the bounds
+pub record Ready (row table fragile seconds weights most : List ℕ) (a : Asked) : Type 0 where
   pub play : Playable row table a
-  pub heavy : length weights ≡ tableSize
-  pub tops : length most ≡ mostSlots
-  pub bound : Bound (planOf row) (Seeks row a) (a .need) weights most
+  pub strip : Strippable row fragile seconds
+  pub heavy : length weights ≡ weightsSize
+  pub tops : length most ≡ topsSize
+  pub small : a .need ≤ 65536
+  pub bounds : Bounds (planOf row) (Seeks row a) (a .need) weights most
 
 -- the pairs picked are a cut list, none of them is later than the last one's slot, and from there on their links are down
 pub record Holding (row : List ℕ) (a : Asked) (p : Picked) : Type 0 where
@@ -88,15 +129,37 @@ pub record StandAt (row : List ℕ) (n : ℕ) (cuts : List ℕ) (s : ℕ) (ps : 
   pub time : ps .time .0 ≡ s
   pub next : Become row n (positions (orderOf (planOf row)) (isCut (planOf row) cuts) (tableOf (planOf row)) 0 s (start (planOf row))) (ps .positions)
 
+-- message m is marked
+abbrev pub isMarked : List ℕ → ℕ → Bool
+isMarked marks m = ltb 0 (getD marks (m + 1) 0)
+
+-- the marks of no pair
+abbrev pub noHits : Hits
+noHits = record { touched = replicate mostEntries 0; stripped = replicate mostEntries 0 }
+
+-- every message is marked that the list touches, and that it strips
+pub record Covers (row cuts : List ℕ) (hits : Hits) : Type 0 where
+  pub touches : length (hits .touched) ≡ mostEntries
+  pub strips : length (hits .stripped) ≡ mostEntries
+  pub touched : (m : ℕ) → m < length (planOf row .messages) → isTouched (planOf row) cuts m ≡ true → isMarked (hits .touched) m ≡ true
+  pub stripped : (m : ℕ) → m < length (planOf row .messages) → isStripped (planOf row) cuts m ≡ true → isMarked (hits .stripped) m ≡ true
+
+-- no less can be lost than the list marks and k pairs more weigh, none before slot s
+pub record Leaves (row cuts most : List ℕ) (s k : ℕ) (rest : Loss) : Type 0 where
+  pub touches : harmed (planOf row) cuts s + k * topIn most 0 s ≤ rest .touches
+  pub strips : bared (planOf row) cuts s + k * topIn most 1 s ≤ rest .strips
+  pub both : harmedAndBared (planOf row) cuts s + k * topIn most 2 s ≤ rest .both
+  pub fits : Fits rest
+
 -- a list may be played to the end, and one slot on
-pub record MayPlayOut (row table marks : List ℕ) (a : Asked) (ps : Standing) (p : Picked) : Type 0 where
+pub record MayPlayOut (row table : List ℕ) (a : Asked) (hits : Hits) (ps : Standing) (p : Picked) : Type 0 where
   pub play : Playable row table a
   pub holding : Holding row a p
   pub stand : StandAt row (a .messages) (cutsOf p) (p .slot) ps
-  pub marked : Marks table (cutsOf p) marks
+  pub covers : Covers row (cutsOf p) hits
   pub weights : List ℕ
   pub most : List ℕ
-  pub bound : Bound (planOf row) (Seeks row a) (a .need) weights most
+  pub bounds : Bounds (planOf row) (Seeks row a) (a .need) weights most
 
 pub record MayAdvance (row table : List ℕ) (a : Asked) (ps : Standing) (p : Picked) : Type 0 where
   pub play : Playable row table a
@@ -106,19 +169,20 @@ pub record MayAdvance (row table : List ℕ) (a : Asked) (ps : Standing) (p : Pi
   pub early : ps .time .0 < a .timeout
 
 -- n pairs more may be sought
-pub record MaySeek (row table weights most marks : List ℕ) (a : Asked) (ps : Standing) (p : Picked) (n : ℕ) : Type 0 where
-  pub ready : Ready row table weights most a
+pub record MaySeek (row table fragile seconds weights most : List ℕ) (a : Asked) (hits : Hits) (ps : Standing) (p : Picked) (n : ℕ) : Type 0 where
+  pub ready : Ready row table fragile seconds weights most a
   pub holding : Holding row a p
-  pub marked : Marks table (cutsOf p) marks
+  pub covers : Covers row (cutsOf p) hits
   pub stand : StandAt row (a .messages) (cutsOf p) (p .slot) ps
   pub few : p .count + n ≤ mostCuts
 
--- in one slot, from a link on, where so many messages are at risk
-pub record MaySeekIn (row table weights most : List ℕ) (a : Asked) (ps : Standing) (p : Picked) (n s e risk : ℕ) : Type 0 where
-  pub ready : Ready row table weights most a
+-- in one slot, from a link on, where so much can be lost besides the pair of that slot
+pub record MaySeekIn (row table fragile seconds weights most : List ℕ) (a : Asked) (hits : Hits) (ps : Standing) (p : Picked) (n s e : ℕ) (rest : Loss) :
+    Type 0 where
+  pub ready : Ready row table fragile seconds weights most a
   pub holding : Holding row a p
-  pub count : harmed (planOf row) (cutsOf p) s ≤ risk
-  pub small : risk ≤ 65536
+  pub covers : Covers row (cutsOf p) hits
+  pub leaves : Leaves row (cutsOf p) most s (n - 1) rest
   pub stand : StandAt row (a .messages) (cutsOf p) s ps
   pub few : p .count + n ≤ mostCuts
   pub some : 0 < n
@@ -145,8 +209,8 @@ SoughtIn row a p n s e r =
     (FirstFrom (planOf row) (Seeks row a) (cutsOf p) (n - 1) (code s e)) (p .count + n) r
 
 -- lists of at most k pairs may be sought, where those of fewer than `low` are known not to answer
-pub record MayHunt (row table weights most : List ℕ) (a : Asked) (ps : Standing) (low k : ℕ) : Type 0 where
-  pub ready : Ready row table weights most a
+pub record MayHunt (row table fragile seconds weights most : List ℕ) (a : Asked) (ps : Standing) (low k : ℕ) : Type 0 where
+  pub ready : Ready row table fragile seconds weights most a
   pub stand : StandAt row (a .messages) [] 0 ps
   pub few : k ≤ mostCuts
   pub within : low ≤ k + 1

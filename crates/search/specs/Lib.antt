@@ -1,2 +1,2 @@
 pub mod Hunt
-pub mod Risk
+pub mod Risks

@@ -3,20 +3,24 @@
 // no list from here can answer. Of the bound it knows only specs/Bound of `bound`. It leans on `cycle` for a slot, on `order` for the
 // steps from pair to pair and on the theorems of `laws`.
 use scope::limits::CUT_NUMBERS;
+use scope::limits::ENTRIES;
 use scope::limits::LINKS;
 use scope::limits::MESSAGES;
+use scope::limits::SLOTS;
+use scope::limits::TABLE;
 use step::Position;
 use step::Standing;
 ghost use Prim.Native.Nat.{_+_, _-_, _*_, _<_, _≤_};
 ghost use mathlib.Core.Path.{_≡_};
-ghost use lib.ListN.{length};
+ghost use mathlib.Core.Bool.{_&&_};
+ghost use lib.ListN.{length, getD};
 ghost use lib.Dec.{ltb};
-ghost use Rattle.scope.specs.Limits.{mostCuts, mostSlots, mostLinks, mostMessages};
+ghost use Rattle.scope.specs.Limits.{mostCuts, mostSlots, mostLinks};
 ghost use Rattle.scope.specs.Lowest.{seek};
-ghost use Rattle.search.specs.Hunt.{cutsOf, withPair, noPair, passes, noFound, noHunted, StandAt};
+ghost use Rattle.bound.specs.Sums.{oneIf};
+ghost use Rattle.search.specs.Hunt.{cutsOf, withPair, noPair, noHits, lossOf, lossWith, tooLight, passes, Fits, noFound, noHunted, StandAt};
 ghost use Rattle.search.specs.Hunt.{MayPlayOut, MayAdvance, MaySeek, MaySeekIn, Sought, SoughtIn, MayHunt, Hunts};
-ghost use Rattle.bound.specs.Marks.{mostEntries, Marks};
-ghost use Rattle.search.specs.Risk.{riskIf, atRisk, MayMarkPicked};
+ghost use Rattle.search.specs.Risks.{risksOf, withMessage, MayCount, MayCountOn, MayHit, IsHit, MayWeigh, MayTry};
 
 // What is asked of a plan: its timeout, links and messages, the least number of arrivals, and what a list must weigh to leave fewer.
 pub struct Asked {
@@ -108,11 +112,53 @@ fn answers(least: usize, arrivals: usize) -> bool
     arrivals < least
 }
 
-// No list from here can answer, if it loses no more messages than so many.
-fn hopeless(need: usize, loss: usize) -> bool
-    ensures { λ r. ⌜ r ≡ ltb loss need ⌝ }
+// The messages that the pairs picked touch, and those that they strip: a mark for each message plus one.
+pub struct Hits {
+    pub touched: [u8; ENTRIES],
+    pub stripped: [u8; ENTRIES],
+}
+
+// How many messages, of those that are not at their targets, the pairs picked touch, strip, and both touch and strip.
+pub struct Risk {
+    pub touched: usize,
+    pub stripped: usize,
+    pub lost: usize,
+}
+
+// How many messages can be touched and stripped, and how many of both together, where some pairs are still to come.
+pub struct Loss {
+    pub touches: usize,
+    pub strips: usize,
+    pub both: usize,
+}
+
+// A list cannot answer, if it loses no more messages than so many.
+fn too_few(need: usize, lost: usize) -> bool
+    ensures { λ r. ⌜ r ≡ ltb lost need ⌝ }
 {
-    loss < need
+    lost < need
+}
+
+// No list from here can answer: it touches too few messages, or strips too few, or too few together, counted in halves.
+fn hopeless(need: usize, loss: Loss) -> bool
+    requires { ⌜ need ≤ 65536 ⌝ }
+    ensures { λ r. ⌜ r ≡ tooLight need loss ⌝ }
+{
+    if loss.touches < need {
+        return true;
+    }
+    if loss.strips < need {
+        return true;
+    }
+    loss.both < 2 * need
+}
+
+// The number at an index.
+fn at(numbers: &[u16], k: usize) -> usize
+    requires { ⌜ k < length (now numbers) ⌝ }
+    ensures { λ r. ⌜ (r ≡ getD (now (numbers .entry)) k 0) × (r < 65536) ⌝ }
+{
+    numbers[k] as usize
 }
 
 // How many messages can be lost where so many are at risk and n pairs more are to come.
@@ -123,34 +169,64 @@ fn heaviest(risk: usize, n: usize, top: usize) -> usize
     risk + n * top
 }
 
+// What can be lost where so many messages are at risk and n pairs more are to come, none before slot s.
+fn losses(risk: Risk, n: usize, most: &[u16], s: usize) -> Loss
+    requires { ⌜ MayWeigh risk n (now most) s ⌝ }
+    ensures { λ r. ⌜ (r ≡ lossOf risk n (now (most .entry)) s) × Fits r ⌝ }
+{
+    let touches = heaviest(risk.touched, n, at(most, s));
+    let strips = heaviest(risk.stripped, n, at(most, SLOTS + s));
+    let both = heaviest(risk.touched + risk.stripped, n, at(most, 2 * SLOTS + s));
+    Loss {
+        touches,
+        strips,
+        both,
+    }
+}
+
+// And with one pair more.
+fn weighed(weights: &[u16], rest: Loss, s: usize, e: usize) -> Loss
+    requires { ⌜ MayTry (now weights) rest s × (e < mostLinks) ⌝ }
+    ensures { λ r. ⌜ r ≡ lossWith rest (now (weights .entry)) s e ⌝ }
+{
+    let k = s * LINKS + e;
+    let touches = at(weights, k);
+    let strips = at(weights, TABLE + k);
+    let both = at(weights, 2 * TABLE + k);
+    Loss {
+        touches: rest.touches + touches,
+        strips: rest.strips + strips,
+        both: rest.both + both,
+    }
+}
+
 // A link is not cut already, and a list that goes on with it can answer.
-fn may(down: &[u8], weights: &[u16], base: usize, need: usize, rest: usize, e: usize) -> bool
-    requires { ⌜ (base + e < length (now weights)) × (rest ≤ 262144) ⌝ }
-    ensures { λ r. ⌜ r ≡ passes (now (down .entry)) (now (weights .entry)) base need rest e ⌝ }
+fn may(down: &[u8], weights: &[u16], need: usize, rest: Loss, s: usize, e: usize) -> bool
+    requires { ⌜ MayTry (now weights) rest s × (e < mostLinks) × (need ≤ 65536) ⌝ }
+    ensures { λ r. ⌜ r ≡ passes (now (down .entry)) (now (weights .entry)) need rest s e ⌝ }
 {
     if cuts::is_down(down, e) {
         return false;
     }
-    let loss = rest + weights[base + e] as usize;
-    !hopeless(need, loss)
+    !hopeless(need, weighed(weights, rest, s, e))
 }
 
 // The first link from e on that may be tried, or how many links there are.
 fn next_link(
     down: &[u8],
     weights: &[u16],
-    base: usize,
     need: usize,
-    rest: usize,
+    rest: Loss,
+    s: usize,
     e: usize,
     links: usize,
 ) -> usize
-    requires { ⌜ (e ≤ links) × (base + links ≤ length (now weights)) × (rest ≤ 262144) ⌝ }
-    ensures { λ r. ⌜ r ≡ seek (passes (now (down .entry)) (now (weights .entry)) base need rest) (links - e) e ⌝ }
+    requires { ⌜ MayTry (now weights) rest s × (e ≤ links) × (links ≤ mostLinks) × (need ≤ 65536) ⌝ }
+    ensures { λ r. ⌜ r ≡ seek (passes (now (down .entry)) (now (weights .entry)) need rest s) (links - e) e ⌝ }
 {
     let mut i = e;
     while i < links {
-        if may(down, weights, base, need, rest, i) {
+        if may(down, weights, need, rest, s, i) {
             return i;
         }
         i += 1;
@@ -158,49 +234,86 @@ fn next_link(
     i
 }
 
-// One where a message is marked and not at its target, else 0.
-fn risk_one(p: Position, mark: u8) -> usize
-    ensures { λ r. ⌜ r ≡ riskIf mark p ⌝ }
+// One where a mark is made, else 0.
+fn one_if(mark: u8) -> usize
+    ensures { λ r. ⌜ (r ≡ oneIf (ltb 0 mark)) × (r ≤ 1) ⌝ }
 {
-    if p.left == 0 {
-        return 0;
-    }
     if mark == 0 { 0 } else { 1 }
 }
 
-// How many of the first n records are marked and not at their targets.
-fn count_risks(ps: [Position; MESSAGES], n: usize, marks: &[u8]) -> usize
-    requires { ⌜ (n ≤ mostMessages) × (length (now marks) ≡ mostEntries) ⌝ }
-    ensures { λ r. ⌜ (r ≡ atRisk (now (marks .entry)) ps n) × (r ≤ n) ⌝ }
+// One where both marks are made, else 0.
+fn one_if_both(touched: u8, stripped: u8) -> usize
+    ensures { λ r. ⌜ (r ≡ oneIf (ltb 0 touched && ltb 0 stripped)) × (r ≤ 1) ⌝ }
 {
-    let mut count = 0;
+    if touched == 0 { 0 } else { one_if(stripped) }
+}
+
+// With one message more, by where it stands and its marks.
+fn with_message(risk: Risk, p: Position, touched: u8, stripped: u8) -> Risk
+    requires { ⌜ MayCountOn risk ⌝ }
+    ensures { λ r. ⌜ r ≡ withMessage risk p touched stripped ⌝ }
+{
+    if p.left == 0 {
+        return risk;
+    }
+    let t = one_if(touched);
+    let s = one_if(stripped);
+    let both = one_if_both(touched, stripped);
+    Risk {
+        touched: risk.touched + t,
+        stripped: risk.stripped + s,
+        lost: risk.lost + both,
+    }
+}
+
+// How many of the first n records are not at their targets and marked.
+fn count_risks(ps: [Position; MESSAGES], n: usize, hits: Hits) -> Risk
+    requires { ⌜ MayCount n hits ⌝ }
+    ensures { λ r. ⌜ r ≡ risksOf hits ps n ⌝ }
+{
+    let mut risk = Risk {
+        touched: 0,
+        stripped: 0,
+        lost: 0,
+    };
     let mut m = 0;
     while m < n {
         let p = ps[m];
-        count += risk_one(p, marks[m + 1]);
+        risk = with_message(risk, p, hits.touched[m + 1], hits.stripped[m + 1]);
         m += 1;
     }
-    count
+    risk
 }
 
-// How many of the first n messages are marked and not at their targets.
-fn at_risk(standing: Standing, n: usize, marks: &[u8]) -> usize
-    requires { ⌜ (n ≤ mostMessages) × (length (now marks) ≡ mostEntries) ⌝ }
-    ensures { λ r. ⌜ (r ≡ atRisk (now (marks .entry)) (standing .positions) n) × (r ≤ n) ⌝ }
+// How many of the first n messages are not at their targets and marked.
+fn at_risk(standing: Standing, n: usize, hits: Hits) -> Risk
+    requires { ⌜ MayCount n hits ⌝ }
+    ensures { λ r. ⌜ r ≡ risksOf hits (standing .positions) n ⌝ }
 {
     let ps = standing.positions();
-    count_risks(ps, n, marks)
+    count_risks(ps, n, hits)
 }
 
-// The marks of the pairs picked.
-fn marks_of(table: &[u8], p: Picked) -> [u8; 256]
-    requires { ⌜ MayMarkPicked p ⌝ }
-    ensures { λ r. ⌜ Marks (now (table .entry)) (cutsOf p) r ⌝ }
+// The marks of no pair.
+fn no_hits() -> Hits
+    ensures { λ r. ⌜ r ≡ noHits ⌝ }
 {
-    let numbers = p.numbers;
-    let mut marks = [0u8; 256];
-    bound::mark_all(table, &numbers[..2 * p.count], &mut marks);
-    marks
+    Hits {
+        touched: [0u8; ENTRIES],
+        stripped: [0u8; ENTRIES],
+    }
+}
+
+// The marks with one pair more.
+fn hit(table: &[u8], fragile: &[u8], seconds: &[u8], hits: Hits, s: usize, e: usize) -> Hits
+    requires { ⌜ MayHit (now seconds) hits s e ⌝ }
+    ensures { λ r. ⌜ IsHit (now (table .entry)) (now (fragile .entry)) (now (seconds .entry)) hits s e r ⌝ }
+{
+    let mut touched = hits.touched;
+    let mut stripped = hits.stripped;
+    bound::mark(table, s, e, &mut touched);
+    bound::bare(fragile, seconds, s, e, &mut stripped);
+    Hits { touched, stripped }
 }
 
 // Where the messages stand one slot on, under the list picked.
@@ -215,15 +328,15 @@ fn advance(row: &[u16], table: &[u8], a: Asked, standing: Standing, p: Picked) -
 }
 
 // The list picked, played from its last pair on as long as enough messages can be lost.
-fn play_out(row: &[u16], table: &[u8], marks: &[u8], a: Asked, ps: Standing, p: Picked) -> Found
-    requires { ⌜ MayPlayOut (now row) (now table) (now marks) a ps p ⌝ }
+fn play_out(row: &[u16], table: &[u8], a: Asked, hits: Hits, ps: Standing, p: Picked) -> Found
+    requires { ⌜ MayPlayOut (now row) (now table) a hits ps p ⌝ }
     ensures { λ r. ⌜ Sought (now (row .entry)) a p 0 r ⌝ }
 {
     let mut qs = ps;
     let mut i = p.slot;
     while i < a.timeout {
-        let risk = at_risk(qs, a.messages, marks);
-        if hopeless(a.need, risk) {
+        let risk = at_risk(qs, a.messages, hits);
+        if too_few(a.need, risk.lost) {
             return nothing();
         }
         let rs = advance(row, table, a, qs, p);
@@ -243,69 +356,100 @@ fn play_out(row: &[u16], table: &[u8], marks: &[u8], a: Asked, ps: Standing, p: 
     }
 }
 
-// All lists that go on with a pair of slot s, from link e on, and have n pairs more, where so many messages are at risk already.
+// All lists that go on with a pair of slot s, from link e on, and have n pairs more, where so much can be lost besides that pair.
 fn in_slot(
     row: &[u16],
     table: &[u8],
+    fragile: &[u8],
+    seconds: &[u8],
     weights: &[u16],
     most: &[u16],
     a: Asked,
+    hits: Hits,
     ps: Standing,
     p: Picked,
     n: usize,
     s: usize,
     e: usize,
-    risk: usize,
+    rest: Loss,
 ) -> Found
-    requires { ⌜ MaySeekIn (now row) (now table) (now weights) (now most) a ps p n s e risk ⌝ }
+    requires { ⌜ MaySeekIn (now row) (now table) (now fragile) (now seconds) (now weights) (now most) a hits ps p n s e rest ⌝ }
     ensures { λ r. ⌜ SoughtIn (now (row .entry)) a p n s e r ⌝ }
 {
     let down = p.down;
     let links = a.links;
-    let base = s * LINKS;
-    let top = most[s] as usize;
-    let rest = heaviest(risk, n - 1, top);
-    let mut i = next_link(&down, weights, base, a.need, rest, e, links);
+    let mut i = next_link(&down, weights, a.need, rest, s, e, links);
     while i < links {
         let q = pick(p, s, i);
-        let marks = marks_of(table, q);
-        let r = level(row, table, weights, most, &marks, a, ps, q, n - 1);
+        let more = hit(table, fragile, seconds, hits, s, i);
+        let r = level(
+            row,
+            table,
+            fragile,
+            seconds,
+            weights,
+            most,
+            a,
+            more,
+            ps,
+            q,
+            n - 1,
+        );
         if r.found {
             return r;
         }
-        i = next_link(&down, weights, base, a.need, rest, i + 1, links);
+        i = next_link(&down, weights, a.need, rest, s, i + 1, links);
     }
     nothing()
 }
 
-// All lists with n pairs more, where the messages that those picked touch are marked.
+// All lists with n pairs more, where the messages that those picked touch and strip are marked. Where no link of a slot may be tried, none of
+// a later slot may.
 fn level(
     row: &[u16],
     table: &[u8],
+    fragile: &[u8],
+    seconds: &[u8],
     weights: &[u16],
     most: &[u16],
-    marks: &[u8],
     a: Asked,
+    hits: Hits,
     ps: Standing,
     p: Picked,
     n: usize,
 ) -> Found
-    requires { ⌜ MaySeek (now row) (now table) (now weights) (now most) (now marks) a ps p n ⌝ }
+    requires { ⌜ MaySeek (now row) (now table) (now fragile) (now seconds) (now weights) (now most) a hits ps p n ⌝ }
     ensures { λ r. ⌜ Sought (now (row .entry)) a p n r ⌝ }
 {
     if n == 0 {
-        return play_out(row, table, marks, a, ps, p);
+        return play_out(row, table, a, hits, ps, p);
     }
+    let down = p.down;
     let mut qs = ps;
     let mut s = p.slot;
     let mut e = p.link;
     while s < a.timeout {
-        let top = most[s] as usize;
-        let risk = at_risk(qs, a.messages, marks);
-        if hopeless(a.need, heaviest(risk, n, top)) {
+        let risk = at_risk(qs, a.messages, hits);
+        let rest = losses(risk, n - 1, most, s);
+        if a.links <= next_link(&down, weights, a.need, rest, s, 0, a.links) {
             return nothing();
         }
-        let r = in_slot(row, table, weights, most, a, qs, p, n, s, e, risk);
+        let r = in_slot(
+            row,
+            table,
+            fragile,
+            seconds,
+            weights,
+            most,
+            a,
+            hits,
+            qs,
+            p,
+            n,
+            s,
+            e,
+            rest,
+        );
         if r.found {
             return r;
         }
@@ -321,6 +465,8 @@ fn level(
 pub fn first_list(
     row: &[u16],
     table: &[u8],
+    fragile: &[u8],
+    seconds: &[u8],
     weights: &[u16],
     most: &[u16],
     a: Asked,
@@ -328,14 +474,26 @@ pub fn first_list(
     low: usize,
     k: usize,
 ) -> Hunted
-    requires { ⌜ MayHunt (now row) (now table) (now weights) (now most) a ps low k ⌝ }
+    requires { ⌜ MayHunt (now row) (now table) (now fragile) (now seconds) (now weights) (now most) a ps low k ⌝ }
     ensures { λ r. ⌜ Hunts (now (row .entry)) (a .least) k r ⌝ }
 {
     let p = no_pair();
-    let marks = marks_of(table, p);
+    let hits = no_hits();
     let mut n = low;
     while n <= k {
-        let r = level(row, table, weights, most, &marks, a, ps, p, n);
+        let r = level(
+            row,
+            table,
+            fragile,
+            seconds,
+            weights,
+            most,
+            a,
+            hits,
+            ps,
+            p,
+            n,
+        );
         if r.found {
             let numbers = r.numbers;
             return Hunted {

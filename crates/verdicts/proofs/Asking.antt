@@ -3,8 +3,8 @@ use Prim.Native.Nat.{ℕ, _+_, _-_, _≤_}
 use native.Mathlib.Omega.{arith}
 use mathlib.Core.Path.{_≡_, sym, _∙_, ap}
 use mathlib.Core.List.{List, map}
-use lib.ListN.{length}
-use Rattle.scope.specs.Limits.{mostCuts, longestRow}
+use lib.ListN.{length, getD, replicate, length-replicate}
+use Rattle.scope.specs.Limits.{mostCuts, mostSlots, mostLinks, mostMessages, tableSize, secondsSize, weightsSize, topsSize, longestRow}
 use Rattle.scope.specs.Plan.{messageCount, linkCount, timeoutOf, firstMessage, messagesAt, planOf}
 use Rattle.scope.specs.Slot.{onFirst}
 use Rattle.scope.specs.Cycle.{tableOf, positions}
@@ -12,82 +12,103 @@ use Rattle.rows.specs.Lies.{PlanLies}
 use Rattle.rows.proofs.Parts.{message-count, link-count, timeout-is}
 use Rattle.rows.proofs.Walked.{walked}
 use Rattle.table.specs.Table.{Table}
-use Rattle.bound.specs.Weights.{Weighs, Tops}
-use Rattle.bound.proofs.Bounds.{bound}
+use Rattle.bound.specs.Weights.{WeighsAll, TopsAll}
+use Rattle.strips.specs.Filled.{Filled}
+use Rattle.strips.proofs.Lent.{strip-hits, lent as bounds-of}
 use Rattle.forms.proofs.Theorems.{row-most}
 use Rattle.plan.specs.Answers.{GoodRow}
 use Rattle.step.specs.declared.Standing.{Standing}
 use Rattle.cycle.specs.Play.{MayStart, Begins}
 use Rattle.cycle.proofs.Whole.{start-is}
 use Rattle.cycle.proofs.Agree.{owner-same}
-use Rattle.search.specs.declared.Asked.{Asked}
 use Rattle.search.specs.declared.Hunted.{Hunted}
 use Rattle.search.specs.Hunt.{noHunted, MayHunt, Hunts}
+use Rattle.search.proofs.Risks.{noughts}
 use Rattle.search.proofs.Hunting.{hunts-none}
-use Rattle.verdicts.specs.Lent.{Lent, MayAskOn}
+use Rattle.verdicts.specs.declared.Opening.{Opening}
+use Rattle.verdicts.specs.Lent.{MayLend, Lent, MayAskOn}
 
 module _ (row : List ℕ) (good : GoodRow row) where
   pub lies : PlanLies row
   lies = walked row (good .form)
 
-  pub lent : (t e n l d : ℕ) → t ≡ timeoutOf row → e ≡ linkCount row → n ≡ messageCount row → (table weights most : List ℕ) →
-      Table (tableOf (planOf row)) table → Weighs table weights → Tops weights most →
-      Lent row table weights most (record { timeout = t; links = e; messages = n; least = l; need = d })
-  lent t e n l d ht he hn table weights most tab w m =
-      record {
-        play =
-            record {
-              timeout = ht ∙ sym (timeout-is row);
-              short = omega (arith, lies .timeout);
-              links = he ∙ sym (link-count row);
-              few = omega (arith, lies .links);
-              messages = hn ∙ sym (message-count row);
-              owner = owner-same row lies table tab;
-            };
-        many = omega (arith, lies .messages);
-        heavy = w .long;
-        tops = m .long;
-        bound = λ l need h.
-            bound (planOf row) l need table weights most (good .keeps) (omega (arith, timeout-is row, lies .timeout))
-            (omega (arith, link-count row, lies .links)) tab w m (omega (arith, message-count row));
-      }
+  pub may-start : (n : ℕ) → n ≡ messageCount row → MayStart row n
+  may-start n is =
+      let l : length row ≤ longestRow = row-most row (length row) (good .form) in
+      rw is (record { few = lies .messages; fit = omega (arith, lies .ends) })
 
-  module _ (table weights most : List ℕ) (a : Asked) (is : Lent row table weights most a) where
-    count : a .messages ≡ messageCount row
-    count = is .play .messages ∙ message-count row
+  module _ (table fragile seconds weights most : List ℕ) (tab : Table (tableOf (planOf row)) table) (f : Filled (planOf row) fragile seconds)
+      (w : WeighsAll table fragile seconds weights) (m : TopsAll weights most) where
+    time : planOf row .timeout ≤ mostSlots
+    time = omega (arith, timeout-is row, lies .timeout)
 
-    pub may-start : MayStart row (a .messages)
-    may-start =
-        let l : length row ≤ longestRow = row-most row (length row) (good .form) in
-        rw count (record { few = lies .messages; fit = omega (arith, lies .ends) })
+    ways : length (planOf row .links) ≤ mostLinks
+    ways = omega (arith, link-count row, lies .links)
 
-    pub may-ask-on : (ps : Standing) → Begins row (a .messages) ps → (l k : ℕ) → l ≤ a .messages → k ≤ mostCuts → MayAskOn row table weights most ps a l 0 k
+    many : length (planOf row .messages) ≤ mostMessages
+    many = omega (arith, message-count row, lies .messages)
+
+    pub lends : (t e n l d : ℕ) (ps : Standing) → t ≡ timeoutOf row → e ≡ linkCount row → n ≡ messageCount row → Begins row n ps →
+        Lent row table fragile seconds weights most
+        (record { asked = record { timeout = t; links = e; messages = n; least = l; need = d }; standing = ps })
     unfolding positions
-    may-ask-on ps b l k least few =
+    lends t e n l d ps ht he hn b =
         record {
-          lent = is;
+          play =
+              record {
+                timeout = ht ∙ sym (timeout-is row);
+                short = omega (arith, lies .timeout);
+                links = he ∙ sym (link-count row);
+                few = omega (arith, lies .links);
+                messages = hn ∙ sym (message-count row);
+                owner = owner-same row lies table tab;
+              };
+          many = omega (arith, lies .messages);
+          strip = record { long = f .bytes .long; is = strip-hits (planOf row) time ways many fragile seconds f };
+          heavy = w .long;
+          tops = m .long;
+          bounds = λ l need h.
+              bounds-of (planOf row) time ways many fragile seconds f table weights tab w l need most (good .keeps) m (omega (arith, message-count row));
           stand =
               record {
                 time = b .time;
                 next =
                     record {
-                      is = b .next .is ∙ ap (λ (n : ℕ). map onFirst (messagesAt row (firstMessage row) n)) count ∙ start-is row;
+                      is = b .next .is ∙ ap (λ (i : ℕ). map onFirst (messagesAt row (firstMessage row) i)) hn ∙ start-is row;
                       stand = b .next .stand;
                     };
               };
-          least = least;
-          few = few;
-          within = omega arith;
-          before = λ i z. absurd (omega arith);
         }
 
-module _ (row table weights most : List ℕ) (ps : Standing) (a : Asked) (l low k : ℕ) (m : MayAskOn row table weights most ps a l low k) where
+-- what is lent has room, and its seconds are 0
+pub may-lend : (row : List ℕ) → GoodRow row → (table fragile seconds weights most : List ℕ) → length table ≡ tableSize → length fragile ≡ tableSize →
+    seconds ≡ replicate secondsSize 0 → length weights ≡ weightsSize → length most ≡ topsSize → MayLend row table fragile seconds weights most
+may-lend row good table fragile seconds weights most entries breaks zeros heavy tops =
+    record {
+      good = good;
+      entries = entries;
+      breaks = breaks;
+      bytes = ap length zeros ∙ length-replicate {A = ℕ} secondsSize 0;
+      none = λ k. ap (λ (l : List ℕ). getD l k 0) zeros ∙ noughts secondsSize k;
+      heavy = heavy;
+      tops = tops;
+    }
+
+-- the list of k pairs that is asked for first
+pub may-ask-on : (row table fragile seconds weights most : List ℕ) (o : Opening) → Lent row table fragile seconds weights most o → (l k : ℕ) →
+    l ≤ o .asked .messages → k ≤ mostCuts → MayAskOn row table fragile seconds weights most o l 0 k
+may-ask-on row table fragile seconds weights most o is l k least few =
+    record { lent = is; least = least; few = few; within = omega arith; before = λ i z. absurd (omega arith) }
+
+module _ (row table fragile seconds weights most : List ℕ) (o : Opening) (l low k : ℕ)
+    (m : MayAskOn row table fragile seconds weights most o l low k) where
   -- every list leaves 0 arrivals
   pub asks-nought : (h : Hunted) → l ≡ 0 → h ≡ noHunted → Hunts row l k h
   asks-nought h z is = hunts-none row l k h is (λ i le x long good fails. omega arith)
 
-  pub asks : (need : ℕ) → need ≡ a .messages + 1 - l →
-      MayHunt row table weights most (record { timeout = a .timeout; links = a .links; messages = a .messages; least = l; need = need }) ps low k
+  pub asks : (need : ℕ) → need ≡ o .asked .messages + 1 - l →
+      MayHunt row table fragile seconds weights most
+      (record { timeout = o .asked .timeout; links = o .asked .links; messages = o .asked .messages; least = l; need = need }) (o .standing) low k
   asks need e =
       let p = m .lent .play in
       record {
@@ -102,11 +123,13 @@ module _ (row table weights most : List ℕ) (ps : Standing) (a : Asked) (l low 
                     messages = p .messages;
                     owner = p .owner;
                   };
+              strip = m .lent .strip;
               heavy = m .lent .heavy;
               tops = m .lent .tops;
-              bound = m .lent .bound l need e;
+              small = omega (arith, m .lent .many);
+              bounds = m .lent .bounds l need e;
             };
-        stand = m .stand;
+        stand = m .lent .stand;
         few = m .few;
         within = m .within;
         before = m .before;

@@ -2,36 +2,40 @@
 use Prim.Native.Nat.{ℕ, _+_, _-_, _≤_, _<_}
 use mathlib.Core.Path.{_≡_}
 use mathlib.Core.List.{List, []}
-use lib.ListN.{length}
-use Rattle.scope.specs.Limits.{mostSlots, mostMessages, mostCuts, tableSize}
+use lib.ListN.{length, getD}
+use Rattle.scope.specs.Limits.{mostMessages, mostCuts, tableSize, secondsSize, weightsSize, topsSize}
 use Rattle.scope.specs.Plan.{planOf}
 use Rattle.order.specs.Search.{NoneOf}
-use Rattle.bound.specs.Bound.{Bound, Fails}
+use Rattle.bound.specs.Bound.{Fails}
+use Rattle.bound.specs.Bounds.{Bounds}
 use Rattle.plan.specs.Answers.{GoodRow}
-use Rattle.step.specs.declared.Standing.{Standing}
-use Rattle.search.specs.declared.Asked.{Asked}
-use Rattle.search.specs.Hunt.{Playable, StandAt}
+use Rattle.search.specs.Hunt.{Playable, Strippable, StandAt}
+use Rattle.verdicts.specs.declared.Opening.{Opening}
 
 -- a good row, and room for what is lent
-pub record MayLend (row table weights most : List ℕ) : Type 0 where
+pub record MayLend (row table fragile seconds weights most : List ℕ) : Type 0 where
   pub good : GoodRow row
   pub entries : length table ≡ tableSize
-  pub heavy : length weights ≡ tableSize
-  pub tops : length most ≡ mostSlots
+  pub breaks : length fragile ≡ tableSize
+  pub bytes : length seconds ≡ secondsSize
+  pub none : (k : ℕ) → getD seconds k 0 ≡ 0
+  pub heavy : length weights ≡ weightsSize
+  pub tops : length most ≡ topsSize
 
--- the table and the weights are right, whatever l is asked
-pub record Lent (row table weights most : List ℕ) (a : Asked) : Type 0 where
-  pub play : Playable row table a
-  pub many : a .messages ≤ mostMessages
-  pub heavy : length weights ≡ tableSize
-  pub tops : length most ≡ mostSlots
-  pub bound : (l need : ℕ) → need ≡ a .messages + 1 - l → Bound (planOf row) (Fails (planOf row) l) need weights most
+-- the tables and the weights are right, whatever l is asked, and the messages stand at their sources
+pub record Lent (row table fragile seconds weights most : List ℕ) (o : Opening) : Type 0 where
+  pub play : Playable row table (o .asked)
+  pub many : o .asked .messages ≤ mostMessages
+  pub strip : Strippable row fragile seconds
+  pub heavy : length weights ≡ weightsSize
+  pub tops : length most ≡ topsSize
+  pub bounds : (l need : ℕ) → need ≡ o .asked .messages + 1 - l → Bounds (planOf row) (Fails (planOf row) l) need weights most
+  pub stand : StandAt row (o .asked .messages) [] 0 (o .standing)
 
 -- lists of at most k pairs may be asked for, where those of fewer than `low` pairs leave l arrivals
-pub record MayAskOn (row table weights most : List ℕ) (ps : Standing) (a : Asked) (l low k : ℕ) : Type 0 where
-  pub lent : Lent row table weights most a
-  pub stand : StandAt row (a .messages) [] 0 ps
-  pub least : l ≤ a .messages
+pub record MayAskOn (row table fragile seconds weights most : List ℕ) (o : Opening) (l low k : ℕ) : Type 0 where
+  pub lent : Lent row table fragile seconds weights most o
+  pub least : l ≤ o .asked .messages
   pub few : k ≤ mostCuts
   pub within : low ≤ k + 1
   pub before : (i : ℕ) → i < low → NoneOf (planOf row) (Fails (planOf row) l) [] i

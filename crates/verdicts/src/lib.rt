@@ -1,10 +1,13 @@
 // The verdict: whether every cut list of at most k pairs leaves at least l arrivals, and if not, the first list that does not.
 // `verdict` takes anything and asks nothing; `verdict_good` takes a row that is known to be good. It leans on `plan` for refusals 1 to
-// 10, on `search` for the search, and on `table`, `bound` and `cycle` for what the search is lent.
+// 10, on `search` for the search, and on `table`, `strips`, `bound` and `cycle` for what the search is lent.
 use scope::Answer;
 use scope::Refusal;
-use scope::limits::SLOTS;
+use scope::limits::CUTS;
+use scope::limits::SECONDS;
 use scope::limits::TABLE;
+use scope::limits::TOPS;
+use scope::limits::WEIGHTS;
 use scope::refusal_at;
 use search::Asked;
 use search::Hunted;
@@ -20,41 +23,61 @@ pub enum Ruling {
     Refused(Refusal),
 }
 
-// What the search is lent of a good row, its table and the weights, and what is asked, but for l.
-pub fn lend(row: &[u16], table: &mut [u8], weights: &mut [u16], most: &mut [u16]) -> Asked
-    requires { ⌜ MayLend (now row) (now table) (now weights) (now most) ⌝ }
-    ensures { λ r. ⌜ Lent (now (row .entry)) (now (table .exit)) (now (weights .exit)) (now (most .exit)) r ⌝ }
+// What is asked of a good row, but for l, and where its messages stand at the start.
+pub struct Opening {
+    pub asked: Asked,
+    pub standing: Standing,
+}
+
+// What the search is lent of a good row: its table, what strips a message, the weights, and how it begins; on seconds that are 0.
+pub fn lend(
+    row: &[u16],
+    table: &mut [u8],
+    fragile: &mut [u8],
+    seconds: &mut [u8],
+    weights: &mut [u16],
+    most: &mut [u16],
+) -> Opening
+    requires { ⌜ MayLend (now row) (now table) (now fragile) (now seconds) (now weights) (now most) ⌝ }
+    ensures { λ r. ⌜ Lent (now (row .entry)) (now (table .exit)) (now (fragile .exit)) (now (seconds .exit)) (now (weights .exit)) (now (most .exit)) r ⌝ }
 {
     table::fill_table(row, table);
-    bound::weigh(table, weights);
-    bound::tops(weights, most);
-    Asked {
+    strips::fill(row, fragile, seconds);
+    bound::weigh_all(table, fragile, seconds, weights);
+    bound::tops_all(weights, most);
+    let messages = rows::messages(row);
+    let standing = cycle::start_all(row, messages);
+    let asked = Asked {
         timeout: rows::timeout(row),
         links: rows::links(row),
-        messages: rows::messages(row),
+        messages,
         least: 0,
         need: 0,
-    }
+    };
+    Opening { asked, standing }
 }
 
 // The first failing list for l, where lists of fewer than `low` pairs are known to leave l arrivals.
 pub fn ask(
     row: &[u16],
     table: &[u8],
+    fragile: &[u8],
+    seconds: &[u8],
     weights: &[u16],
     most: &[u16],
-    ps: Standing,
-    a: Asked,
+    o: Opening,
     l: usize,
     low: usize,
     k: usize,
 ) -> Hunted
-    requires { ⌜ MayAskOn (now row) (now table) (now weights) (now most) ps a l low k ⌝ }
+    requires { ⌜ MayAskOn (now row) (now table) (now fragile) (now seconds) (now weights) (now most) o l low k ⌝ }
     ensures { λ r. ⌜ Hunts (now (row .entry)) l k r ⌝ }
 {
     if l == 0 {
         return search::no_list();
     }
+    let a = o.asked;
+    let ps = o.standing;
     let b = Asked {
         timeout: a.timeout,
         links: a.links,
@@ -62,7 +85,7 @@ pub fn ask(
         least: l,
         need: bound::need(a.messages, l),
     };
-    search::first_list(row, table, weights, most, b, ps, low, k)
+    search::first_list(row, table, fragile, seconds, weights, most, b, ps, low, k)
 }
 
 // The first failing list of a row that may be asked about.
@@ -71,11 +94,19 @@ fn decide(row: &[u16], k: usize, l: usize) -> Hunted
     ensures { λ r. ⌜ Hunts (now (row .entry)) l k r ⌝ }
 {
     let mut table = [0u8; TABLE];
-    let mut weights = [0u16; TABLE];
-    let mut most = [0u16; SLOTS];
-    let a = lend(row, &mut table, &mut weights, &mut most);
-    let ps = cycle::start_all(row, a.messages);
-    ask(row, &table, &weights, &most, ps, a, l, 0, k)
+    let mut fragile = [0u8; TABLE];
+    let mut seconds = [0u8; SECONDS];
+    let mut weights = [0u16; WEIGHTS];
+    let mut most = [0u16; TOPS];
+    let o = lend(
+        row,
+        &mut table,
+        &mut fragile,
+        &mut seconds,
+        &mut weights,
+        &mut most,
+    );
+    ask(row, &table, &fragile, &seconds, &weights, &most, o, l, 0, k)
 }
 
 // The verdict on a good row: refusals 11 and 13, or the answer.
@@ -83,7 +114,7 @@ pub fn verdict_good(row: &[u16], k: usize, l: usize, list: &mut [u16]) -> Ruling
     requires { ⌜ GoodRow (now row) ⌝ }
     ensures { λ r. ⌜ Answered (now (row .entry)) k l (now (list .entry)) (now (list .exit)) r ⌝ }
 {
-    if 3 < k {
+    if CUTS < k {
         return Ruling::Refused(refusal_at(11, 0));
     }
     if rows::messages(row) < l {

@@ -1,6 +1,7 @@
 -- `all_verdicts::fill` meets its contract: the search is asked of what it is lent.
 use native.Mathlib.Omega.{arith}
-use Rattle.verdicts.proofs.Asking.{may-start, may-ask-on}
+use Rattle.verdicts.proofs.Asking.{may-lend, may-ask-on}
+use mathlib.Core.Path.{refl}
 use borrow.Author.Needs.{needs}
 use Rattle.all_verdicts.proofs.fill.Statement.{statement}
 use Rattle.all_verdicts.proofs.fill.Tie as tie
@@ -14,13 +15,15 @@ slice-aggregate-lend-2 c = search needs
 slice-aggregate-lend-3 : tie.Need-slice-aggregate-lend-3
 slice-aggregate-lend-3 c = search needs
 
-lend-requires : tie.Need-lend-requires
-lend-requires c κs = search needs
+slice-aggregate-lend-4 : tie.Need-slice-aggregate-lend-4
+slice-aggregate-lend-4 c = search needs
 
-start-all-requires : tie.Need-start-all-requires
-start-all-requires c κs =
-    may-start _ (c .before .before .before .before .before .before .before .before .before .pre .good) _ _ _ _
-    (c .before .before .before .lend .ensures)
+slice-aggregate-lend-5 : tie.Need-slice-aggregate-lend-5
+slice-aggregate-lend-5 c = search needs
+
+lend-requires : tie.Need-lend-requires
+lend-requires c κs =
+    may-lend _ (c .before .before .before .before .before .before .before .pre .good) _ _ _ _ _ (search needs) (search needs) refl (search needs) (search needs)
 
 slice-aggregate-descend : tie.Need-slice-aggregate-descend
 slice-aggregate-descend c = search needs
@@ -31,10 +34,15 @@ slice-aggregate-descend-2 c = search needs
 slice-aggregate-descend-3 : tie.Need-slice-aggregate-descend-3
 slice-aggregate-descend-3 c = search needs
 
+slice-aggregate-descend-4 : tie.Need-slice-aggregate-descend-4
+slice-aggregate-descend-4 c = search needs
+
+slice-aggregate-descend-5 : tie.Need-slice-aggregate-descend-5
+slice-aggregate-descend-5 c = search needs
+
 descend-requires : tie.Need-descend-requires
 descend-requires c κs =
-    record
-    { ask = may-ask-on _ (c .before .before .before .before .before .before .before .before .before .before .before .before .before .before .pre .good) _ _ _ _ (c .before .before .before .before .before .before .before .before .lend .ensures) _ (c .before .before .before .before .start-all .ensures) _ _ (omega arith) (c .before .before .before .before .before .before .before .before .before .before .before .before .before .before .pre .few); enough = c .before .before .before .before .before .before .before .before .before .before .before .before .before .before .pre .enough }
+    record { ask = may-ask-on _ _ _ _ _ _ _ (c .before .before .before .before .before .before .before .before .before .before .before .lend .ensures) _ _ (omega arith) (c .before .before .before .before .before .before .before .before .before .before .before .before .before .before .before .before .before .before .before .pre .few); enough = c .before .before .before .before .before .before .before .before .before .before .before .before .before .before .before .before .before .before .before .pre .enough }
 
 same-length : tie.Need-same-length
 same-length c = search needs
@@ -49,11 +57,14 @@ fill-spec =
     slice-aggregate-lend
     slice-aggregate-lend-2
     slice-aggregate-lend-3
+    slice-aggregate-lend-4
+    slice-aggregate-lend-5
     lend-requires
-    start-all-requires
     slice-aggregate-descend
     slice-aggregate-descend-2
     slice-aggregate-descend-3
+    slice-aggregate-descend-4
+    slice-aggregate-descend-5
     descend-requires
     same-length
     returns)

@@ -1,18 +1,15 @@
 -- `search::count_risks` meets its contract: the messages below m are counted.
 use borrow.Author.Needs.{needs}
 use Prim.Native.Nat.{_-_}
-use native.Mathlib.Omega.{arith}
-use lib.ListN.{getD}
-use Rattle.step.specs.Stand.{home}
-use Rattle.search.proofs.Risk.{Counting, counting-none, risk-small, counting-more, counting-done}
+use Rattle.search.proofs.Risks.{Counting, counting-none, may-count-on, counting-more, counting-done}
 use Rattle.search.proofs.count_risks.Statement.{statement}
 use Rattle.search.proofs.count_risks.Tie as tie
 
 abbrev Inv-loop : tie.InvT-loop
-Inv-loop n marks ps count₀ m₀ count m = Counting marks ps n m count
+Inv-loop n ps hits risk₀ m₀ risk m = Counting hits ps n m risk
 
 abbrev μ-loop : tie.MeasureT-loop
-μ-loop n marks ps count₀ m₀ count m = n - m
+μ-loop n ps hits risk₀ m₀ risk m = n - m
 
 loop-holds : tie.Need-loop-holds Inv-loop μ-loop
 loop-holds c = counting-none _ _ _ (search needs)
@@ -23,19 +20,20 @@ mul-p c = search needs
 array-copy-out-p : tie.Need-array-copy-out-p Inv-loop μ-loop
 array-copy-out-p c = search needs
 
-add-risk-one : tie.Need-add-risk-one Inv-loop μ-loop
-add-risk-one c = search needs
+add-with-message : tie.Need-add-with-message Inv-loop μ-loop
+add-with-message c = search needs
 
-shared-slice-read-risk-one : tie.Need-shared-slice-read-risk-one Inv-loop μ-loop
-shared-slice-read-risk-one c = search needs
+element-copy-out-with-message : tie.Need-element-copy-out-with-message Inv-loop μ-loop
+element-copy-out-with-message c = search needs
 
-risk-one-requires : tie.Need-risk-one-requires Inv-loop μ-loop
-risk-one-requires c κs = search needs
+add-with-message-2 : tie.Need-add-with-message-2 Inv-loop μ-loop
+add-with-message-2 c = search needs
 
-add-count : tie.Need-add-count Inv-loop μ-loop
-add-count c =
-    omega
-    (arith, risk-small _ _ _ _ _ (c .before .before .before .before .loop .inv) _ (getD (c .before .before .before .before .before .before .args .t1) (c .before .before .before .before .loop .m) home) (c .risk-one .ensures), c .before .before .before .before .loop .inv .small, c .before .before .before .before .loop .inv .few, c .before .before .before .before .before .before .pre .0)
+element-copy-out-with-message-2 : tie.Need-element-copy-out-with-message-2 Inv-loop μ-loop
+element-copy-out-with-message-2 c = search needs
+
+with-message-requires : tie.Need-with-message-requires Inv-loop μ-loop
+with-message-requires c κs = may-count-on _ _ _ _ _ (c .before .before .before .before .loop .inv) (search needs)
 
 add-m : tie.Need-add-m Inv-loop μ-loop
 add-m c = search needs
@@ -45,8 +43,8 @@ loop-less c = search needs
 
 loop-again : tie.Need-loop-again Inv-loop μ-loop
 loop-again c =
-    counting-more _ _ _ _ _ (c .before .before .before .before .loop .inv) _ (c .before .before .before .loop-test .taken)
-    (c .risk-one .ensures)
+    counting-more _ _ _ _ _ (c .before .before .before .before .before .loop .inv) _ (c .before .before .before .before .loop-test .taken)
+    (c .with-message .ensures)
 
 returns : tie.Need-returns Inv-loop μ-loop
 returns c = counting-done _ _ _ _ _ (c .before .loop .inv) (c .loop-test .left)
@@ -60,10 +58,11 @@ count-risks-spec =
     loop-holds
     mul-p
     array-copy-out-p
-    add-risk-one
-    shared-slice-read-risk-one
-    risk-one-requires
-    add-count
+    add-with-message
+    element-copy-out-with-message
+    add-with-message-2
+    element-copy-out-with-message-2
+    with-message-requires
     add-m
     loop-less
     loop-again

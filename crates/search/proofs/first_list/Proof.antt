@@ -3,60 +3,55 @@ use Prim.Native.Nat.{_+_, _-_}
 use mathlib.Core.Path.{refl}
 use native.Mathlib.Omega.{arith}
 use borrow.Author.Needs.{needs}
-use Rattle.search.proofs.Hunting.{Hunting, hunt-first, may-mark-none, may-seek, hunt-some, hunt-on, hunt-over}
+use Rattle.search.proofs.Hunting.{Hunting, hunt-first, may-seek, hunt-some, hunt-on, hunt-over}
 use Rattle.search.proofs.first_list.Statement.{statement}
 use Rattle.search.proofs.first_list.Tie as tie
 
 abbrev Inv-loop : tie.InvT-loop
-Inv-loop row table weights most a ps low k p marks n₀ n = Hunting row a low k n
+Inv-loop row table fragile seconds weights most a ps low k p hits n₀ n = Hunting row a low k n
 
 abbrev μ-loop : tie.MeasureT-loop
-μ-loop row table weights most a ps low k p marks n₀ n = k + 1 - n
+μ-loop row table fragile seconds weights most a ps low k p hits n₀ n = k + 1 - n
 
 no-pair-requires : tie.Need-no-pair-requires Inv-loop μ-loop
 no-pair-requires c κs = search needs
 
-marks-of-requires : tie.Need-marks-of-requires Inv-loop μ-loop
-marks-of-requires c κs = may-mark-none _ _ _ _ _ _ _ _ (c .before .before .before .before .before .pre) _ (c .no-pair .ensures)
+no-hits-requires : tie.Need-no-hits-requires Inv-loop μ-loop
+no-hits-requires c κs = search needs
 
 loop-holds : tie.Need-loop-holds Inv-loop μ-loop
-loop-holds c = hunt-first _ _ _ _ _ _ _ _ (c .before .before .before .before .before .before .pre)
-
-slice-aggregate-level : tie.Need-slice-aggregate-level Inv-loop μ-loop
-slice-aggregate-level c = search needs
+loop-holds c = hunt-first _ _ _ _ _ _ _ _ _ _ (c .before .before .before .before .before .before .before .before .pre)
 
 level-requires : tie.Need-level-requires Inv-loop μ-loop
-level-requires c κs =
-    may-seek _ _ _ _ _ _ _ _ (c .before .before .before .before .before .before .before .before .before .pre) _ _ _
-    (c .before .loop-test .taken) (c .before .before .before .before .no-pair .ensures) (c .before .before .before .marks-of .ensures)
+level-requires c κs = may-seek _ _ _ _ _ _ _ _ _ _ (c .before .before .before .before .before .before .before .before .before .before .pre) _ _ _ (c .loop-test .taken) (c .before .before .before .no-pair .ensures) (c .before .before .no-hits .ensures)
 
 returns : tie.Need-returns Inv-loop μ-loop
 returns c =
-    hunt-some _ _ _ _ _ _ _ _ (c .before .before .before .before .before .before .before .before .before .before .before .before .pre) _
-    (c .before .before .before .before .before .loop .inv) _ _
-    (c .before .before .before .before .before .before .before .no-pair .ensures) (c .before .before .level .ensures) _
-    (c .before .before .before .before .loop-test .taken) (c .before .if1 .taken) refl refl refl refl
+    hunt-some _ _ _ _ _ _ _ _ _ _ (c .before .before .before .before .before .before .before .before .before .before .before .before .before .pre) _
+    (c .before .before .before .before .loop .inv) _ _
+    (c .before .before .before .before .before .before .no-pair .ensures) (c .before .before .level .ensures) _
+    (c .before .before .before .loop-test .taken) (c .before .if1 .taken) refl refl refl refl
 
 add-n : tie.Need-add-n Inv-loop μ-loop
 add-n c =
     omega
-    (arith, c .before .before .before .loop-test .taken, c .before .before .before .before .before .before .before .before .before .before .before .pre .few)
+    (arith, c .before .before .loop-test .taken, c .before .before .before .before .before .before .before .before .before .before .before .before .pre .few)
 
 loop-less : tie.Need-loop-less Inv-loop μ-loop
-loop-less c = omega (arith, c .before .before .before .loop-test .taken)
+loop-less c = omega (arith, c .before .before .loop-test .taken)
 
 loop-again : tie.Need-loop-again Inv-loop μ-loop
 loop-again c =
-    hunt-on _ _ _ _ _ _ _ _ (c .before .before .before .before .before .before .before .before .before .before .before .pre) _
-    (c .before .before .before .before .loop .inv) _ _ (c .before .before .before .before .before .before .no-pair .ensures)
-    (c .before .level .ensures) (c .before .before .before .loop-test .taken) (c .if1 .left)
+    hunt-on _ _ _ _ _ _ _ _ _ _ (c .before .before .before .before .before .before .before .before .before .before .before .before .pre) _
+    (c .before .before .before .loop .inv) _ _ (c .before .before .before .before .before .no-pair .ensures)
+    (c .before .level .ensures) (c .before .before .loop-test .taken) (c .if1 .left)
 
 no-list-requires : tie.Need-no-list-requires Inv-loop μ-loop
 no-list-requires c κs = search needs
 
 returns-2 : tie.Need-returns-2 Inv-loop μ-loop
 returns-2 c =
-    hunt-over _ _ _ _ _ _ _ _ (c .before .before .before .before .before .before .before .before .before .pre) _ _
+    hunt-over _ _ _ _ _ _ _ _ _ _ (c .before .before .before .before .before .before .before .before .before .before .before .pre) _ _
     (c .before .before .loop .inv) (c .before .loop-test .left) (c .no-list .ensures)
 
 pub first-list-spec : {M : Type 1} → statement M
@@ -66,9 +61,8 @@ first-list-spec =
     Inv-loop
     μ-loop
     no-pair-requires
-    marks-of-requires
+    no-hits-requires
     loop-holds
-    slice-aggregate-level
     level-requires
     returns
     add-n

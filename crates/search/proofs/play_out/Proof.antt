@@ -2,52 +2,51 @@
 use Prim.Native.Nat.{_-_}
 use native.Mathlib.Omega.{arith}
 use mathlib.Core.Path.{refl}
-use Rattle.search.proofs.Playing.{settled-none, settled-some, Ending, ends-first, ends-may, ends-more, ends-light, ends-over}
+use Rattle.search.proofs.Playing.{settled-none, settled-some, Ending, ends-first, ends-may, ends-count, ends-more, ends-light, ends-over}
 use borrow.Author.Needs.{needs}
 use Rattle.search.proofs.play_out.Statement.{statement}
 use Rattle.search.proofs.play_out.Tie as tie
 
 abbrev Inv-loop : tie.InvT-loop
-Inv-loop row table marks a p qs₀ i₀ qs i = Ending row a p i qs
+Inv-loop row table a hits p qs₀ i₀ qs i = Ending row a p i qs
 
 abbrev μ-loop : tie.MeasureT-loop
-μ-loop row table marks a p qs₀ i₀ qs i = a .timeout - i
+μ-loop row table a hits p qs₀ i₀ qs i = a .timeout - i
 
 loop-holds : tie.Need-loop-holds Inv-loop μ-loop
-loop-holds c = ends-first _ _ _ _ _ _ (c .before .before .before .pre)
+loop-holds c = ends-first _ _ _ _ _ _ (c .before .before .pre)
 
 at-risk-requires : tie.Need-at-risk-requires Inv-loop μ-loop
-at-risk-requires c κs =
-    (c .before .before .loop .inv .stand .next .stand .few, c .before .before .before .before .before .before .pre .marked .long)
+at-risk-requires c κs = ends-count _ _ _ _ _ _ (c .before .before .before .before .before .pre) _ _ (c .before .before .loop .inv)
 
-hopeless-requires : tie.Need-hopeless-requires Inv-loop μ-loop
-hopeless-requires c κs = search needs
+too-few-requires : tie.Need-too-few-requires Inv-loop μ-loop
+too-few-requires c κs = search needs
 
 nothing-requires : tie.Need-nothing-requires Inv-loop μ-loop
 nothing-requires c κs = search needs
 
 returns : tie.Need-returns Inv-loop μ-loop
 returns c =
-    ends-light _ _ _ _ _ _ (c .before .before .before .before .before .before .before .before .before .before .pre) _ _
+    ends-light _ _ _ _ _ _ (c .before .before .before .before .before .before .before .before .before .pre) _ _
     (c .before .before .before .before .before .before .loop .inv) _ _ _ (c .nothing .ensures)
-    (c .before .before .before .at-risk .ensures .0) (c .before .before .hopeless .ensures) (c .before .if2 .taken)
+    (c .before .before .before .at-risk .ensures) (c .before .before .too-few .ensures) (c .before .if2 .taken)
 
 advance-requires : tie.Need-advance-requires Inv-loop μ-loop
 advance-requires c κs =
-    ends-may _ _ _ _ _ _ (c .before .before .before .before .before .before .before .before .before .pre) _ _
+    ends-may _ _ _ _ _ _ (c .before .before .before .before .before .before .before .before .pre) _ _
     (c .before .before .before .before .before .loop .inv) (c .before .before .before .if1 .taken)
 
 add-i : tie.Need-add-i Inv-loop μ-loop
 add-i c =
     omega
-    (arith, c .before .before .before .before .if1 .taken, c .before .before .before .before .before .before .before .before .before .before .pre .play .short)
+    (arith, c .before .before .before .before .if1 .taken, c .before .before .before .before .before .before .before .before .before .pre .play .short)
 
 loop-less : tie.Need-loop-less Inv-loop μ-loop
 loop-less c = omega (arith, c .before .before .before .before .if1 .taken)
 
 loop-again : tie.Need-loop-again Inv-loop μ-loop
 loop-again c =
-    ends-more _ _ _ _ _ _ (c .before .before .before .before .before .before .before .before .before .before .pre) _ _
+    ends-more _ _ _ _ _ _ (c .before .before .before .before .before .before .before .before .before .pre) _ _
     (c .before .before .before .before .before .before .loop .inv) _ (c .before .before .before .before .if1 .taken) (c .advance .ensures)
 
 count-home-requires : tie.Need-count-home-requires Inv-loop μ-loop
@@ -61,16 +60,16 @@ nothing-requires-2 c κs = search needs
 
 returns-2 : tie.Need-returns-2 Inv-loop μ-loop
 returns-2 c =
-    settled-some _ _ _ _ (c .before .before .before .before .before .before .before .before .before .before .pre .play)
-    (c .before .before .before .before .before .before .before .before .before .before .pre .holding) _ _ _ refl refl refl
-    (ends-over _ _ _ _ _ _ (c .before .before .before .before .before .before .before .before .before .before .pre) _ _ (c .before .before .before .before .before .before .loop .inv) _ (c .before .before .before .before .if1 .left) (c .before .before .before .count-home .ensures _))
+    settled-some _ _ _ _ (c .before .before .before .before .before .before .before .before .before .pre .play)
+    (c .before .before .before .before .before .before .before .before .before .pre .holding) _ _ _ refl refl refl
+    (ends-over _ _ _ _ _ _ (c .before .before .before .before .before .before .before .before .before .pre) _ _ (c .before .before .before .before .before .before .loop .inv) _ (c .before .before .before .before .if1 .left) (c .before .before .before .count-home .ensures _))
     (c .before .before .answers .ensures) (c .before .if3 .taken)
 
 returns-3 : tie.Need-returns-3 Inv-loop μ-loop
 returns-3 c =
-    settled-none _ _ _ _ (c .before .before .before .before .before .before .before .before .before .before .pre .play)
-    (c .before .before .before .before .before .before .before .before .before .before .pre .holding) _ _ _ (c .nothing2 .ensures)
-    (ends-over _ _ _ _ _ _ (c .before .before .before .before .before .before .before .before .before .before .pre) _ _ (c .before .before .before .before .before .before .loop .inv) _ (c .before .before .before .before .if1 .left) (c .before .before .before .count-home .ensures _))
+    settled-none _ _ _ _ (c .before .before .before .before .before .before .before .before .before .pre .play)
+    (c .before .before .before .before .before .before .before .before .before .pre .holding) _ _ _ (c .nothing2 .ensures)
+    (ends-over _ _ _ _ _ _ (c .before .before .before .before .before .before .before .before .before .pre) _ _ (c .before .before .before .before .before .before .loop .inv) _ (c .before .before .before .before .if1 .left) (c .before .before .before .count-home .ensures _))
     (c .before .before .answers .ensures) (c .before .if3 .left)
 
 pub play-out-spec : {M : Type 1} → statement M
@@ -81,7 +80,7 @@ play-out-spec =
     μ-loop
     loop-holds
     at-risk-requires
-    hopeless-requires
+    too-few-requires
     nothing-requires
     returns
     advance-requires

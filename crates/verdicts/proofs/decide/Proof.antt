@@ -1,6 +1,6 @@
 -- `verdicts::decide` meets its contract: the search is asked of what it is lent.
-use native.Mathlib.Omega.{arith}
-use Rattle.verdicts.proofs.Asking.{may-start, may-ask-on}
+use Rattle.verdicts.proofs.Asking.{may-lend}
+use mathlib.Core.Path.{refl}
 use borrow.Author.Needs.{needs}
 use Rattle.verdicts.proofs.decide.Statement.{statement}
 use Rattle.verdicts.proofs.decide.Tie as tie
@@ -14,13 +14,15 @@ slice-aggregate-lend-2 c = search needs
 slice-aggregate-lend-3 : tie.Need-slice-aggregate-lend-3
 slice-aggregate-lend-3 c = search needs
 
-lend-requires : tie.Need-lend-requires
-lend-requires c κs = search needs
+slice-aggregate-lend-4 : tie.Need-slice-aggregate-lend-4
+slice-aggregate-lend-4 c = search needs
 
-start-all-requires : tie.Need-start-all-requires
-start-all-requires c κs =
-    may-start _ (c .before .before .before .before .before .before .before .before .pre .good) _ _ _ _
-    (c .before .before .before .lend .ensures)
+slice-aggregate-lend-5 : tie.Need-slice-aggregate-lend-5
+slice-aggregate-lend-5 c = search needs
+
+lend-requires : tie.Need-lend-requires
+lend-requires c κs =
+    may-lend _ (c .before .before .before .before .before .before .pre .good) _ _ _ _ _ (search needs) (search needs) refl (search needs) (search needs)
 
 slice-aggregate-ask : tie.Need-slice-aggregate-ask
 slice-aggregate-ask c = search needs
@@ -31,12 +33,14 @@ slice-aggregate-ask-2 c = search needs
 slice-aggregate-ask-3 : tie.Need-slice-aggregate-ask-3
 slice-aggregate-ask-3 c = search needs
 
+slice-aggregate-ask-4 : tie.Need-slice-aggregate-ask-4
+slice-aggregate-ask-4 c = search needs
+
+slice-aggregate-ask-5 : tie.Need-slice-aggregate-ask-5
+slice-aggregate-ask-5 c = search needs
+
 ask-requires : tie.Need-ask-requires
-ask-requires c κs =
-    may-ask-on _ (c .before .before .before .before .before .before .before .before .before .before .before .before .pre .good) _ _ _ _
-    (c .before .before .before .before .before .before .before .lend .ensures) _ (c .before .before .before .start-all .ensures) _ _
-    (omega (arith, c .before .before .before .before .before .before .before .before .before .before .before .before .pre .least, c .before .before .before .before .before .before .before .lend .ensures .play .messages))
-    (c .before .before .before .before .before .before .before .before .before .before .before .before .pre .few)
+ask-requires c κs = search needs
 
 returns : tie.Need-returns
 returns c = search needs
@@ -48,10 +52,13 @@ decide-spec =
     slice-aggregate-lend
     slice-aggregate-lend-2
     slice-aggregate-lend-3
+    slice-aggregate-lend-4
+    slice-aggregate-lend-5
     lend-requires
-    start-all-requires
     slice-aggregate-ask
     slice-aggregate-ask-2
     slice-aggregate-ask-3
+    slice-aggregate-ask-4
+    slice-aggregate-ask-5
     ask-requires
     returns)

@@ -1,0 +1,21 @@
+-- `search::at` meets its contract.
+use native.Mathlib.Omega.{arith}
+use mathlib.Core.Path.{refl}
+use borrow.Author.Needs.{needs}
+use Rattle.search.proofs.at.Statement.{statement}
+use Rattle.search.proofs.at.Tie as tie
+
+mul-result : tie.Need-mul-result
+mul-result c = search needs
+
+shared-slice-read-result : tie.Need-shared-slice-read-result
+shared-slice-read-result c = search needs
+
+cast-result : tie.Need-cast-result
+cast-result c = omega (arith, c .shared-slice-known .given (c .before .args .k))
+
+returns : tie.Need-returns
+returns c = (refl, omega (arith, c .shared-slice-known .given (c .before .args .k)))
+
+pub at-spec : {M : Type 1} → statement M
+at-spec = tie.close (tie.spec mul-result shared-slice-read-result cast-result returns)
