@@ -17,11 +17,11 @@ fieldsFrom w (suc n) i [] = refuse 2 i
 fieldsFrom w (suc n) i (v ∷ vs) = cond (ltb v (2 ^ w)) (fieldsFrom w n (i + 1) vs) (refuse 3 i)
 
 -- r is where n numbers from index i on end in a list of that length: after them, or at the end of the list
-pub record Stops (length i n r : ℕ) : Type 0 where
+pub record Stops (long i n r : ℕ) : Type 0 where
   pub from : i ≤ r
-  pub inside : r ≤ length
+  pub inside : r ≤ long
   pub most : r ≤ i + n
-  pub short : r < i + n → r ≡ length
+  pub short : r < i + n → r ≡ long
 
 -- what is left of a row from index i on, where the next field is f
 abbrev pub restOf : List ℕ → Field → ℕ → Outcome

@@ -7,15 +7,6 @@ use Rattle.faults.proofs.Laws as law
 use Rattle.faults.proofs.bad_ends.Statement.{statement}
 use Rattle.faults.proofs.bad_ends.Tie as tie
 
-vertices-requires : tie.Need-vertices-requires
-vertices-requires c κs = search needs
-
-link-from-requires : tie.Need-link-from-requires
-link-from-requires c κs = search needs
-
-link-to-requires : tie.Need-link-to-requires
-link-to-requires c κs = search needs
-
 returns : tie.Need-returns
 returns c = let p = planOf (c .before .before .before .before .before .args .row .now) in
     let e = c .before .before .before .before .before .args .e in
@@ -45,5 +36,4 @@ returns-3 c = let p = planOf (c .before .before .before .before .before .before 
 
 pub bad-ends-spec : {M : Type 1} → statement M
 bad-ends-spec =
-    tie.close
-    (tie.spec vertices-requires link-from-requires link-to-requires returns returns-2 returns-3)
+    tie.close (tie.spec (λ c κs. search needs) (λ c κs. search needs) (λ c κs. search needs) returns returns-2 returns-3)

@@ -8,24 +8,6 @@ use Rattle.faults.proofs.Laws as law
 use Rattle.faults.proofs.bad_path.Statement.{statement}
 use Rattle.faults.proofs.bad_path.Tie as tie
 
-slice-aggregate-first-links : tie.Need-slice-aggregate-first-links
-slice-aggregate-first-links c = search needs
-
-first-links-requires : tie.Need-first-links-requires
-first-links-requires c κs = search needs
-
-slice-aggregate-number : tie.Need-slice-aggregate-number
-slice-aggregate-number c = search needs
-
-number-requires : tie.Need-number-requires
-number-requires c κs = search needs
-
-link-from-requires : tie.Need-link-from-requires
-link-from-requires c κs = search needs
-
-array-share-prefix-path : tie.Need-array-share-prefix-path
-array-share-prefix-path c = search needs
-
 slice-aggregate-is-path : tie.Need-slice-aggregate-is-path
 slice-aggregate-is-path c = let f = c .before .before .before .before .before .first-links in
     law.count-is (c .before .before .before .before .before .before .before .before .args .row .now)
@@ -55,13 +37,5 @@ returns c = let f = c .before .before .before .before .before .before .first-lin
 pub bad-path-spec : {M : Type 1} → statement M
 bad-path-spec =
     tie.close
-    (tie.spec
-    slice-aggregate-first-links
-    first-links-requires
-    slice-aggregate-number
-    number-requires
-    link-from-requires
-    array-share-prefix-path
-    slice-aggregate-is-path
-    is-path-requires
-    returns)
+    (tie.spec (λ c. search needs) (λ c κs. search needs) (λ c. search needs) (λ c κs. search needs) (λ c κs. search needs) (λ c. search needs)
+    slice-aggregate-is-path is-path-requires returns)

@@ -6,15 +6,6 @@ use Rattle.faults.proofs.Laws as law
 use Rattle.faults.proofs.bad_seconds.Statement.{statement}
 use Rattle.faults.proofs.bad_seconds.Tie as tie
 
-slice-aggregate-first-links : tie.Need-slice-aggregate-first-links
-slice-aggregate-first-links c = search needs
-
-first-links-requires : tie.Need-first-links-requires
-first-links-requires c κs = search needs
-
-array-share-prefix-path : tie.Need-array-share-prefix-path
-array-share-prefix-path c = search needs
-
 slice-aggregate-path-end : tie.Need-slice-aggregate-path-end
 slice-aggregate-path-end c = let f = c .before .before .first-links in
     law.count-is (c .before .before .before .before .before .args .row .now)
@@ -27,12 +18,6 @@ slice-aggregate-path-end c = let f = c .before .before .first-links in
           .before .before .pre .2 .few,
     ))
 
-path-end-requires : tie.Need-path-end-requires
-path-end-requires c κs = search needs
-
-seconds-hold-requires : tie.Need-seconds-hold-requires
-seconds-hold-requires c κs = search needs
-
 returns : tie.Need-returns
 returns c = let f = c .before .before .before .before .first-links in
     let row = c .before .before .before .before .before .before .before .args .row .now in
@@ -43,11 +28,5 @@ returns c = let f = c .before .before .before .before .first-links in
 pub bad-seconds-spec : {M : Type 1} → statement M
 bad-seconds-spec =
     tie.close
-    (tie.spec
-    slice-aggregate-first-links
-    first-links-requires
-    array-share-prefix-path
-    slice-aggregate-path-end
-    path-end-requires
-    seconds-hold-requires
-    returns)
+    (tie.spec (λ c. search needs) (λ c κs. search needs) (λ c. search needs) slice-aggregate-path-end (λ c κs. search needs)
+    (λ c κs. search needs) returns)

@@ -19,15 +19,6 @@ Inv-loop row i t n at₀ least₀ k₀ at least k = Passing row i n at k ×
 abbrev μ-loop : tie.MeasureT-loop
 μ-loop row i t n at₀ least₀ k₀ at least k = n - k
 
-timeout-requires : tie.Need-timeout-requires Inv-loop μ-loop
-timeout-requires c κs = search needs
-
-place-count-requires : tie.Need-place-count-requires Inv-loop μ-loop
-place-count-requires c κs = search needs
-
-add-at : tie.Need-add-at Inv-loop μ-loop
-add-at c = search needs
-
 loop-holds : tie.Need-loop-holds Inv-loop μ-loop
 loop-holds c = let a = c .before .before .before .args in
     let e = law.all-left (a .row .now) (a .i) (c .place-count .result) (c .place-count .ensures .is) in
@@ -62,12 +53,6 @@ returns-2 c = let a = c .before .before .before .before .before .before .before 
 add-least : tie.Need-add-least Inv-loop μ-loop
 add-least c = omega (arith, c .before .before .before .before .before .place-at .ensures .slot-small)
 
-add-k : tie.Need-add-k Inv-loop μ-loop
-add-k c = search needs
-
-loop-less : tie.Need-loop-less Inv-loop μ-loop
-loop-less c = search needs
-
 loop-again : tie.Need-loop-again Inv-loop μ-loop
 loop-again c = let a = c .before .before .before .before .before .before .before .before .before .before .before .args in
     let l = c .before .before .before .before .before .before .before .loop in (
@@ -91,18 +76,5 @@ returns-3 c = let a = c .before .before .before .before .before .args in
 pub bad-slots-spec : {M : Type 1} → statement M
 bad-slots-spec =
     tie.close
-    (tie.spec
-    Inv-loop
-    μ-loop
-    timeout-requires
-    place-count-requires
-    add-at
-    loop-holds
-    place-at-requires
-    returns
-    returns-2
-    add-least
-    add-k
-    loop-less
-    loop-again
-    returns-3)
+    (tie.spec Inv-loop μ-loop (λ c κs. search needs) (λ c κs. search needs) (λ c. search needs) loop-holds place-at-requires returns returns-2
+    add-least (λ c. search needs) (λ c. search needs) loop-again returns-3)

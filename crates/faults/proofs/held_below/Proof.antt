@@ -17,12 +17,6 @@ Inv-loop row i m table n at₀ k₀ at k = Passing row i n at k ×
 abbrev μ-loop : tie.MeasureT-loop
 μ-loop row i m table n at₀ k₀ at k = n - k
 
-place-count-requires : tie.Need-place-count-requires Inv-loop μ-loop
-place-count-requires c κs = search needs
-
-add-at : tie.Need-add-at Inv-loop μ-loop
-add-at c = search needs
-
 loop-holds : tie.Need-loop-holds Inv-loop μ-loop
 loop-holds c = let a = c .before .before .before .args in
     let e = law.all-left (a .row .now) (a .i) (c .place-count .result) (c .place-count .ensures .is) in
@@ -37,24 +31,12 @@ place-at-requires c κs = omega (
       .ensures .small,
 )
 
-entry-requires : tie.Need-entry-requires Inv-loop μ-loop
-entry-requires c κs = search needs
-
-cast-holder : tie.Need-cast-holder Inv-loop μ-loop
-cast-holder c = search needs
-
 returns : tie.Need-returns Inv-loop μ-loop
 returns c = let a = c .before .before .before .before .before .before .before .before .args in
     let l = c .before .before .before .before .loop in
     sym (law.held-there (a .row .now) (c .before .before .before .before .before .place-count .result) (l .at) (l .k)
     (c .before .before .place-at .result) (c .before .before .place-at .ensures) (c .before .before .before .loop-test .taken)
     (a .table .now) (a .m) (c .before .entry .result) (c .before .entry .ensures) (c .if1 .taken)) ∙ l .inv .1
-
-add-k : tie.Need-add-k Inv-loop μ-loop
-add-k c = search needs
-
-loop-less : tie.Need-loop-less Inv-loop μ-loop
-loop-less c = search needs
 
 loop-again : tie.Need-loop-again Inv-loop μ-loop
 loop-again c = let a = c .before .before .before .before .before .before .before .before .args in
@@ -76,17 +58,5 @@ returns-2 c = let a = c .before .before .before .before .before .args in
 pub held-below-spec : {M : Type 1} → statement M
 held-below-spec =
     tie.close
-    (tie.spec
-    Inv-loop
-    μ-loop
-    place-count-requires
-    add-at
-    loop-holds
-    place-at-requires
-    entry-requires
-    cast-holder
-    returns
-    add-k
-    loop-less
-    loop-again
-    returns-2)
+    (tie.spec Inv-loop μ-loop (λ c κs. search needs) (λ c. search needs) loop-holds place-at-requires (λ c κs. search needs) (λ c. search needs)
+    returns (λ c. search needs) (λ c. search needs) loop-again returns-2)

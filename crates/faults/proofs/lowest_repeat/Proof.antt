@@ -18,23 +18,8 @@ Inv-loop row links met₀ e₀ met e = (lies : PlanLies row) → Repeating row l
 abbrev μ-loop : tie.MeasureT-loop
 μ-loop row links met₀ e₀ met e = links - e
 
-links-requires : tie.Need-links-requires Inv-loop μ-loop
-links-requires c κs = search needs
-
 loop-holds : tie.Need-loop-holds Inv-loop μ-loop
 loop-holds c = λ lies. repeating-first (c .before .before .args .row .now) lies _
-
-ends-of-requires : tie.Need-ends-of-requires Inv-loop μ-loop
-ends-of-requires c κs = search needs
-
-mul-k : tie.Need-mul-k Inv-loop μ-loop
-mul-k c = search needs
-
-add-k : tie.Need-add-k Inv-loop μ-loop
-add-k c = search needs
-
-array-read-if1 : tie.Need-array-read-if1 Inv-loop μ-loop
-array-read-if1 c = search needs
 
 returns : tie.Need-returns Inv-loop μ-loop
 returns c =
@@ -44,15 +29,6 @@ returns c =
     repeating-found row lies _ (at .e) (at .met) (at .inv lies) (c .before .before .before .before .loop-test .taken) _
     (c .before .before .before .ends-of .ensures) _ refl (c .if1 .taken) ∙
     ap (lowest (repeats (planOf row))) (c .before .before .before .before .before .before .links .ensures .is)
-
-array-write-met : tie.Need-array-write-met Inv-loop μ-loop
-array-write-met c = search needs
-
-add-e : tie.Need-add-e Inv-loop μ-loop
-add-e c = search needs
-
-loop-less : tie.Need-loop-less Inv-loop μ-loop
-loop-less c = search needs
 
 loop-again : tie.Need-loop-again Inv-loop μ-loop
 loop-again c = λ lies.
@@ -70,18 +46,5 @@ returns-2 c =
 pub lowest-repeat-spec : {M : Type 1} → statement M
 lowest-repeat-spec =
     tie.close
-    (tie.spec
-    Inv-loop
-    μ-loop
-    links-requires
-    loop-holds
-    ends-of-requires
-    mul-k
-    add-k
-    array-read-if1
-    returns
-    array-write-met
-    add-e
-    loop-less
-    loop-again
-    returns-2)
+    (tie.spec Inv-loop μ-loop (λ c κs. search needs) loop-holds (λ c κs. search needs) (λ c. search needs) (λ c. search needs)
+    (λ c. search needs) returns (λ c. search needs) (λ c. search needs) (λ c. search needs) loop-again returns-2)

@@ -9,16 +9,10 @@ use Rattle.faults.proofs.Laws as law
 use Rattle.faults.proofs.place_holds.Statement.{statement}
 use Rattle.faults.proofs.place_holds.Tie as tie
 
-place-at-requires : tie.Need-place-at-requires
-place-at-requires c κs = search needs
-
 returns : tie.Need-returns
 returns c = let a = c .before .before .before .before .args in
     law.place-none (a .row .now) (planOf (a .row .now)) (a .end) (a .at) (c .before .before .place-at .result)
     (c .before .before .place-at .ensures) (c .if1 .taken)
-
-mul-second-holds : tie.Need-mul-second-holds
-mul-second-holds c = search needs
 
 sub-second-holds : tie.Need-sub-second-holds
 sub-second-holds c = let a = c .before .before .before .before .args in
@@ -60,12 +54,5 @@ returns-2 c = let a = c .before .before .before .before .before .before .args in
 pub place-holds-spec : {M : Type 1} → statement M
 place-holds-spec =
     tie.close
-    (tie.spec
-    place-at-requires
-    returns
-    mul-second-holds
-    sub-second-holds
-    part-second-holds-start
-    part-second-holds-end
-    second-holds-requires
-    returns-2)
+    (tie.spec (λ c κs. search needs) returns (λ c. search needs) sub-second-holds part-second-holds-start part-second-holds-end
+    second-holds-requires returns-2)

@@ -7,9 +7,6 @@ use Rattle.faults.proofs.Laws as law
 use Rattle.faults.proofs.second_holds.Statement.{statement}
 use Rattle.faults.proofs.second_holds.Tie as tie
 
-link-from-requires : tie.Need-link-from-requires
-link-from-requires c κs = search needs
-
 is-path-requires : tie.Need-is-path-requires
 is-path-requires c κs = (
   c .before .before .before .pre .0,
@@ -20,12 +17,6 @@ is-path-requires c κs = (
         (c .before .before .before .args .link),
   ),
 )
-
-path-end-requires : tie.Need-path-end-requires
-path-end-requires c κs = search needs
-
-number-requires : tie.Need-number-requires
-number-requires c κs = search needs
 
 returns : tie.Need-returns
 returns c = let a = c .before .before .before .before .before .before .before .before .args in
@@ -49,12 +40,4 @@ returns-3 c = let a = c .before .before .before .before .before .args in
 
 pub second-holds-spec : {M : Type 1} → statement M
 second-holds-spec =
-    tie.close
-    (tie.spec
-    link-from-requires
-    is-path-requires
-    path-end-requires
-    number-requires
-    returns
-    returns-2
-    returns-3)
+    tie.close (tie.spec (λ c κs. search needs) is-path-requires (λ c κs. search needs) (λ c κs. search needs) returns returns-2 returns-3)

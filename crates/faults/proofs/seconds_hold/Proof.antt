@@ -19,12 +19,6 @@ Inv-loop row end i n at₀ k₀ at k = Passing row i n at k ×
 abbrev μ-loop : tie.MeasureT-loop
 μ-loop row end i n at₀ k₀ at k = n - k
 
-place-count-requires : tie.Need-place-count-requires Inv-loop μ-loop
-place-count-requires c κs = search needs
-
-add-at : tie.Need-add-at Inv-loop μ-loop
-add-at c = search needs
-
 loop-holds : tie.Need-loop-holds Inv-loop μ-loop
 loop-holds c = let a = c .before .before .args in
     let e = law.all-left (a .row .now) (a .i) (c .place-count .result) (c .place-count .ensures .is) in
@@ -63,12 +57,6 @@ returns c = let a = c .before .before .before .before .before .before .before .a
     (planOf (a .row .now)) (a .end) (c .before .place-holds .result) (c .before .place-holds .ensures)
     (not-true (c .before .place-holds .result) (c .if1 .taken))) ∙ l .inv .1
 
-add-k : tie.Need-add-k Inv-loop μ-loop
-add-k c = search needs
-
-loop-less : tie.Need-loop-less Inv-loop μ-loop
-loop-less c = search needs
-
 loop-again : tie.Need-loop-again Inv-loop μ-loop
 loop-again c = let a = c .before .before .before .before .before .before .before .args in
     let l = c .before .before .before .before .loop in (
@@ -90,16 +78,5 @@ returns-2 c = let a = c .before .before .before .before .args in
 pub seconds-hold-spec : {M : Type 1} → statement M
 seconds-hold-spec =
     tie.close
-    (tie.spec
-    Inv-loop
-    μ-loop
-    place-count-requires
-    add-at
-    loop-holds
-    place-at-requires
-    place-holds-requires
-    returns
-    add-k
-    loop-less
-    loop-again
-    returns-2)
+    (tie.spec Inv-loop μ-loop (λ c κs. search needs) (λ c. search needs) loop-holds place-at-requires place-holds-requires returns
+    (λ c. search needs) (λ c. search needs) loop-again returns-2)

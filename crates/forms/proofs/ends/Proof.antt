@@ -8,29 +8,11 @@ use borrow.Author.Needs.{needs}
 use Rattle.forms.proofs.ends.Statement.{statement}
 use Rattle.forms.proofs.ends.Tie as tie
 
-add-n : tie.Need-add-n
-add-n c = search needs
-
-refuse-requires : tie.Need-refuse-requires
-refuse-requires c κs = search needs
-
 returns : tie.Need-returns
 returns c =
     let file = c .before .before .before .args .file .now in
     let end = c .before .before .before .args .end in
     c .refuse .ensures ∙ sym (ends-more file end (c .before .if1 .taken))
-
-mul-field : tie.Need-mul-field
-mul-field c = search needs
-
-sub-field : tie.Need-sub-field
-sub-field c = search needs
-
-field-requires : tie.Need-field-requires
-field-requires c κs = search needs
-
-refuse-requires-2 : tie.Need-refuse-requires-2
-refuse-requires-2 c κs = search needs
 
 returns-2 : tie.Need-returns-2
 returns-2 c =
@@ -50,13 +32,5 @@ returns-3 c =
 pub ends-spec : {M : Type 1} → statement M
 ends-spec =
     tie.close
-    (tie.spec
-    add-n
-    refuse-requires
-    returns
-    mul-field
-    sub-field
-    field-requires
-    refuse-requires-2
-    returns-2
-    returns-3)
+    (tie.spec (λ c. search needs) (λ c κs. search needs) returns (λ c. search needs) (λ c. search needs) (λ c κs. search needs)
+    (λ c κs. search needs) returns-2 returns-3)

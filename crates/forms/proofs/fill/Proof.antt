@@ -20,18 +20,9 @@ Inv-loop file row₀ s₀ p₀ i₀ row s p i = OnFile file row₀ row s p i
 abbrev μ-loop : tie.MeasureT-loop
 μ-loop file row₀ s₀ p₀ i₀ row s p i = numbers s
 
-slice-write-row : tie.Need-slice-write-row Inv-loop μ-loop
-slice-write-row c = search needs
-
-opening-requires : tie.Need-opening-requires Inv-loop μ-loop
-opening-requires c κs = search needs
-
 loop-holds : tie.Need-loop-holds Inv-loop μ-loop
 loop-holds c = starts (c .before .before .before .args .file .now) (c .before .before .before .args .row .now) _
     (c .before .before .before .pre .0) (c .before .before .before .pre .1) (c .opening .ensures)
-
-width-requires : tie.Need-width-requires Inv-loop μ-loop
-width-requires c κs = search needs
 
 same-length : tie.Need-same-length Inv-loop μ-loop
 same-length c = c .before .before .loop .inv .long ∙ simp length-set
@@ -63,9 +54,6 @@ add-if2-2 c =
     let is = c .before .width .ensures in
     let most = width-most (at .s) (on .narrow) in
     omega (arith, most, is, on .short)
-
-refuse-requires : tie.Need-refuse-requires Inv-loop μ-loop
-refuse-requires c κs = search needs
 
 same-length-2 : tie.Need-same-length-2 Inv-loop μ-loop
 same-length-2 c = c .before .before .before .before .loop .inv .long ∙ simp length-set
@@ -128,9 +116,6 @@ slice-write-row-2 c =
     ) in
     place
 
-step-requires : tie.Need-step-requires Inv-loop μ-loop
-step-requires c κs = search needs
-
 add-p : tie.Need-add-p Inv-loop μ-loop
 add-p c =
     let at = c .before .before .before .before .before .loop in
@@ -164,26 +149,6 @@ loop-again c =
 pub fill-spec : {M : Type 1} → statement M
 fill-spec =
     tie.close
-    (tie.spec
-    Inv-loop
-    μ-loop
-    slice-write-row
-    opening-requires
-    loop-holds
-    width-requires
-    same-length
-    returns
-    add-if2
-    add-if2-2
-    refuse-requires
-    same-length-2
-    returns-2
-    field-requires
-    cast-row
-    mul-row
-    slice-write-row-2
-    step-requires
-    add-p
-    add-i
-    loop-less
-    loop-again)
+    (tie.spec Inv-loop μ-loop (λ c. search needs) (λ c κs. search needs) loop-holds (λ c κs. search needs) same-length returns add-if2 add-if2-2
+    (λ c κs. search needs) same-length-2 returns-2 field-requires cast-row mul-row slice-write-row-2 (λ c κs. search needs) add-p add-i
+    loop-less loop-again)

@@ -9,9 +9,6 @@ use borrow.Author.Needs.{needs}
 use Rattle.forms.proofs.pack.Statement.{statement}
 use Rattle.forms.proofs.pack.Tie as tie
 
-pack-fields-requires : tie.Need-pack-fields-requires
-pack-fields-requires c κs = search needs
-
 mul-put : tie.Need-mul-put
 mul-put c =
     let row = c .before .before .before .before .before .before .before .args .row .now in
@@ -47,9 +44,6 @@ put-requires c κs =
       pow-pos _,
     )
 
-same-length : tie.Need-same-length
-same-length c = search needs
-
 returns : tie.Need-returns
 returns c =
     let row = c .before .before .before .before .before .before .before .before .before .before .args .row .now in
@@ -61,4 +55,4 @@ returns c =
 
 pub pack-spec : {M : Type 1} → statement M
 pack-spec =
-    tie.close (tie.spec pack-fields-requires mul-put sub-put put-requires same-length returns)
+    tie.close (tie.spec (λ c κs. search needs) mul-put sub-put put-requires (λ c. search needs) returns)

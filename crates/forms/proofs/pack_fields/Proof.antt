@@ -23,21 +23,12 @@ put-requires c κs =
     (c .before .before .before .pre) in
     (record { narrow = omega arith; near = omega arith; inside = omega (arith, inside) }, omega arith)
 
-opening-requires : tie.Need-opening-requires Inv-loop μ-loop
-opening-requires c κs = search needs
-
 loop-holds : tie.Need-loop-holds Inv-loop μ-loop
 loop-holds c =
     pack-first (c .before .before .before .before .before .before .before .args .row .now)
     (c .before .before .before .before .before .before .before .args .file .now) _ _
     (c .before .before .before .before .before .before .before .pre) (c .before .before .before .put .kept .0)
     (c .before .before .before .put .ensures) (c .opening .ensures)
-
-width-requires : tie.Need-width-requires Inv-loop μ-loop
-width-requires c κs = search needs
-
-number-requires : tie.Need-number-requires Inv-loop μ-loop
-number-requires c κs = search needs
 
 put-requires-2 : tie.Need-put-requires-2 Inv-loop μ-loop
 put-requires-2 c κs =
@@ -60,9 +51,6 @@ put-requires-2 c κs =
       rw (c .before .number .ensures .is, is) small,
     )
 
-step-requires : tie.Need-step-requires Inv-loop μ-loop
-step-requires c κs = search needs
-
 add-p : tie.Need-add-p Inv-loop μ-loop
 add-p c =
     let row = c .before .before .before .before .before .before .before .before .before .before .before .before .before .before .before .before
@@ -81,9 +69,6 @@ add-i : tie.Need-add-i Inv-loop μ-loop
 add-i c =
     let lt = c .before .before .before .before .before .before .before .loop-test .taken in
     omega (arith, lt)
-
-loop-less : tie.Need-loop-less Inv-loop μ-loop
-loop-less c = search needs
 
 loop-again : tie.Need-loop-again Inv-loop μ-loop
 loop-again c =
@@ -109,19 +94,5 @@ returns c =
 pub pack-fields-spec : {M : Type 1} → statement M
 pack-fields-spec =
     tie.close
-    (tie.spec
-    Inv-loop
-    μ-loop
-    put-requires
-    opening-requires
-    loop-holds
-    width-requires
-    number-requires
-    put-requires-2
-    step-requires
-    add-p
-    add-i
-    loop-less
-    loop-again
-    same-length
-    returns)
+    (tie.spec Inv-loop μ-loop put-requires (λ c κs. search needs) loop-holds (λ c κs. search needs) (λ c κs. search needs) put-requires-2
+    (λ c κs. search needs) add-p add-i (λ c. search needs) loop-again same-length returns)

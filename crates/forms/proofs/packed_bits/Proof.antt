@@ -13,14 +13,8 @@ Inv-loop row s₀ p₀ i₀ s p i = Counts row s p i
 abbrev μ-loop : tie.MeasureT-loop
 μ-loop row s₀ p₀ i₀ s p i = length row - i
 
-opening-requires : tie.Need-opening-requires Inv-loop μ-loop
-opening-requires c κs = search needs
-
 loop-holds : tie.Need-loop-holds Inv-loop μ-loop
 loop-holds c = counts-first (c .before .before .args .row .now) _ (c .opening .ensures)
-
-width-requires : tie.Need-width-requires Inv-loop μ-loop
-width-requires c κs = search needs
 
 add-p : tie.Need-add-p Inv-loop μ-loop
 add-p c =
@@ -28,18 +22,6 @@ add-p c =
     let at = c .before .before .loop in
     let room = counts-room row (at .s) (at .p) (at .i) (at .inv) (c .before .loop-test .taken) in
     omega (arith, room, c .width .ensures, row-bits-most row (row-walks row (length row) (c .before .before .before .before .before .pre)))
-
-number-requires : tie.Need-number-requires Inv-loop μ-loop
-number-requires c κs = search needs
-
-step-requires : tie.Need-step-requires Inv-loop μ-loop
-step-requires c κs = search needs
-
-add-i : tie.Need-add-i Inv-loop μ-loop
-add-i c = search needs
-
-loop-less : tie.Need-loop-less Inv-loop μ-loop
-loop-less c = search needs
 
 loop-again : tie.Need-loop-again Inv-loop μ-loop
 loop-again c =
@@ -56,16 +38,5 @@ returns c =
 pub packed-bits-spec : {M : Type 1} → statement M
 packed-bits-spec =
     tie.close
-    (tie.spec
-    Inv-loop
-    μ-loop
-    opening-requires
-    loop-holds
-    width-requires
-    add-p
-    number-requires
-    step-requires
-    add-i
-    loop-less
-    loop-again
-    returns)
+    (tie.spec Inv-loop μ-loop (λ c κs. search needs) loop-holds (λ c κs. search needs) add-p (λ c κs. search needs) (λ c κs. search needs)
+    (λ c. search needs) (λ c. search needs) loop-again returns)

@@ -8,9 +8,6 @@ use borrow.Author.Needs.{needs}
 use Rattle.forms.proofs.packed_bytes.Statement.{statement}
 use Rattle.forms.proofs.packed_bytes.Tie as tie
 
-packed-bits-requires : tie.Need-packed-bits-requires
-packed-bits-requires c κs = search needs
-
 add-result : tie.Need-add-result
 add-result c =
     let row = c .before .before .args .row .now in
@@ -26,4 +23,5 @@ returns c =
     record { is = ap wholeBytes size ∙ sym (length-file row); most = omega (arith, most, size) }
 
 pub packed-bytes-spec : {M : Type 1} → statement M
-packed-bytes-spec = tie.close (tie.spec packed-bits-requires add-result returns)
+packed-bytes-spec =
+    tie.close (tie.spec (λ c κs. search needs) add-result returns)

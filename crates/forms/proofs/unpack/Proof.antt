@@ -9,31 +9,10 @@ use borrow.Author.Needs.{needs}
 use Rattle.forms.proofs.unpack.Statement.{statement}
 use Rattle.forms.proofs.unpack.Tie as tie
 
-slice-write-row : tie.Need-slice-write-row
-slice-write-row c = search needs
-
-refuse-requires : tie.Need-refuse-requires
-refuse-requires c κs = search needs
-
-same-length : tie.Need-same-length
-same-length c = search needs
-
 returns : tie.Need-returns
 returns c =
     empty-file (c .before .before .before .before .args .file .now) (c .before .before .before .before .args .row .now) _
     (c .before .if1 .taken) (c .before .before .before .before .pre) (c .refuse .ensures) refl
-
-fill-requires : tie.Need-fill-requires
-fill-requires c κs = search needs
-
-field-requires : tie.Need-field-requires
-field-requires c κs = search needs
-
-refuse-requires-2 : tie.Need-refuse-requires-2
-refuse-requires-2 c κs = search needs
-
-same-length-2 : tie.Need-same-length-2
-same-length-2 c = search needs
 
 returns-2 : tie.Need-returns-2
 returns-2 c =
@@ -44,9 +23,6 @@ returns-2 c =
     (other-edition file some (λ e. c .before .if2 .taken (c .before .before .field .ensures .is ∙ e)))
     (c .refuse2 .ensures) refl
 
-enum-known-answer : tie.Need-enum-known-answer
-enum-known-answer c = search needs
-
 ends-requires : tie.Need-ends-requires
 ends-requires c κs =
     let file = c .before .before .before .before .before .before .before .before .before .before .before .before .args .file .now in
@@ -54,12 +30,6 @@ ends-requires c κs =
     let filled = c .before .before .before .before .before .before .before .fill .ensures in
     let inside = end-inside file some _ (sym (filled .answer) ∙ ap outcomeOf (c .before .answer .given .1)) in
     (inside .0, omega (arith, inside .1))
-
-enum-known-answer-2 : tie.Need-enum-known-answer-2
-enum-known-answer-2 c = search needs
-
-same-length-3 : tie.Need-same-length-3
-same-length-3 c = search needs
 
 returns-3 : tie.Need-returns-3
 returns-3 c =
@@ -70,9 +40,6 @@ returns-3 c =
     let opens = file-opens file some
     (sym (c .before .before .before .before .before .field .ensures .is) ∙ c .before .before .before .before .if2 .left) in
     with-answer file _ _ _ _ _ _ filled (opens ∙ ap (λ (o : Outcome). andThen o (endsAt (bits file))) walked) (c .ends .ensures) refl
-
-same-length-4 : tie.Need-same-length-4
-same-length-4 c = search needs
 
 returns-4 : tie.Need-returns-4
 returns-4 c =
@@ -86,20 +53,6 @@ returns-4 c =
 pub unpack-spec : {M : Type 1} → statement M
 unpack-spec =
     tie.close
-    (tie.spec
-    slice-write-row
-    refuse-requires
-    same-length
-    returns
-    fill-requires
-    field-requires
-    refuse-requires-2
-    same-length-2
-    returns-2
-    enum-known-answer
-    ends-requires
-    enum-known-answer-2
-    same-length-3
-    returns-3
-    same-length-4
-    returns-4)
+    (tie.spec (λ c. search needs) (λ c κs. search needs) (λ c. search needs) returns (λ c κs. search needs) (λ c κs. search needs)
+    (λ c κs. search needs) (λ c. search needs) returns-2 (λ c. search needs) ends-requires (λ c. search needs) (λ c. search needs) returns-3
+    (λ c. search needs) returns-4)

@@ -15,26 +15,11 @@ Inv-loop row i n w most end k₀ k = OnFields row w n i k × (k ≤ end)
 abbrev μ-loop : tie.MeasureT-loop
 μ-loop row i n w most end k₀ k = end - k
 
-power-requires : tie.Need-power-requires Inv-loop μ-loop
-power-requires c κs = search needs
-
-stop-requires : tie.Need-stop-requires Inv-loop μ-loop
-stop-requires c κs = search needs
-
 loop-holds : tie.Need-loop-holds Inv-loop μ-loop
 loop-holds c = (fields-first _ _ _ _, c .stop .ensures .from)
 
-mul-if1 : tie.Need-mul-if1 Inv-loop μ-loop
-mul-if1 c = search needs
-
-shared-slice-read-if1 : tie.Need-shared-slice-read-if1 Inv-loop μ-loop
-shared-slice-read-if1 c = search needs
-
 cast-if1 : tie.Need-cast-if1 Inv-loop μ-loop
 cast-if1 c = omega (arith, c .shared-slice-known2 .given (c .before .before .loop .k))
-
-refuse-requires : tie.Need-refuse-requires Inv-loop μ-loop
-refuse-requires c κs = search needs
 
 returns : tie.Need-returns Inv-loop μ-loop
 returns c =
@@ -47,12 +32,6 @@ returns c =
     c .refuse .ensures ∙ fields-large (a .row .now) (a .w) (a .n) (a .i) (at .k) (at .inv .0) (omega (arith, more, end .inside))
     (omega (arith, more, end .most)) large
 
-add-k : tie.Need-add-k Inv-loop μ-loop
-add-k c = search needs
-
-loop-less : tie.Need-loop-less Inv-loop μ-loop
-loop-less c = search needs
-
 loop-again : tie.Need-loop-again Inv-loop μ-loop
 loop-again c =
     let a = c .before .before .before .before .before .before .before .args in
@@ -64,12 +43,6 @@ loop-again c =
     let inside : at .k < length (a .row .now) = omega (arith, more, end .inside) in
     let few : at .k < a .i + a .n = omega (arith, more, end .most) in
     (fields-next (a .row .now) (a .w) (a .n) (a .i) (at .k) (at .inv .0) inside few small, omega (arith, more))
-
-sub-if2 : tie.Need-sub-if2 Inv-loop μ-loop
-sub-if2 c = search needs
-
-refuse-requires-2 : tie.Need-refuse-requires-2 Inv-loop μ-loop
-refuse-requires-2 c κs = search needs
 
 returns-2 : tie.Need-returns-2 Inv-loop μ-loop
 returns-2 c =
@@ -93,21 +66,6 @@ returns-3 c =
 pub walk-fields-spec : {M : Type 1} → statement M
 walk-fields-spec =
     tie.close
-    (tie.spec
-    Inv-loop
-    μ-loop
-    power-requires
-    stop-requires
-    loop-holds
-    mul-if1
-    shared-slice-read-if1
-    cast-if1
-    refuse-requires
-    returns
-    add-k
-    loop-less
-    loop-again
-    sub-if2
-    refuse-requires-2
-    returns-2
+    (tie.spec Inv-loop μ-loop (λ c κs. search needs) (λ c κs. search needs) loop-holds (λ c. search needs) (λ c. search needs) cast-if1
+    (λ c κs. search needs) returns (λ c. search needs) (λ c. search needs) loop-again (λ c. search needs) (λ c κs. search needs) returns-2
     returns-3)

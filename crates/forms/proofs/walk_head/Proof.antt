@@ -9,12 +9,6 @@ use borrow.Author.Needs.{needs}
 use Rattle.forms.proofs.walk_head.Statement.{statement}
 use Rattle.forms.proofs.walk_head.Tie as tie
 
-walk-fields-requires : tie.Need-walk-fields-requires
-walk-fields-requires c κs = search needs
-
-enum-known-sizes : tie.Need-enum-known-sizes
-enum-known-sizes c = search needs
-
 walk-fields-requires-2 : tie.Need-walk-fields-requires-2
 walk-fields-requires-2 c κs =
     let row = c .before .before .before .before .before .args .row .now in
@@ -22,18 +16,6 @@ walk-fields-requires-2 c κs =
     let gave = ap outcomeOf (c .before .sizes .given .1) in
     let end = fields-end row 6 2 1 _ (c .before .before .before .before .before .pre) (sym two ∙ gave) in
     (end .1, omega arith)
-
-enum-known-messages : tie.Need-enum-known-messages
-enum-known-messages c = search needs
-
-links-requires : tie.Need-links-requires
-links-requires c κs = search needs
-
-mul-walk-fields : tie.Need-mul-walk-fields
-mul-walk-fields c = search needs
-
-add-walk-fields : tie.Need-add-walk-fields
-add-walk-fields c = search needs
 
 walk-fields-requires-3 : tie.Need-walk-fields-requires-3
 walk-fields-requires-3 c κs =
@@ -46,12 +28,6 @@ walk-fields-requires-3 c κs =
           (sym (c .before .before .before .before .walk-fields2 .ensures) ∙ ap outcomeOf (c .before .before .messages .given .1)) .1,
       omega arith,
     )
-
-enum-known-messages-2 : tie.Need-enum-known-messages-2
-enum-known-messages-2 c = search needs
-
-enum-known-sizes-2 : tie.Need-enum-known-sizes-2
-enum-known-sizes-2 c = search needs
 
 returns : tie.Need-returns
 returns c =
@@ -87,17 +63,5 @@ returns-3 c =
 pub walk-head-spec : {M : Type 1} → statement M
 walk-head-spec =
     tie.close
-    (tie.spec
-    walk-fields-requires
-    enum-known-sizes
-    walk-fields-requires-2
-    enum-known-messages
-    links-requires
-    mul-walk-fields
-    add-walk-fields
-    walk-fields-requires-3
-    enum-known-messages-2
-    enum-known-sizes-2
-    returns
-    returns-2
-    returns-3)
+    (tie.spec (λ c κs. search needs) (λ c. search needs) walk-fields-requires-2 (λ c. search needs) (λ c κs. search needs) (λ c. search needs)
+    (λ c. search needs) walk-fields-requires-3 (λ c. search needs) (λ c. search needs) returns returns-2 returns-3)

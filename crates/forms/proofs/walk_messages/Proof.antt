@@ -18,30 +18,12 @@ Inv-loop row i n at₀ messages₀ places₀ at messages places =
 abbrev μ-loop : tie.MeasureT-loop
 μ-loop row i n at₀ messages₀ places₀ at messages places = messages * 17 + places
 
-loop-holds : tie.Need-loop-holds Inv-loop μ-loop
-loop-holds c = search needs
-
-walk-place-requires : tie.Need-walk-place-requires Inv-loop μ-loop
-walk-place-requires c κs = search needs
-
-enum-known-place : tie.Need-enum-known-place Inv-loop μ-loop
-enum-known-place c = search needs
-
-enum-known-place-2 : tie.Need-enum-known-place-2 Inv-loop μ-loop
-enum-known-place-2 c = search needs
-
 returns : tie.Need-returns Inv-loop μ-loop
 returns c =
     let at = c .before .before .before .before .before .loop in
     let some = c .before .before .before .before .if1 .taken in
     let turn = place-turn _ (at .places) (at .messages) (at .at) _ (omega (arith, some)) (c .before .before .before .walk-place .ensures) in
     going-bad _ _ _ _ _ (at .inv .0) _ turn _ (ap outcomeOf (c .before .place2 .given .1))
-
-sub-places : tie.Need-sub-places Inv-loop μ-loop
-sub-places c = search needs
-
-loop-less : tie.Need-loop-less Inv-loop μ-loop
-loop-less c = search needs
 
 loop-again : tie.Need-loop-again Inv-loop μ-loop
 loop-again c =
@@ -52,18 +34,6 @@ loop-again c =
     let turn = place-turn _ (at .places) (at .messages) (at .at) _ (omega (arith, some)) passes in
     (going-next _ _ _ _ _ (at .inv .0) _ turn _ gave (passes .inside _ gave), at .inv .1, omega (arith, at .inv .2))
 
-walk-fields-requires : tie.Need-walk-fields-requires Inv-loop μ-loop
-walk-fields-requires c κs = search needs
-
-enum-known-count : tie.Need-enum-known-count Inv-loop μ-loop
-enum-known-count c = search needs
-
-place-count-requires : tie.Need-place-count-requires Inv-loop μ-loop
-place-count-requires c κs = search needs
-
-enum-known-count-2 : tie.Need-enum-known-count-2 Inv-loop μ-loop
-enum-known-count-2 c = search needs
-
 returns-2 : tie.Need-returns-2 Inv-loop μ-loop
 returns-2 c =
     let at = c .before .before .before .before .before .before .loop in
@@ -71,9 +41,6 @@ returns-2 c =
     let turn = message-turn _ (at .places) (at .messages) (at .at) _ (c .before .before .before .before .before .if1 .left)
     (omega (arith, some)) (at .inv .0 .inside) (c .before .before .before .walk-fields .ensures) _ refl in
     going-bad _ _ _ _ _ (at .inv .0) _ turn _ (ap outcomeOf (c .before .count2 .given .1))
-
-sub-messages : tie.Need-sub-messages Inv-loop μ-loop
-sub-messages c = search needs
 
 loop-less-2 : tie.Need-loop-less-2 Inv-loop μ-loop
 loop-less-2 c =
@@ -100,9 +67,6 @@ loop-again-2 c =
       omega (arith, small, counted),
     )
 
-refuse-requires : tie.Need-refuse-requires Inv-loop μ-loop
-refuse-requires c κs = search needs
-
 returns-3 : tie.Need-returns-3 Inv-loop μ-loop
 returns-3 c = c .refuse .ensures ∙ messages-more _ _ _ _ _ (c .before .before .before .before .loop .inv .0)
     (c .before .before .before .if1 .left) (c .before .before .if2 .taken) (c .before .if3 .taken)
@@ -114,25 +78,6 @@ returns-4 c = messages-done _ _ _ _ _ (c .before .before .before .loop .inv .0) 
 pub walk-messages-spec : {M : Type 1} → statement M
 walk-messages-spec =
     tie.close
-    (tie.spec
-    Inv-loop
-    μ-loop
-    loop-holds
-    walk-place-requires
-    enum-known-place
-    enum-known-place-2
-    returns
-    sub-places
-    loop-less
-    loop-again
-    walk-fields-requires
-    enum-known-count
-    place-count-requires
-    enum-known-count-2
-    returns-2
-    sub-messages
-    loop-less-2
-    loop-again-2
-    refuse-requires
-    returns-3
-    returns-4)
+    (tie.spec Inv-loop μ-loop (λ c. search needs) (λ c κs. search needs) (λ c. search needs) (λ c. search needs) returns (λ c. search needs)
+    (λ c. search needs) loop-again (λ c κs. search needs) (λ c. search needs) (λ c κs. search needs) (λ c. search needs) returns-2
+    (λ c. search needs) loop-less-2 loop-again-2 (λ c κs. search needs) returns-3 returns-4)

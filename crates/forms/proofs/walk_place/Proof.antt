@@ -8,24 +8,12 @@ use borrow.Author.Needs.{needs}
 use Rattle.forms.proofs.walk_place.Statement.{statement}
 use Rattle.forms.proofs.walk_place.Tie as tie
 
-walk-fields-requires : tie.Need-walk-fields-requires
-walk-fields-requires c κs = search needs
-
-enum-known-held : tie.Need-enum-known-held
-enum-known-held c = search needs
-
 walk-fields-requires-2 : tie.Need-walk-fields-requires-2
 walk-fields-requires-2 c κs =
     let a = c .before .before .before .before .before .args in
     let end = fields-end (a .row .now) 6 2 (a .i) _ (c .before .before .before .before .before .pre)
     (sym (c .before .before .before .walk-fields .ensures) ∙ ap outcomeOf (c .before .held .given .1)) in
     (end .1, omega arith)
-
-enum-known-flag : tie.Need-enum-known-flag
-enum-known-flag c = search needs
-
-number-requires : tie.Need-number-requires
-number-requires c κs = search needs
 
 walk-second-requires : tie.Need-walk-second-requires
 walk-second-requires c κs =
@@ -51,12 +39,6 @@ returns c =
     (pass-then row _ _ _ _ _ (flag-of-place row _ (end .1) _ (c .before .before .before .before .before .before .walk-fields2 .ensures)) _ _
     (ap outcomeOf (c .before .before .before .before .flag .given .1))
     (flag-set row _ _ _ (sym (c .before .before .number .ensures .is) ∙ c .before .if1 .taken) (c .walk-second .ensures)))
-
-enum-known-flag-2 : tie.Need-enum-known-flag-2
-enum-known-flag-2 c = search needs
-
-enum-known-held-2 : tie.Need-enum-known-held-2
-enum-known-held-2 c = search needs
 
 returns-2 : tie.Need-returns-2
 returns-2 c =
@@ -95,16 +77,5 @@ returns-4 c =
 pub walk-place-spec : {M : Type 1} → statement M
 walk-place-spec =
     tie.close
-    (tie.spec
-    walk-fields-requires
-    enum-known-held
-    walk-fields-requires-2
-    enum-known-flag
-    number-requires
-    walk-second-requires
-    returns
-    enum-known-flag-2
-    enum-known-held-2
-    returns-2
-    returns-3
-    returns-4)
+    (tie.spec (λ c κs. search needs) (λ c. search needs) walk-fields-requires-2 (λ c. search needs) (λ c κs. search needs) walk-second-requires
+    returns (λ c. search needs) (λ c. search needs) returns-2 returns-3 returns-4)

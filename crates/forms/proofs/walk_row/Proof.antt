@@ -8,17 +8,8 @@ use borrow.Author.Needs.{needs}
 use Rattle.forms.proofs.walk_row.Statement.{statement}
 use Rattle.forms.proofs.walk_row.Tie as tie
 
-refuse-requires : tie.Need-refuse-requires
-refuse-requires c κs = search needs
-
 returns : tie.Need-returns
 returns c = c .refuse .ensures ∙ sym (row-none (c .before .before .before .args .row .now) (c .before .if1 .taken))
-
-number-requires : tie.Need-number-requires
-number-requires c κs = search needs
-
-refuse-requires-2 : tie.Need-refuse-requires-2
-refuse-requires-2 c κs = search needs
 
 returns-2 : tie.Need-returns-2
 returns-2 c =
@@ -26,23 +17,11 @@ returns-2 c =
     c .refuse2 .ensures ∙ sym (row-edition (c .before .before .before .before .before .args .row .now) (omega (arith, some))
     (λ e. c .before .if2 .taken (c .before .before .number .ensures .is ∙ e)))
 
-walk-head-requires : tie.Need-walk-head-requires
-walk-head-requires c κs = search needs
-
-enum-known-head : tie.Need-enum-known-head
-enum-known-head c = search needs
-
-messages-requires : tie.Need-messages-requires
-messages-requires c κs = search needs
-
 walk-messages-requires : tie.Need-walk-messages-requires
 walk-messages-requires c κs = (
   c .before .before .before .before .walk-head .ensures .inside _ (ap outcomeOf (c .before .before .head .given .1)),
   c .messages .ensures .small,
 )
-
-enum-known-head-2 : tie.Need-enum-known-head-2
-enum-known-head-2 c = search needs
 
 returns-3 : tie.Need-returns-3
 returns-3 c =
@@ -65,16 +44,5 @@ returns-4 c =
 pub walk-row-spec : {M : Type 1} → statement M
 walk-row-spec =
     tie.close
-    (tie.spec
-    refuse-requires
-    returns
-    number-requires
-    refuse-requires-2
-    returns-2
-    walk-head-requires
-    enum-known-head
-    messages-requires
-    walk-messages-requires
-    enum-known-head-2
-    returns-3
-    returns-4)
+    (tie.spec (λ c κs. search needs) returns (λ c κs. search needs) (λ c κs. search needs) returns-2 (λ c κs. search needs) (λ c. search needs)
+    (λ c κs. search needs) walk-messages-requires (λ c. search needs) returns-3 returns-4)

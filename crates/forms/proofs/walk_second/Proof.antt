@@ -9,27 +9,12 @@ use borrow.Author.Needs.{needs}
 use Rattle.forms.proofs.walk_second.Statement.{statement}
 use Rattle.forms.proofs.walk_second.Tie as tie
 
-walk-fields-requires : tie.Need-walk-fields-requires
-walk-fields-requires c κs = search needs
-
-enum-known-count : tie.Need-enum-known-count
-enum-known-count c = search needs
-
-number-requires : tie.Need-number-requires
-number-requires c κs = search needs
-
-add-walk-fields : tie.Need-add-walk-fields
-add-walk-fields c = search needs
-
 walk-fields-requires-2 : tie.Need-walk-fields-requires-2
 walk-fields-requires-2 c κs =
     let a = c .before .before .before .before .before .before .args in
     let end = fields-end (a .row .now) 4 1 (a .i) _ (c .before .before .before .before .before .before .pre)
     (sym (c .before .before .before .before .walk-fields .ensures) ∙ ap outcomeOf (c .before .before .count .given .1)) in
     (end .1, omega arith)
-
-enum-known-count-2 : tie.Need-enum-known-count-2
-enum-known-count-2 c = search needs
 
 returns : tie.Need-returns
 returns c =
@@ -51,12 +36,5 @@ returns-2 c =
 pub walk-second-spec : {M : Type 1} → statement M
 walk-second-spec =
     tie.close
-    (tie.spec
-    walk-fields-requires
-    enum-known-count
-    number-requires
-    add-walk-fields
-    walk-fields-requires-2
-    enum-known-count-2
-    returns
-    returns-2)
+    (tie.spec (λ c κs. search needs) (λ c. search needs) (λ c κs. search needs) (λ c. search needs) walk-fields-requires-2 (λ c. search needs)
+    returns returns-2)

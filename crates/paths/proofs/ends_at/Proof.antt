@@ -8,27 +8,6 @@ use borrow.Author.Needs.{needs}
 use Rattle.paths.proofs.ends_at.Statement.{statement}
 use Rattle.paths.proofs.ends_at.Tie as tie
 
-links-requires : tie.Need-links-requires
-links-requires c κs = search needs
-
-mul-number : tie.Need-mul-number
-mul-number c = search needs
-
-add-number : tie.Need-add-number
-add-number c = search needs
-
-number-requires : tie.Need-number-requires
-number-requires c κs = search needs
-
-mul-number-2 : tie.Need-mul-number-2
-mul-number-2 c = search needs
-
-add-number-2 : tie.Need-add-number-2
-add-number-2 c = search needs
-
-number-requires-2 : tie.Need-number-requires-2
-number-requires-2 c κs = search needs
-
 returns : tie.Need-returns
 returns c =
     let a = c .before .before .before .before .before .args in
@@ -44,13 +23,5 @@ returns-2 c =
 pub ends-at-spec : {M : Type 1} → statement M
 ends-at-spec =
     tie.close
-    (tie.spec
-    links-requires
-    mul-number
-    add-number
-    number-requires
-    mul-number-2
-    add-number-2
-    number-requires-2
-    returns
-    returns-2)
+    (tie.spec (λ c κs. search needs) (λ c. search needs) (λ c. search needs) (λ c κs. search needs) (λ c. search needs) (λ c. search needs)
+    (λ c κs. search needs) returns returns-2)

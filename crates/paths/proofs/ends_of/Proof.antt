@@ -8,26 +8,11 @@ use borrow.Author.Needs.{needs}
 use Rattle.paths.proofs.ends_of.Statement.{statement}
 use Rattle.paths.proofs.ends_of.Tie as tie
 
-mul-i : tie.Need-mul-i
-mul-i c = search needs
-
-add-i : tie.Need-add-i
-add-i c = search needs
-
-mul-from : tie.Need-mul-from
-mul-from c = search needs
-
 shared-slice-read-from : tie.Need-shared-slice-read-from
 shared-slice-read-from c = omega (arith, links-inside (c .before .args .row .now) (c .before .pre .0), c .before .pre .1)
 
 cast-from : tie.Need-cast-from
 cast-from c = omega (arith, c .shared-slice-known .given (c .before .args .e * 2 + 5))
-
-add-to : tie.Need-add-to
-add-to c = search needs
-
-mul-to : tie.Need-mul-to
-mul-to c = search needs
 
 shared-slice-read-to : tie.Need-shared-slice-read-to
 shared-slice-read-to c = omega (arith, links-inside (c .before .before .args .row .now) (c .before .before .pre .0), c .before .before .pre .1)
@@ -53,14 +38,5 @@ returns c =
 pub ends-of-spec : {M : Type 1} → statement M
 ends-of-spec =
     tie.close
-    (tie.spec
-    mul-i
-    add-i
-    mul-from
-    shared-slice-read-from
-    cast-from
-    add-to
-    mul-to
-    shared-slice-read-to
-    cast-to
-    returns)
+    (tie.spec (λ c. search needs) (λ c. search needs) (λ c. search needs) shared-slice-read-from cast-from (λ c. search needs)
+    (λ c. search needs) shared-slice-read-to cast-to returns)

@@ -36,17 +36,8 @@ on c =
       );
     }
 
-links-requires : tie.Need-links-requires Inv-loop μ-loop
-links-requires c κs = search needs
-
-array-write-met : tie.Need-array-write-met Inv-loop μ-loop
-array-write-met c = search needs
-
 loop-holds : tie.Need-loop-holds Inv-loop μ-loop
 loop-holds c = law.walking-first _ _ _ (c .before .before .before .pre .1)
-
-number-requires : tie.Need-number-requires Inv-loop μ-loop
-number-requires c κs = search needs
 
 returns : tie.Need-returns Inv-loop μ-loop
 returns c =
@@ -55,28 +46,13 @@ returns c =
     (c .before .number .ensures .is)
     (omega (arith, c .if1 .taken, c .before .before .before .before .links .ensures .is, link-count row))
 
-ends-of-requires : tie.Need-ends-of-requires Inv-loop μ-loop
-ends-of-requires c κs = search needs
-
 returns-2 : tie.Need-returns-2 Inv-loop μ-loop
 returns-2 c = law.walking-apart _ _ _ _ _ _ (c .before .before .before .before .before .before .loop .inv) _ (on (c .before)) _
     (c .before .before .ends-of .ensures) (c .if2 .taken)
 
-array-read-if3 : tie.Need-array-read-if3 Inv-loop μ-loop
-array-read-if3 c = search needs
-
 returns-3 : tie.Need-returns-3 Inv-loop μ-loop
 returns-3 c = law.walking-again _ _ _ _ _ _ (c .before .before .before .before .before .before .before .loop .inv) _ (on (c .before .before)) _
     (c .before .before .before .ends-of .ensures) (c .before .if2 .left) (c .if3 .taken)
-
-array-write-met-2 : tie.Need-array-write-met-2 Inv-loop μ-loop
-array-write-met-2 c = search needs
-
-add-k : tie.Need-add-k Inv-loop μ-loop
-add-k c = search needs
-
-loop-less : tie.Need-loop-less Inv-loop μ-loop
-loop-less c = search needs
 
 loop-again : tie.Need-loop-again Inv-loop μ-loop
 loop-again c = law.walking-next _ _ _ _ _ _ (c .before .before .before .before .before .before .before .loop .inv) _ (on (c .before .before)) _
@@ -88,20 +64,5 @@ returns-4 c = law.walking-done _ _ _ _ _ _ (c .before .loop .inv) (c .loop-test 
 pub first-fault-spec : {M : Type 1} → statement M
 first-fault-spec =
     tie.close
-    (tie.spec
-    Inv-loop
-    μ-loop
-    links-requires
-    array-write-met
-    loop-holds
-    number-requires
-    returns
-    ends-of-requires
-    returns-2
-    array-read-if3
-    returns-3
-    array-write-met-2
-    add-k
-    loop-less
-    loop-again
-    returns-4)
+    (tie.spec Inv-loop μ-loop (λ c κs. search needs) (λ c. search needs) loop-holds (λ c κs. search needs) returns (λ c κs. search needs)
+    returns-2 (λ c. search needs) returns-3 (λ c. search needs) (λ c. search needs) (λ c. search needs) loop-again returns-4)

@@ -14,12 +14,6 @@ Inv-loop row i path₀ n at₀ k₀ path at k = Copying row i n path₀ at k pat
 abbrev μ-loop : tie.MeasureT-loop
 μ-loop row i path₀ n at₀ k₀ path at k = n - k
 
-place-count-requires : tie.Need-place-count-requires Inv-loop μ-loop
-place-count-requires c κs = search needs
-
-add-at : tie.Need-add-at Inv-loop μ-loop
-add-at c = search needs
-
 loop-holds : tie.Need-loop-holds Inv-loop μ-loop
 loop-holds c = law.copying-first (c .before .before .before .args .row .now) (c .before .before .before .args .i)
     (c .place-count .result) (c .before .before .before .args .path .now) (c .place-count .ensures .is)
@@ -29,18 +23,6 @@ place-at-requires c κs = omega (arith, c .before .loop .inv .small, c .before .
 
 cast-path : tie.Need-cast-path Inv-loop μ-loop
 cast-path c = omega (arith, c .before .place-at .ensures .link-small)
-
-mul-path : tie.Need-mul-path Inv-loop μ-loop
-mul-path c = search needs
-
-slice-write-path : tie.Need-slice-write-path Inv-loop μ-loop
-slice-write-path c = search needs
-
-add-k : tie.Need-add-k Inv-loop μ-loop
-add-k c = search needs
-
-loop-less : tie.Need-loop-less Inv-loop μ-loop
-loop-less c = search needs
 
 loop-again : tie.Need-loop-again Inv-loop μ-loop
 loop-again c = let a = c .before .before .before .before .before .before .before .args in
@@ -60,18 +42,5 @@ returns c = let a = c .before .before .before .before .before .args in
 pub first-links-spec : {M : Type 1} → statement M
 first-links-spec =
     tie.close
-    (tie.spec
-    Inv-loop
-    μ-loop
-    place-count-requires
-    add-at
-    loop-holds
-    place-at-requires
-    cast-path
-    mul-path
-    slice-write-path
-    add-k
-    loop-less
-    loop-again
-    same-length
-    returns)
+    (tie.spec Inv-loop μ-loop (λ c κs. search needs) (λ c. search needs) loop-holds place-at-requires cast-path (λ c. search needs)
+    (λ c. search needs) (λ c. search needs) (λ c. search needs) loop-again same-length returns)

@@ -7,12 +7,10 @@ use Rattle.paths.proofs.Walk.{is-path-walked}
 use Rattle.paths.proofs.is_path.Statement.{statement}
 use Rattle.paths.proofs.is_path.Tie as tie
 
-first-fault-requires : tie.Need-first-fault-requires
-first-fault-requires c κs = search needs
-
 returns : tie.Need-returns
 returns c = let a = c .before .before .before .before .args in
     ap (λ f. eqb (f .rule) 0) (c .before .first-fault .ensures) ∙ is-path-walked (planOf (a .row .now)) (a .v) (a .path .now)
 
 pub is-path-spec : {M : Type 1} → statement M
-is-path-spec = tie.close (tie.spec first-fault-requires returns)
+is-path-spec =
+    tie.close (tie.spec (λ c κs. search needs) returns)

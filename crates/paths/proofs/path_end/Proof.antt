@@ -7,21 +7,9 @@ use Rattle.paths.proofs.Laws as law
 use Rattle.paths.proofs.path_end.Statement.{statement}
 use Rattle.paths.proofs.path_end.Tie as tie
 
-link-to-requires : tie.Need-link-to-requires
-link-to-requires c κs = search needs
-
 returns : tie.Need-returns
 returns c = let a = c .before .before .before .before .args in
     c .link-to .ensures ∙ law.end-none (planOf (a .row .now)) (a .path .now) (c .before .if1 .taken)
-
-sub-number : tie.Need-sub-number
-sub-number c = search needs
-
-number-requires : tie.Need-number-requires
-number-requires c κs = search needs
-
-link-to-requires-2 : tie.Need-link-to-requires-2
-link-to-requires-2 c κs = search needs
 
 returns-2 : tie.Need-returns-2
 returns-2 c = let a = c .before .before .before .before .before .args in
@@ -30,5 +18,4 @@ returns-2 c = let a = c .before .before .before .before .before .args in
 
 pub path-end-spec : {M : Type 1} → statement M
 path-end-spec =
-    tie.close
-    (tie.spec link-to-requires returns sub-number number-requires link-to-requires-2 returns-2)
+    tie.close (tie.spec (λ c κs. search needs) returns (λ c. search needs) (λ c κs. search needs) (λ c κs. search needs) returns-2)

@@ -9,39 +9,12 @@ use Rattle.probe_dispatch.proofs.Laws.{numbers-are, answered}
 use Rattle.probe_dispatch.proofs.answer.Statement.{statement}
 use Rattle.probe_dispatch.proofs.answer.Tie as tie
 
-which-requires : tie.Need-which-requires
-which-requires c κs = search needs
-
-size-requires : tie.Need-size-requires
-size-requires c κs = search needs
-
-numbers-requires : tie.Need-numbers-requires
-numbers-requires c κs = search needs
-
-slice-reshare-prefix-asked : tie.Need-slice-reshare-prefix-asked
-slice-reshare-prefix-asked c = search needs
-
 slice-aggregate-asked : tie.Need-slice-aggregate-asked
 slice-aggregate-asked c =
     let numbers = c .before .before .before .numbers in
     let few = numbers .ensures .few in
     let same = numbers .kept .1 .1 .0 in
     sym (length-take-le (numbers .result) (numbers .last .1 .1 .0) (omega arith))
-
-asked-requires : tie.Need-asked-requires
-asked-requires c κs = search needs
-
-same-length : tie.Need-same-length
-same-length c = search needs
-
-same-length-2 : tie.Need-same-length-2
-same-length-2 c = search needs
-
-same-length-3 : tie.Need-same-length-3
-same-length-3 c = search needs
-
-same-length-4 : tie.Need-same-length-4
-same-length-4 c = search needs
 
 returns : tie.Need-returns
 returns c =
@@ -62,15 +35,5 @@ returns c =
 pub answer-spec : {M : Type 1} → statement M
 answer-spec =
     tie.close
-    (tie.spec
-    which-requires
-    size-requires
-    numbers-requires
-    slice-reshare-prefix-asked
-    slice-aggregate-asked
-    asked-requires
-    same-length
-    same-length-2
-    same-length-3
-    same-length-4
-    returns)
+    (tie.spec (λ c κs. search needs) (λ c κs. search needs) (λ c κs. search needs) (λ c. search needs) slice-aggregate-asked
+    (λ c κs. search needs) (λ c. search needs) (λ c. search needs) (λ c. search needs) (λ c. search needs) returns)

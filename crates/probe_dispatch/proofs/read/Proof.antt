@@ -9,15 +9,6 @@ use Rattle.probe_dispatch.proofs.Laws.{read-unread, read-bad, read-good
 use Rattle.probe_dispatch.proofs.read.Statement.{statement}
 use Rattle.probe_dispatch.proofs.read.Tie as tie
 
-number-requires : tie.Need-number-requires
-number-requires c κs = search needs
-
-unknown-requires : tie.Need-unknown-requires
-unknown-requires c κs = search needs
-
-same-length : tie.Need-same-length
-same-length c = search needs
-
 returns : tie.Need-returns
 returns c =
     let s4 = c .before .before .before .before in
@@ -29,33 +20,12 @@ returns c =
     (read-unread (length (a .lent .now)) (a .line .now) (room .result) (room .ensures) (length (a .file .now)) (s4 .if1 .taken))
     (c .before .before .unknown .ensures)
 
-last-word-requires : tie.Need-last-word-requires
-last-word-requires c κs = search needs
-
-bytes-requires : tie.Need-bytes-requires
-bytes-requires c κs = search needs
-
-slice-reshare-prefix-read : tie.Need-slice-reshare-prefix-read
-slice-reshare-prefix-read c = search needs
-
 slice-aggregate-read : tie.Need-slice-aggregate-read
 slice-aggregate-read c =
     let bytes = c .before .before .before .before .bytes in
     let few = bytes .ensures .few in
     let same = bytes .kept .1 .0 in
     sym (length-take-le (bytes .result .n) (bytes .last .1 .0) (omega arith))
-
-read-requires : tie.Need-read-requires
-read-requires c κs = search needs
-
-same-length-2 : tie.Need-same-length-2
-same-length-2 c = search needs
-
-same-length-3 : tie.Need-same-length-3
-same-length-3 c = search needs
-
-same-length-4 : tie.Need-same-length-4
-same-length-4 c = search needs
 
 returns-2 : tie.Need-returns-2
 returns-2 c =
@@ -73,15 +43,6 @@ returns-2 c =
     (read-good (length (a .lent .now)) (a .line .now) (room .result) (room .ensures) (s14 .if1 .left) _ (s13 .last-word .ensures)
     (a .file .now) (bytes .last .1 .0) (bytes .result) (bytes .ensures) (s8 .if2 .taken))
     (s4 .read .ensures)
-
-unknown-requires-2 : tie.Need-unknown-requires-2
-unknown-requires-2 c κs = search needs
-
-same-length-5 : tie.Need-same-length-5
-same-length-5 c = search needs
-
-same-length-6 : tie.Need-same-length-6
-same-length-6 c = search needs
 
 returns-3 : tie.Need-returns-3
 returns-3 c =
@@ -102,21 +63,6 @@ returns-3 c =
 pub read-spec : {M : Type 1} → statement M
 read-spec =
     tie.close
-    (tie.spec
-    number-requires
-    unknown-requires
-    same-length
-    returns
-    last-word-requires
-    bytes-requires
-    slice-reshare-prefix-read
-    slice-aggregate-read
-    read-requires
-    same-length-2
-    same-length-3
-    same-length-4
-    returns-2
-    unknown-requires-2
-    same-length-5
-    same-length-6
-    returns-3)
+    (tie.spec (λ c κs. search needs) (λ c κs. search needs) (λ c. search needs) returns (λ c κs. search needs) (λ c κs. search needs)
+    (λ c. search needs) slice-aggregate-read (λ c κs. search needs) (λ c. search needs) (λ c. search needs) (λ c. search needs) returns-2
+    (λ c κs. search needs) (λ c. search needs) (λ c. search needs) returns-3)

@@ -59,74 +59,26 @@ line-8 c = line-7 (c .before .before .before)
 past-8 : (c : tie.Else8) → firstOf (line-8 c) (drop 8 questions) ≡ questionOf (line-8 c)
 past-8 c = word-not _ Spoil (drop 8 questions) _ (c .before .stands8 .ensures) (c .if8 .left) ∙ past-7 (c .before .before .before)
 
-slice-aggregate-stands : tie.Need-slice-aggregate-stands
-slice-aggregate-stands c = search needs
-
-stands-requires : tie.Need-stands-requires
-stands-requires c κs = search needs
-
 returns : tie.Need-returns
 returns c = word-is _ Read (drop 1 questions) _ (c .before .stands .ensures) (c .if1 .taken)
-
-slice-aggregate-stands-2 : tie.Need-slice-aggregate-stands-2
-slice-aggregate-stands-2 c = search needs
-
-stands-requires-2 : tie.Need-stands-requires-2
-stands-requires-2 c κs = search needs
 
 returns-2 : tie.Need-returns-2
 returns-2 c = word-is _ Write (drop 2 questions) _ (c .before .stands2 .ensures) (c .if2 .taken) ∙ past-1 (c .before .before .before)
 
-slice-aggregate-stands-3 : tie.Need-slice-aggregate-stands-3
-slice-aggregate-stands-3 c = search needs
-
-stands-requires-3 : tie.Need-stands-requires-3
-stands-requires-3 c κs = search needs
-
 returns-3 : tie.Need-returns-3
 returns-3 c = word-is _ Replay (drop 3 questions) _ (c .before .stands3 .ensures) (c .if3 .taken) ∙ past-2 (c .before .before .before)
-
-slice-aggregate-stands-4 : tie.Need-slice-aggregate-stands-4
-slice-aggregate-stands-4 c = search needs
-
-stands-requires-4 : tie.Need-stands-requires-4
-stands-requires-4 c κs = search needs
 
 returns-4 : tie.Need-returns-4
 returns-4 c = word-is _ Verdict (drop 4 questions) _ (c .before .stands4 .ensures) (c .if4 .taken) ∙ past-3 (c .before .before .before)
 
-slice-aggregate-stands-5 : tie.Need-slice-aggregate-stands-5
-slice-aggregate-stands-5 c = search needs
-
-stands-requires-5 : tie.Need-stands-requires-5
-stands-requires-5 c κs = search needs
-
 returns-5 : tie.Need-returns-5
 returns-5 c = word-is _ Slack (drop 5 questions) _ (c .before .stands5 .ensures) (c .if5 .taken) ∙ past-4 (c .before .before .before)
-
-slice-aggregate-stands-6 : tie.Need-slice-aggregate-stands-6
-slice-aggregate-stands-6 c = search needs
-
-stands-requires-6 : tie.Need-stands-requires-6
-stands-requires-6 c κs = search needs
 
 returns-6 : tie.Need-returns-6
 returns-6 c = word-is _ Second (drop 6 questions) _ (c .before .stands6 .ensures) (c .if6 .taken) ∙ past-5 (c .before .before .before)
 
-slice-aggregate-stands-7 : tie.Need-slice-aggregate-stands-7
-slice-aggregate-stands-7 c = search needs
-
-stands-requires-7 : tie.Need-stands-requires-7
-stands-requires-7 c κs = search needs
-
 returns-7 : tie.Need-returns-7
 returns-7 c = word-is _ Where (drop 7 questions) _ (c .before .stands7 .ensures) (c .if7 .taken) ∙ past-6 (c .before .before .before)
-
-slice-aggregate-stands-8 : tie.Need-slice-aggregate-stands-8
-slice-aggregate-stands-8 c = search needs
-
-stands-requires-8 : tie.Need-stands-requires-8
-stands-requires-8 c κs = search needs
 
 returns-8 : tie.Need-returns-8
 returns-8 c = word-is _ Spoil (drop 8 questions) _ (c .before .stands8 .ensures) (c .if8 .taken) ∙ past-7 (c .before .before .before)
@@ -137,29 +89,7 @@ returns-9 c = past-8 c
 pub which-spec : {M : Type 1} → statement M
 which-spec =
     tie.close
-    (tie.spec
-    slice-aggregate-stands
-    stands-requires
-    returns
-    slice-aggregate-stands-2
-    stands-requires-2
-    returns-2
-    slice-aggregate-stands-3
-    stands-requires-3
-    returns-3
-    slice-aggregate-stands-4
-    stands-requires-4
-    returns-4
-    slice-aggregate-stands-5
-    stands-requires-5
-    returns-5
-    slice-aggregate-stands-6
-    stands-requires-6
-    returns-6
-    slice-aggregate-stands-7
-    stands-requires-7
-    returns-7
-    slice-aggregate-stands-8
-    stands-requires-8
-    returns-8
-    returns-9)
+    (tie.spec (λ c. search needs) (λ c κs. search needs) returns (λ c. search needs) (λ c κs. search needs) returns-2 (λ c. search needs)
+    (λ c κs. search needs) returns-3 (λ c. search needs) (λ c κs. search needs) returns-4 (λ c. search needs) (λ c κs. search needs) returns-5
+    (λ c. search needs) (λ c κs. search needs) returns-6 (λ c. search needs) (λ c κs. search needs) returns-7 (λ c. search needs)
+    (λ c κs. search needs) returns-8 returns-9)

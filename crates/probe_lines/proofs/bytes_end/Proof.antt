@@ -4,17 +4,11 @@ use Rattle.text.proofs.Laid.{told-first, told-rest, then}
 use Rattle.probe_lines.proofs.bytes_end.Statement.{statement}
 use Rattle.probe_lines.proofs.bytes_end.Tie as tie
 
-put-byte-requires : tie.Need-put-byte-requires
-put-byte-requires c κs = search needs
-
 put-bytes-requires : tie.Need-put-bytes-requires
 put-bytes-requires c κs =
     let s3 = c .before .before .before in
     let s7 = s3 .before .before .before .before in
     told-first _ _ (told-rest (s3 .put-byte .ensures) _ (s7 .pre))
-
-kept-requires : tie.Need-kept-requires
-kept-requires c κs = search needs
 
 end-requires : tie.Need-end-requires
 end-requires c κs =
@@ -22,9 +16,6 @@ end-requires c κs =
     let s8 = s4 .before .before .before .before in
     let s12 = s8 .before .before .before .before in
     rw (c .kept .ensures) (told-rest (s4 .put-bytes .ensures) _ (told-rest (s8 .put-byte .ensures) _ (s12 .pre)))
-
-same-length : tie.Need-same-length
-same-length c = search needs
 
 returns : tie.Need-returns
 returns c =
@@ -35,5 +26,4 @@ returns c =
 
 pub bytes-end-spec : {M : Type 1} → statement M
 bytes-end-spec =
-    tie.close
-    (tie.spec put-byte-requires put-bytes-requires kept-requires end-requires same-length returns)
+    tie.close (tie.spec (λ c κs. search needs) put-bytes-requires (λ c κs. search needs) end-requires (λ c. search needs) returns)

@@ -5,30 +5,18 @@ use Rattle.probe_lines.specs.Answers.{ending}
 use Rattle.probe_lines.proofs.end.Statement.{statement}
 use Rattle.probe_lines.proofs.end.Tie as tie
 
-slice-aggregate-put-word : tie.Need-slice-aggregate-put-word
-slice-aggregate-put-word c = search needs
-
 put-word-requires : tie.Need-put-word-requires
 put-word-requires c κs =
     let s4 = c .before .before .before .before in
     let p : Told (s4 .args .at) (ending (s4 .args .kept)) = s4 .pre in rw (c .before .before .if1 .taken) at p
 
-same-length : tie.Need-same-length
-same-length c = search needs
-
 returns : tie.Need-returns
 returns c = rw (c .before .before .before .before .before .if1 .taken) (c .before .before .put-word .ensures)
-
-slice-aggregate-put-word-2 : tie.Need-slice-aggregate-put-word-2
-slice-aggregate-put-word-2 c = search needs
 
 put-word-requires-2 : tie.Need-put-word-requires-2
 put-word-requires-2 c κs =
     let s4 = c .before .before .before .before in
     let p : Told (s4 .args .at) (ending (s4 .args .kept)) = s4 .pre in rw (c .before .before .if1 .left) at p
-
-same-length-2 : tie.Need-same-length-2
-same-length-2 c = search needs
 
 returns-2 : tie.Need-returns-2
 returns-2 c = rw (c .before .before .before .before .before .if1 .left) (c .before .before .put-word2 .ensures)
@@ -36,12 +24,5 @@ returns-2 c = rw (c .before .before .before .before .before .if1 .left) (c .befo
 pub end-spec : {M : Type 1} → statement M
 end-spec =
     tie.close
-    (tie.spec
-    slice-aggregate-put-word
-    put-word-requires
-    same-length
-    returns
-    slice-aggregate-put-word-2
-    put-word-requires-2
-    same-length-2
+    (tie.spec (λ c. search needs) put-word-requires (λ c. search needs) returns (λ c. search needs) put-word-requires-2 (λ c. search needs)
     returns-2)

@@ -7,17 +7,11 @@ use Rattle.probe_lines.proofs.numbers_end.Tie as tie
 put-numbers-requires : tie.Need-put-numbers-requires
 put-numbers-requires c κs = told-first _ _ (c .before .before .before .pre)
 
-kept-16-requires : tie.Need-kept-16-requires
-kept-16-requires c κs = search needs
-
 end-requires : tie.Need-end-requires
 end-requires c κs =
     let s4 = c .before .before .before .before in
     let s8 = s4 .before .before .before .before in
     rw (c .kept-16 .ensures) (told-rest (s4 .put-numbers .ensures) _ (s8 .pre))
-
-same-length : tie.Need-same-length
-same-length c = search needs
 
 returns : tie.Need-returns
 returns c =
@@ -27,4 +21,4 @@ returns c =
 
 pub numbers-end-spec : {M : Type 1} → statement M
 numbers-end-spec =
-    tie.close (tie.spec put-numbers-requires kept-16-requires end-requires same-length returns)
+    tie.close (tie.spec put-numbers-requires (λ c κs. search needs) end-requires (λ c. search needs) returns)

@@ -4,9 +4,6 @@ use borrow.Author.Tests.{lt-ltb, le-ltb}
 use Rattle.probe_lines.proofs.numbers_of.Statement.{statement}
 use Rattle.probe_lines.proofs.numbers_of.Tie as tie
 
-mul-result : tie.Need-mul-result
-mul-result c = search needs
-
 returns : tie.Need-returns
 returns c = rw (lt-ltb (c .before .args .pairs) 4 (c .if1 .taken))
 
@@ -14,4 +11,5 @@ returns-2 : tie.Need-returns-2
 returns-2 c = rw (le-ltb (c .before .args .pairs) 4 (c .if1 .left))
 
 pub numbers-of-spec : {M : Type 1} → statement M
-numbers-of-spec = tie.close (tie.spec mul-result returns returns-2)
+numbers-of-spec =
+    tie.close (tie.spec (λ c. search needs) returns returns-2)

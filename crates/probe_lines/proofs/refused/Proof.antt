@@ -5,20 +5,11 @@ use Rattle.text.proofs.Laid.{told-first, told-rest, then}
 use Rattle.probe_lines.proofs.refused.Statement.{statement}
 use Rattle.probe_lines.proofs.refused.Tie as tie
 
-slice-aggregate-put-word : tie.Need-slice-aggregate-put-word
-slice-aggregate-put-word c = search needs
-
-put-word-requires : tie.Need-put-word-requires
-put-word-requires c κs = search needs
-
 put-decimal-requires : tie.Need-put-decimal-requires
 put-decimal-requires c κs =
     let s3 = c .before .before .before in
     let s7 = s3 .before .before .before .before in
     told-first _ _ (told-rest (s3 .put-word .ensures) _ (s7 .pre))
-
-slice-aggregate-put-word-2 : tie.Need-slice-aggregate-put-word-2
-slice-aggregate-put-word-2 c = search needs
 
 put-word-requires-2 : tie.Need-put-word-requires-2
 put-word-requires-2 c κs =
@@ -36,9 +27,6 @@ put-decimal-requires-2 c κs =
     let s16 = s12 .before .before .before .before in
     told-rest (s3 .put-word2 .ensures) _ (told-rest (s8 .put-decimal .ensures) _ (told-rest (s12 .put-word .ensures) _ (s16 .pre)))
 
-same-length : tie.Need-same-length
-same-length c = search needs
-
 returns : tie.Need-returns
 returns c =
     let s6 = c .before .before .before .before .before .before in
@@ -49,12 +37,5 @@ returns c =
 pub refused-spec : {M : Type 1} → statement M
 refused-spec =
     tie.close
-    (tie.spec
-    slice-aggregate-put-word
-    put-word-requires
-    put-decimal-requires
-    slice-aggregate-put-word-2
-    put-word-requires-2
-    put-decimal-requires-2
-    same-length
-    returns)
+    (tie.spec (λ c. search needs) (λ c κs. search needs) put-decimal-requires (λ c. search needs) put-word-requires-2 put-decimal-requires-2
+    (λ c. search needs) returns)

@@ -6,9 +6,6 @@ use Rattle.probe_lines.proofs.Short.{told-told}
 use Rattle.probe_lines.proofs.told.Statement.{statement}
 use Rattle.probe_lines.proofs.told.Tie as tie
 
-enum-known-answer : tie.Need-enum-known-answer
-enum-known-answer c = search needs
-
 ok-requires : tie.Need-ok-requires
 ok-requires c κs =
     let s6 = c .before .before .before .before .before .before in
@@ -20,16 +17,10 @@ numbers-end-requires c κs =
     let s10 = s3 .before .before .before .before .before .before .before in
     told-rest (s3 .ok .ensures) _ (told-told _ (gives _) (s10 .args .written) (s10 .args .lent .now) (s10 .pre))
 
-enum-known-answer-2 : tie.Need-enum-known-answer-2
-enum-known-answer-2 c = search needs
-
 refused-requires : tie.Need-refused-requires
 refused-requires c κs =
     let s6 = c .before .before .before .before .before .before in
     told-first _ _ (told-told _ (refused _) (s6 .args .written) (s6 .args .lent .now) (s6 .pre))
-
-kept-16-requires : tie.Need-kept-16-requires
-kept-16-requires c κs = search needs
 
 end-requires : tie.Need-end-requires
 end-requires c κs =
@@ -38,17 +29,11 @@ end-requires c κs =
     rw (c .kept-16 .ensures)
     (told-rest (s4 .refused .ensures) _ (told-told _ (refused _) (s11 .args .written) (s11 .args .lent .now) (s11 .pre)))
 
-same-length : tie.Need-same-length
-same-length c = search needs
-
 returns : tie.Need-returns
 returns c =
     let s6 = c .before .before .before .before .before .before in
     let s9 = s6 .before .before .before in
     rw (s9 .answer .given .1) (then (s6 .ok .ensures) (c .before .before .numbers-end .ensures))
-
-same-length-2 : tie.Need-same-length-2
-same-length-2 c = search needs
 
 returns-2 : tie.Need-returns-2
 returns-2 c =
@@ -60,15 +45,5 @@ returns-2 c =
 pub told-spec : {M : Type 1} → statement M
 told-spec =
     tie.close
-    (tie.spec
-    enum-known-answer
-    ok-requires
-    numbers-end-requires
-    enum-known-answer-2
-    refused-requires
-    kept-16-requires
-    end-requires
-    same-length
-    returns
-    same-length-2
-    returns-2)
+    (tie.spec (λ c. search needs) ok-requires numbers-end-requires (λ c. search needs) refused-requires (λ c κs. search needs) end-requires
+    (λ c. search needs) returns (λ c. search needs) returns-2)

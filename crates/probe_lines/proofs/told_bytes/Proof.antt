@@ -6,9 +6,6 @@ use Rattle.probe_lines.proofs.Short.{bytes-told}
 use Rattle.probe_lines.proofs.told_bytes.Statement.{statement}
 use Rattle.probe_lines.proofs.told_bytes.Tie as tie
 
-enum-known-answer : tie.Need-enum-known-answer
-enum-known-answer c = search needs
-
 ok-requires : tie.Need-ok-requires
 ok-requires c κs =
     let s6 = c .before .before .before .before .before .before in
@@ -20,16 +17,10 @@ bytes-end-requires c κs =
     let s10 = s3 .before .before .before .before .before .before .before in
     told-rest (s3 .ok .ensures) _ (bytes-told _ (gives _) (s10 .args .lent .now) (s10 .pre))
 
-enum-known-answer-2 : tie.Need-enum-known-answer-2
-enum-known-answer-2 c = search needs
-
 refused-requires : tie.Need-refused-requires
 refused-requires c κs =
     let s6 = c .before .before .before .before .before .before in
     told-first _ _ (bytes-told _ (refused _) (s6 .args .lent .now) (s6 .pre))
-
-kept-requires : tie.Need-kept-requires
-kept-requires c κs = search needs
 
 end-requires : tie.Need-end-requires
 end-requires c κs =
@@ -37,17 +28,11 @@ end-requires c κs =
     let s11 = s4 .before .before .before .before .before .before .before in
     rw (c .kept .ensures) (told-rest (s4 .refused .ensures) _ (bytes-told _ (refused _) (s11 .args .lent .now) (s11 .pre)))
 
-same-length : tie.Need-same-length
-same-length c = search needs
-
 returns : tie.Need-returns
 returns c =
     let s6 = c .before .before .before .before .before .before in
     let s9 = s6 .before .before .before in
     rw (s9 .answer .given .1) (then (s6 .ok .ensures) (c .before .before .bytes-end .ensures))
-
-same-length-2 : tie.Need-same-length-2
-same-length-2 c = search needs
 
 returns-2 : tie.Need-returns-2
 returns-2 c =
@@ -59,15 +44,5 @@ returns-2 c =
 pub told-bytes-spec : {M : Type 1} → statement M
 told-bytes-spec =
     tie.close
-    (tie.spec
-    enum-known-answer
-    ok-requires
-    bytes-end-requires
-    enum-known-answer-2
-    refused-requires
-    kept-requires
-    end-requires
-    same-length
-    returns
-    same-length-2
-    returns-2)
+    (tie.spec (λ c. search needs) ok-requires bytes-end-requires (λ c. search needs) refused-requires (λ c κs. search needs) end-requires
+    (λ c. search needs) returns (λ c. search needs) returns-2)

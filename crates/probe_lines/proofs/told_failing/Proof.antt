@@ -5,15 +5,6 @@ use Rattle.probe_lines.proofs.Short.{failing-told}
 use Rattle.probe_lines.proofs.told_failing.Statement.{statement}
 use Rattle.probe_lines.proofs.told_failing.Tie as tie
 
-numbers-of-requires : tie.Need-numbers-of-requires
-numbers-of-requires c κs = search needs
-
-slice-aggregate-put-word : tie.Need-slice-aggregate-put-word
-slice-aggregate-put-word c = search needs
-
-put-word-requires : tie.Need-put-word-requires
-put-word-requires c κs = search needs
-
 put-decimal-requires : tie.Need-put-decimal-requires
 put-decimal-requires c κs =
     let s3 = c .before .before .before in
@@ -30,9 +21,6 @@ numbers-end-requires c κs =
     (told-rest (s3 .put-decimal .ensures) _
     (told-rest (s7 .put-word .ensures) _ (failing-told _ (s13 .args .pairs) (s13 .args .lent .now) (s13 .pre))))
 
-same-length : tie.Need-same-length
-same-length c = search needs
-
 returns : tie.Need-returns
 returns c =
     let s6 = c .before .before .before .before .before .before in
@@ -43,11 +31,5 @@ returns c =
 pub told-failing-spec : {M : Type 1} → statement M
 told-failing-spec =
     tie.close
-    (tie.spec
-    numbers-of-requires
-    slice-aggregate-put-word
-    put-word-requires
-    put-decimal-requires
-    numbers-end-requires
-    same-length
+    (tie.spec (λ c κs. search needs) (λ c. search needs) (λ c κs. search needs) put-decimal-requires numbers-end-requires (λ c. search needs)
     returns)

@@ -5,12 +5,6 @@ use Rattle.probe_lines.proofs.Short.{part-told}
 use Rattle.probe_lines.proofs.told_part.Statement.{statement}
 use Rattle.probe_lines.proofs.told_part.Tie as tie
 
-slice-aggregate-put-word : tie.Need-slice-aggregate-put-word
-slice-aggregate-put-word c = search needs
-
-put-word-requires : tie.Need-put-word-requires
-put-word-requires c κs = search needs
-
 put-decimal-requires : tie.Need-put-decimal-requires
 put-decimal-requires c κs =
     let s3 = c .before .before .before in
@@ -34,9 +28,6 @@ put-byte-requires c κs =
     told-rest (s3 .spaced .ensures) _
     (told-rest (s7 .put-decimal .ensures) _ (told-rest (s11 .put-word .ensures) _ (part-told _ (s16 .args .links .now) (s16 .pre))))
 
-same-length : tie.Need-same-length
-same-length c = search needs
-
 returns : tie.Need-returns
 returns c =
     let s6 = c .before .before .before .before .before .before in
@@ -47,11 +38,4 @@ returns c =
 pub told-part-spec : {M : Type 1} → statement M
 told-part-spec =
     tie.close
-    (tie.spec
-    slice-aggregate-put-word
-    put-word-requires
-    put-decimal-requires
-    spaced-requires
-    put-byte-requires
-    same-length
-    returns)
+    (tie.spec (λ c. search needs) (λ c κs. search needs) put-decimal-requires spaced-requires put-byte-requires (λ c. search needs) returns)

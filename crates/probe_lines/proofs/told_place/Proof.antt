@@ -5,12 +5,6 @@ use Rattle.probe_lines.proofs.Short.{place-told}
 use Rattle.probe_lines.proofs.told_place.Statement.{statement}
 use Rattle.probe_lines.proofs.told_place.Tie as tie
 
-slice-aggregate-put-word : tie.Need-slice-aggregate-put-word
-slice-aggregate-put-word c = search needs
-
-put-word-requires : tie.Need-put-word-requires
-put-word-requires c κs = search needs
-
 put-number-requires : tie.Need-put-number-requires
 put-number-requires c κs =
     let s3 = c .before .before .before in
@@ -24,9 +18,6 @@ put-number-requires-2 c κs =
     let s11 = s7 .before .before .before .before in
     told-rest (s3 .put-number .ensures) _ (told-rest (s7 .put-word .ensures) _ (place-told _ (s11 .args .index) (s11 .args .n) (s11 .pre)))
 
-same-length : tie.Need-same-length
-same-length c = search needs
-
 returns : tie.Need-returns
 returns c =
     let s6 = c .before .before .before .before .before .before in
@@ -35,11 +26,4 @@ returns c =
 
 pub told-place-spec : {M : Type 1} → statement M
 told-place-spec =
-    tie.close
-    (tie.spec
-    slice-aggregate-put-word
-    put-word-requires
-    put-number-requires
-    put-number-requires-2
-    same-length
-    returns)
+    tie.close (tie.spec (λ c. search needs) (λ c κs. search needs) put-number-requires put-number-requires-2 (λ c. search needs) returns)

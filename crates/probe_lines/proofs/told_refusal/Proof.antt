@@ -14,11 +14,9 @@ put-byte-requires c κs =
     let s6 = s3 .before .before .before in
     told-rest (s3 .refused .ensures) _ (refusal-told _ (s6 .args .refusal) (s6 .pre))
 
-same-length : tie.Need-same-length
-same-length c = search needs
-
 returns : tie.Need-returns
 returns c = then (c .before .before .before .before .before .before .refused .ensures) (c .before .before .put-byte .ensures)
 
 pub told-refusal-spec : {M : Type 1} → statement M
-told-refusal-spec = tie.close (tie.spec refused-requires put-byte-requires same-length returns)
+told-refusal-spec =
+    tie.close (tie.spec refused-requires put-byte-requires (λ c. search needs) returns)

@@ -5,23 +5,11 @@ use Rattle.probe_lines.proofs.Short.{resistant-told}
 use Rattle.probe_lines.proofs.told_resistant.Statement.{statement}
 use Rattle.probe_lines.proofs.told_resistant.Tie as tie
 
-slice-aggregate-put-word : tie.Need-slice-aggregate-put-word
-slice-aggregate-put-word c = search needs
-
-put-word-requires : tie.Need-put-word-requires
-put-word-requires c κs = search needs
-
-kept-16-requires : tie.Need-kept-16-requires
-kept-16-requires c κs = search needs
-
 end-requires : tie.Need-end-requires
 end-requires c κs =
     let s4 = c .before .before .before .before in
     let s9 = s4 .before .before .before .before .before in
     rw (c .kept-16 .ensures) (told-rest (s4 .put-word .ensures) _ (resistant-told _ (s9 .args .lent .now) (s9 .pre)))
-
-same-length : tie.Need-same-length
-same-length c = search needs
 
 returns : tie.Need-returns
 returns c =
@@ -31,11 +19,4 @@ returns c =
 
 pub told-resistant-spec : {M : Type 1} → statement M
 told-resistant-spec =
-    tie.close
-    (tie.spec
-    slice-aggregate-put-word
-    put-word-requires
-    kept-16-requires
-    end-requires
-    same-length
-    returns)
+    tie.close (tie.spec (λ c. search needs) (λ c κs. search needs) (λ c κs. search needs) end-requires (λ c. search needs) returns)

@@ -7,12 +7,6 @@ use Rattle.probe_lines.proofs.Short.{slack-told}
 use Rattle.probe_lines.proofs.told_slack.Statement.{statement}
 use Rattle.probe_lines.proofs.told_slack.Tie as tie
 
-slice-aggregate-put-word : tie.Need-slice-aggregate-put-word
-slice-aggregate-put-word c = search needs
-
-put-word-requires : tie.Need-put-word-requires
-put-word-requires c κs = search needs
-
 put-signed-requires : tie.Need-put-signed-requires
 put-signed-requires c κs =
     let s3 = c .before .before .before in
@@ -27,9 +21,6 @@ put-byte-requires c κs =
     told-rest (signed-puts (s11 .args .slots) (s11 .fits .slots) (s3 .put-signed .ensures)) _
     (told-rest (s7 .put-word .ensures) _ (slack-told _ (s11 .args .slots) (s11 .pre)))
 
-same-length : tie.Need-same-length
-same-length c = search needs
-
 returns : tie.Need-returns
 returns c =
     let s6 = c .before .before .before .before .before .before in
@@ -40,11 +31,4 @@ returns c =
 
 pub told-slack-spec : {M : Type 1} → statement M
 told-slack-spec =
-    tie.close
-    (tie.spec
-    slice-aggregate-put-word
-    put-word-requires
-    put-signed-requires
-    put-byte-requires
-    same-length
-    returns)
+    tie.close (tie.spec (λ c. search needs) (λ c κs. search needs) put-signed-requires put-byte-requires (λ c. search needs) returns)

@@ -7,15 +7,6 @@ use borrow.Author.Needs.{needs}
 use Rattle.probe_questions.proofs.events.Statement.{statement}
 use Rattle.probe_questions.proofs.events.Tie as tie
 
-timeout-requires : tie.Need-timeout-requires
-timeout-requires c κs = search needs
-
-messages-requires : tie.Need-messages-requires
-messages-requires c κs = search needs
-
-mul-result : tie.Need-mul-result
-mul-result c = search needs
-
 mul-result-2 : tie.Need-mul-result-2
 mul-result-2 c =
     let few = mul-le-mul (c .before .timeout .ensures .small) (mul-le-mul-left 2 (c .messages .ensures .small)) in
@@ -25,4 +16,5 @@ returns : tie.Need-returns
 returns c = ap₂ (λ (t m : ℕ). t * (2 * m)) (c .before .timeout .ensures .is) (c .messages .ensures .is)
 
 pub events-spec : {M : Type 1} → statement M
-events-spec = tie.close (tie.spec timeout-requires messages-requires mul-result mul-result-2 returns)
+events-spec =
+    tie.close (tie.spec (λ c κs. search needs) (λ c κs. search needs) (λ c. search needs) mul-result-2 returns)

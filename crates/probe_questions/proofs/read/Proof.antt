@@ -9,41 +9,14 @@ use Rattle.probe_questions.proofs.Lent.{too-few, enough, near, told-res
 use Rattle.probe_questions.proofs.read.Statement.{statement}
 use Rattle.probe_questions.proofs.read.Tie as tie
 
-add-all : tie.Need-add-all
-add-all c = search needs
-
-unknown-requires : tie.Need-unknown-requires
-unknown-requires c κs = search needs
-
-same-length : tie.Need-same-length
-same-length c = search needs
-
 returns : tie.Need-returns
 returns c = puts-as (too-few _ _ _ _ refl (c .before .before .before .before .if1 .taken)) (c .before .before .unknown .ensures)
-
-slice-relend-prefix-fill-16 : tie.Need-slice-relend-prefix-fill-16
-slice-relend-prefix-fill-16 c = search needs
 
 slice-aggregate-fill-16 : tie.Need-slice-aggregate-fill-16
 slice-aggregate-fill-16 c = sym (length-take-le _ _ (search needs))
 
-fill-16-requires : tie.Need-fill-16-requires
-fill-16-requires c κs = search needs
-
-slice-relend-prefix-read-file : tie.Need-slice-relend-prefix-read-file
-slice-relend-prefix-read-file c = search needs
-
 slice-aggregate-read-file : tie.Need-slice-aggregate-read-file
 slice-aggregate-read-file c = sym (length-take-le _ _ (search needs))
-
-read-file-requires : tie.Need-read-file-requires
-read-file-requires c κs = search needs
-
-count-requires : tie.Need-count-requires
-count-requires c κs = search needs
-
-slice-reshare-prefix-told : tie.Need-slice-reshare-prefix-told
-slice-reshare-prefix-told c = search needs
 
 slice-aggregate-told : tie.Need-slice-aggregate-told
 slice-aggregate-told c = sym (length-take-le _ _ (search needs))
@@ -52,12 +25,6 @@ told-requires : tie.Need-told-requires
 told-requires c κs =
     let s15 = c .before .before .before .before .before .before .before .before .before .before .before .before .before .before .before in
     near _ (s15 .args .room + 16) _ (s15 .pre .1) (search needs)
-
-same-length-2 : tie.Need-same-length-2
-same-length-2 c = search needs
-
-same-length-3 : tie.Need-same-length-3
-same-length-3 c = search needs
 
 returns-2 : tie.Need-returns-2
 returns-2 c =
@@ -75,21 +42,6 @@ returns-2 c =
 pub read-spec : {M : Type 1} → statement M
 read-spec =
     tie.close
-    (tie.spec
-    add-all
-    unknown-requires
-    same-length
-    returns
-    slice-relend-prefix-fill-16
-    slice-aggregate-fill-16
-    fill-16-requires
-    slice-relend-prefix-read-file
-    slice-aggregate-read-file
-    read-file-requires
-    count-requires
-    slice-reshare-prefix-told
-    slice-aggregate-told
-    told-requires
-    same-length-2
-    same-length-3
-    returns-2)
+    (tie.spec (λ c. search needs) (λ c κs. search needs) (λ c. search needs) returns (λ c. search needs) slice-aggregate-fill-16
+    (λ c κs. search needs) (λ c. search needs) slice-aggregate-read-file (λ c κs. search needs) (λ c κs. search needs) (λ c. search needs)
+    slice-aggregate-told told-requires (λ c. search needs) (λ c. search needs) returns-2)

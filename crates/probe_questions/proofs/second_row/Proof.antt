@@ -4,25 +4,10 @@ use Rattle.probe_questions.proofs.Lines.{puts-as, part-long, part-short
 use Rattle.probe_questions.proofs.second_row.Statement.{statement}
 use Rattle.probe_questions.proofs.second_row.Tie as tie
 
-second-path-requires : tie.Need-second-path-requires
-second-path-requires c κs = search needs
-
-unknown-requires : tie.Need-unknown-requires
-unknown-requires c κs = search needs
-
-same-length : tie.Need-same-length
-same-length c = search needs
-
 returns : tie.Need-returns
 returns c =
     let links = c .before .before .before .before .before .second-path .ensures .shows in
     puts-as (part-long _ _ links (c .before .before .before .before .if1 .taken)) (c .before .before .unknown .ensures)
-
-told-part-requires : tie.Need-told-part-requires
-told-part-requires c κs = search needs
-
-same-length-2 : tie.Need-same-length-2
-same-length-2 c = search needs
 
 returns-2 : tie.Need-returns-2
 returns-2 c =
@@ -32,11 +17,4 @@ returns-2 c =
 pub second-row-spec : {M : Type 1} → statement M
 second-row-spec =
     tie.close
-    (tie.spec
-    second-path-requires
-    unknown-requires
-    same-length
-    returns
-    told-part-requires
-    same-length-2
-    returns-2)
+    (tie.spec (λ c κs. search needs) (λ c κs. search needs) (λ c. search needs) returns (λ c κs. search needs) (λ c. search needs) returns-2)

@@ -4,31 +4,10 @@ use Rattle.probe_questions.proofs.Lines.{puts-as, slots-line, no-slots-
 use Rattle.probe_questions.proofs.slack_row.Statement.{statement}
 use Rattle.probe_questions.proofs.slack_row.Tie as tie
 
-slack-requires : tie.Need-slack-requires
-slack-requires c κs = search needs
-
-enum-known-spare : tie.Need-enum-known-spare
-enum-known-spare c = search needs
-
-told-slack-requires : tie.Need-told-slack-requires
-told-slack-requires c κs = search needs
-
-enum-known-spare-2 : tie.Need-enum-known-spare-2
-enum-known-spare-2 c = search needs
-
-told-refusal-requires : tie.Need-told-refusal-requires
-told-refusal-requires c κs = search needs
-
-same-length : tie.Need-same-length
-same-length c = search needs
-
 returns : tie.Need-returns
 returns c =
     let slack = c .before .before .before .before .before .before .before .slack .ensures in
     puts-as (slots-line _ _ _ _ _ slack (c .before .before .before .before .before .spare .given .1)) (c .before .before .told-slack .ensures)
-
-same-length-2 : tie.Need-same-length-2
-same-length-2 c = search needs
 
 returns-2 : tie.Need-returns-2
 returns-2 c =
@@ -40,13 +19,5 @@ returns-2 c =
 pub slack-row-spec : {M : Type 1} → statement M
 slack-row-spec =
     tie.close
-    (tie.spec
-    slack-requires
-    enum-known-spare
-    told-slack-requires
-    enum-known-spare-2
-    told-refusal-requires
-    same-length
-    returns
-    same-length-2
-    returns-2)
+    (tie.spec (λ c κs. search needs) (λ c. search needs) (λ c κs. search needs) (λ c. search needs) (λ c κs. search needs) (λ c. search needs)
+    returns (λ c. search needs) returns-2)

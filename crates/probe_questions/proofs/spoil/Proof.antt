@@ -5,33 +5,12 @@ use Rattle.probe_questions.proofs.Lines.{puts-as, spoil-none, spoil-num
 use Rattle.probe_questions.proofs.spoil.Statement.{statement}
 use Rattle.probe_questions.proofs.spoil.Tie as tie
 
-number-requires : tie.Need-number-requires
-number-requires c κs = search needs
-
-number-requires-2 : tie.Need-number-requires-2
-number-requires-2 c κs = search needs
-
-unknown-requires : tie.Need-unknown-requires
-unknown-requires c κs = search needs
-
-same-length : tie.Need-same-length
-same-length c = search needs
-
 returns : tie.Need-returns
 returns c =
     let s4 = c .before .before .before .before in
     let s11 = s4 .before .before .before .before .before .before .before in
     let a = s11 .args in
     puts-as (spoil-none (length (a .lent .now)) (length (a .file .now)) (a .given .now) (s4 .if1 .taken)) (c .before .before .unknown .ensures)
-
-spoil-row-requires : tie.Need-spoil-row-requires
-spoil-row-requires c κs = search needs
-
-same-length-2 : tie.Need-same-length-2
-same-length-2 c = search needs
-
-same-length-3 : tie.Need-same-length-3
-same-length-3 c = search needs
 
 returns-2 : tie.Need-returns-2
 returns-2 c =
@@ -46,15 +25,6 @@ returns-2 c =
     (spoil-numbers (length (a .lent .now)) (length (a .file .now)) (a .given .now) _ _
     (s10 .number .ensures .is) (s9 .number2 .ensures .is) (s8 .if1 .left) (s7 .if2 .taken))
     (s4 .spoil-row .ensures)
-
-spoil-bytes-requires : tie.Need-spoil-bytes-requires
-spoil-bytes-requires c κs = search needs
-
-same-length-4 : tie.Need-same-length-4
-same-length-4 c = search needs
-
-same-length-5 : tie.Need-same-length-5
-same-length-5 c = search needs
 
 returns-3 : tie.Need-returns-3
 returns-3 c =
@@ -73,17 +43,5 @@ returns-3 c =
 pub spoil-spec : {M : Type 1} → statement M
 spoil-spec =
     tie.close
-    (tie.spec
-    number-requires
-    number-requires-2
-    unknown-requires
-    same-length
-    returns
-    spoil-row-requires
-    same-length-2
-    same-length-3
-    returns-2
-    spoil-bytes-requires
-    same-length-4
-    same-length-5
-    returns-3)
+    (tie.spec (λ c κs. search needs) (λ c κs. search needs) (λ c κs. search needs) (λ c. search needs) returns (λ c κs. search needs)
+    (λ c. search needs) (λ c. search needs) returns-2 (λ c κs. search needs) (λ c. search needs) (λ c. search needs) returns-3)

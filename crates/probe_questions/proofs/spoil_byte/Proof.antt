@@ -8,22 +8,10 @@ use lib.Seq.{set-out}
 use Rattle.probe_questions.proofs.spoil_byte.Statement.{statement}
 use Rattle.probe_questions.proofs.spoil_byte.Tie as tie
 
-fill-requires : tie.Need-fill-requires
-fill-requires c κs = search needs
-
-slice-write-lent : tie.Need-slice-write-lent
-slice-write-lent c = search needs
-
-same-length : tie.Need-same-length
-same-length c = search needs
-
 returns : tie.Need-returns
 returns c =
     let index = c .before .before .before .before .before .before .args .index in
     ap (λ (s : List ℕ). set s index 0) (c .before .before .before .fill .ensures)
-
-same-length-2 : tie.Need-same-length-2
-same-length-2 c = search needs
 
 returns-2 : tie.Need-returns-2
 returns-2 c =
@@ -34,4 +22,4 @@ returns-2 c =
 
 pub spoil-byte-spec : {M : Type 1} → statement M
 spoil-byte-spec =
-    tie.close (tie.spec fill-requires slice-write-lent same-length returns same-length-2 returns-2)
+    tie.close (tie.spec (λ c κs. search needs) (λ c. search needs) (λ c. search needs) returns (λ c. search needs) returns-2)

@@ -12,26 +12,11 @@ use Rattle.probe_questions.proofs.Lent.{too-few, enough, near}
 use Rattle.probe_questions.proofs.spoil_bytes.Statement.{statement}
 use Rattle.probe_questions.proofs.spoil_bytes.Tie as tie
 
-unknown-requires : tie.Need-unknown-requires
-unknown-requires c κs = search needs
-
-same-length : tie.Need-same-length
-same-length c = search needs
-
 returns : tie.Need-returns
 returns c = puts-as (too-few _ _ _ _ refl (c .before .before .before .before .if1 .taken)) (c .before .before .unknown .ensures)
 
-slice-relend-prefix-spoil-byte : tie.Need-slice-relend-prefix-spoil-byte
-slice-relend-prefix-spoil-byte c = search needs
-
 slice-aggregate-spoil-byte : tie.Need-slice-aggregate-spoil-byte
 slice-aggregate-spoil-byte c = sym (length-take-le 16 (c .before .before .before .before .args .lent .now) (search needs))
-
-spoil-byte-requires : tie.Need-spoil-byte-requires
-spoil-byte-requires c κs = search needs
-
-slice-reshare-prefix-told-bytes : tie.Need-slice-reshare-prefix-told-bytes
-slice-reshare-prefix-told-bytes c = search needs
 
 slice-aggregate-told-bytes : tie.Need-slice-aggregate-told-bytes
 slice-aggregate-told-bytes c =
@@ -47,12 +32,6 @@ told-bytes-requires c κs =
     let lent = (s4 .spoil-byte .last .0) ++ drop 16 (s9 .args .lent .now) in
     near _ 16 lent (s9 .pre) (search needs)
 
-same-length-2 : tie.Need-same-length-2
-same-length-2 c = search needs
-
-same-length-3 : tie.Need-same-length-3
-same-length-3 c = search needs
-
 returns-2 : tie.Need-returns-2
 returns-2 c =
     let fits = c .before .before .before .before .before .before .before .before .before .if1 .left in
@@ -66,16 +45,5 @@ returns-2 c =
 pub spoil-bytes-spec : {M : Type 1} → statement M
 spoil-bytes-spec =
     tie.close
-    (tie.spec
-    unknown-requires
-    same-length
-    returns
-    slice-relend-prefix-spoil-byte
-    slice-aggregate-spoil-byte
-    spoil-byte-requires
-    slice-reshare-prefix-told-bytes
-    slice-aggregate-told-bytes
-    told-bytes-requires
-    same-length-2
-    same-length-3
-    returns-2)
+    (tie.spec (λ c κs. search needs) (λ c. search needs) returns (λ c. search needs) slice-aggregate-spoil-byte (λ c κs. search needs)
+    (λ c. search needs) slice-aggregate-told-bytes told-bytes-requires (λ c. search needs) (λ c. search needs) returns-2)

@@ -8,25 +8,10 @@ use lib.Seq.{set-out}
 use Rattle.probe_questions.proofs.spoil_number.Statement.{statement}
 use Rattle.probe_questions.proofs.spoil_number.Tie as tie
 
-fill-16-requires : tie.Need-fill-16-requires
-fill-16-requires c κs = search needs
-
-mul-lent : tie.Need-mul-lent
-mul-lent c = search needs
-
-slice-write-lent : tie.Need-slice-write-lent
-slice-write-lent c = search needs
-
-same-length : tie.Need-same-length
-same-length c = search needs
-
 returns : tie.Need-returns
 returns c =
     let index = c .before .before .before .before .before .before .args .index in
     ap (λ (s : List ℕ). set s index 0) (c .before .before .before .fill-16 .ensures)
-
-same-length-2 : tie.Need-same-length-2
-same-length-2 c = search needs
 
 returns-2 : tie.Need-returns-2
 returns-2 c =
@@ -38,11 +23,4 @@ returns-2 c =
 pub spoil-number-spec : {M : Type 1} → statement M
 spoil-number-spec =
     tie.close
-    (tie.spec
-    fill-16-requires
-    mul-lent
-    slice-write-lent
-    same-length
-    returns
-    same-length-2
-    returns-2)
+    (tie.spec (λ c κs. search needs) (λ c. search needs) (λ c. search needs) (λ c. search needs) returns (λ c. search needs) returns-2)

@@ -12,26 +12,11 @@ use Rattle.probe_questions.proofs.Lent.{too-few, enough, near}
 use Rattle.probe_questions.proofs.spoil_row.Statement.{statement}
 use Rattle.probe_questions.proofs.spoil_row.Tie as tie
 
-unknown-requires : tie.Need-unknown-requires
-unknown-requires c κs = search needs
-
-same-length : tie.Need-same-length
-same-length c = search needs
-
 returns : tie.Need-returns
 returns c = puts-as (too-few _ _ _ _ refl (c .before .before .before .before .if1 .taken)) (c .before .before .unknown .ensures)
 
-slice-relend-prefix-spoil-number : tie.Need-slice-relend-prefix-spoil-number
-slice-relend-prefix-spoil-number c = search needs
-
 slice-aggregate-spoil-number : tie.Need-slice-aggregate-spoil-number
 slice-aggregate-spoil-number c = sym (length-take-le 16 (c .before .before .before .before .args .lent .now) (search needs))
-
-spoil-number-requires : tie.Need-spoil-number-requires
-spoil-number-requires c κs = search needs
-
-slice-reshare-prefix-told : tie.Need-slice-reshare-prefix-told
-slice-reshare-prefix-told c = search needs
 
 slice-aggregate-told : tie.Need-slice-aggregate-told
 slice-aggregate-told c =
@@ -47,12 +32,6 @@ told-requires c κs =
     let lent = (s4 .spoil-number .last .0) ++ drop 16 (s9 .args .lent .now) in
     near _ 16 lent (s9 .pre) (search needs)
 
-same-length-2 : tie.Need-same-length-2
-same-length-2 c = search needs
-
-same-length-3 : tie.Need-same-length-3
-same-length-3 c = search needs
-
 returns-2 : tie.Need-returns-2
 returns-2 c =
     let fits = c .before .before .before .before .before .before .before .before .before .if1 .left in
@@ -66,16 +45,5 @@ returns-2 c =
 pub spoil-row-spec : {M : Type 1} → statement M
 spoil-row-spec =
     tie.close
-    (tie.spec
-    unknown-requires
-    same-length
-    returns
-    slice-relend-prefix-spoil-number
-    slice-aggregate-spoil-number
-    spoil-number-requires
-    slice-reshare-prefix-told
-    slice-aggregate-told
-    told-requires
-    same-length-2
-    same-length-3
-    returns-2)
+    (tie.spec (λ c κs. search needs) (λ c. search needs) returns (λ c. search needs) slice-aggregate-spoil-number (λ c κs. search needs)
+    (λ c. search needs) slice-aggregate-told told-requires (λ c. search needs) (λ c. search needs) returns-2)

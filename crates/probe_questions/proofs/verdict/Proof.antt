@@ -8,32 +8,8 @@ use Rattle.probe_questions.proofs.Lent.{near, behind, ruled, judges-few
 use Rattle.probe_questions.proofs.verdict.Statement.{statement}
 use Rattle.probe_questions.proofs.verdict.Tie as tie
 
-number-requires : tie.Need-number-requires
-number-requires c κs = search needs
-
-number-requires-2 : tie.Need-number-requires-2
-number-requires-2 c κs = search needs
-
-number-requires-3 : tie.Need-number-requires-3
-number-requires-3 c κs = search needs
-
-add-all : tie.Need-add-all
-add-all c = search needs
-
-unknown-requires : tie.Need-unknown-requires
-unknown-requires c κs = search needs
-
-same-length : tie.Need-same-length
-same-length c = search needs
-
 returns : tie.Need-returns
 returns c = lays (judges-few _ _ (c .before .before .before .before .if1 .taken)) (c .before .before .unknown .ensures)
-
-unknown-requires-2 : tie.Need-unknown-requires-2
-unknown-requires-2 c κs = search needs
-
-same-length-2 : tie.Need-same-length-2
-same-length-2 c = search needs
 
 returns-2 : tie.Need-returns-2
 returns-2 c =
@@ -45,35 +21,11 @@ returns-2 c =
     (judges-short _ _ _ _ _ (s8 .number .ensures .is) (s7 .number2 .ensures .is) (s6 .number3 .ensures .is) (s4 .if2 .taken))
     (c .before .before .unknown2 .ensures)
 
-slice-relend-prefix-fill-16 : tie.Need-slice-relend-prefix-fill-16
-slice-relend-prefix-fill-16 c = search needs
-
 slice-aggregate-fill-16 : tie.Need-slice-aggregate-fill-16
 slice-aggregate-fill-16 c = sym (length-take-le _ _ (search needs))
 
-fill-16-requires : tie.Need-fill-16-requires
-fill-16-requires c κs = search needs
-
-sub-verdict : tie.Need-sub-verdict
-sub-verdict c = search needs
-
-part-verdict-start : tie.Need-part-verdict-start
-part-verdict-start c = search needs
-
-part-verdict-end : tie.Need-part-verdict-end
-part-verdict-end c = search needs
-
-slice-relend-prefix-verdict : tie.Need-slice-relend-prefix-verdict
-slice-relend-prefix-verdict c = search needs
-
 slice-aggregate-verdict : tie.Need-slice-aggregate-verdict
 slice-aggregate-verdict c = sym (length-take-le _ _ (search needs))
-
-verdict-requires : tie.Need-verdict-requires
-verdict-requires c κs = search needs
-
-slice-reshare-prefix-told-ruling : tie.Need-slice-reshare-prefix-told-ruling
-slice-reshare-prefix-told-ruling c = search needs
 
 slice-aggregate-told-ruling : tie.Need-slice-aggregate-told-ruling
 slice-aggregate-told-ruling c = sym (length-take-le _ _ (search needs))
@@ -83,12 +35,6 @@ told-ruling-requires c κs =
     let s13 = c .before .before .before .before .before .before .before .before .before .before .before .before .before in
     let s19 = s13 .before .before .before .before .before .before in
     near _ (s13 .number3 .result + 16) _ (s19 .pre) (search needs)
-
-same-length-3 : tie.Need-same-length-3
-same-length-3 c = search needs
-
-same-length-4 : tie.Need-same-length-4
-same-length-4 c = search needs
 
 returns-3 : tie.Need-returns-3
 returns-3 c =
@@ -111,29 +57,8 @@ returns-3 c =
 pub verdict-spec : {M : Type 1} → statement M
 verdict-spec =
     tie.close
-    (tie.spec
-    number-requires
-    number-requires-2
-    number-requires-3
-    add-all
-    unknown-requires
-    same-length
-    returns
-    unknown-requires-2
-    same-length-2
-    returns-2
-    slice-relend-prefix-fill-16
-    slice-aggregate-fill-16
-    fill-16-requires
-    sub-verdict
-    part-verdict-start
-    part-verdict-end
-    slice-relend-prefix-verdict
-    slice-aggregate-verdict
-    verdict-requires
-    slice-reshare-prefix-told-ruling
-    slice-aggregate-told-ruling
-    told-ruling-requires
-    same-length-3
-    same-length-4
+    (tie.spec (λ c κs. search needs) (λ c κs. search needs) (λ c κs. search needs) (λ c. search needs) (λ c κs. search needs)
+    (λ c. search needs) returns (λ c κs. search needs) (λ c. search needs) returns-2 (λ c. search needs) slice-aggregate-fill-16
+    (λ c κs. search needs) (λ c. search needs) (λ c. search needs) (λ c. search needs) (λ c. search needs) slice-aggregate-verdict
+    (λ c κs. search needs) (λ c. search needs) slice-aggregate-told-ruling told-ruling-requires (λ c. search needs) (λ c. search needs)
     returns-3)

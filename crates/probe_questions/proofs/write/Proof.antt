@@ -11,26 +11,8 @@ use Rattle.probe_questions.proofs.Lent.{too-few, no-room, all-fits, nea
 use Rattle.probe_questions.proofs.write.Statement.{statement}
 use Rattle.probe_questions.proofs.write.Tie as tie
 
-number-requires : tie.Need-number-requires
-number-requires c κs = search needs
-
-add-all : tie.Need-add-all
-add-all c = search needs
-
-unknown-requires : tie.Need-unknown-requires
-unknown-requires c κs = search needs
-
-same-length : tie.Need-same-length
-same-length c = search needs
-
 returns : tie.Need-returns
 returns c = puts-as (too-few _ _ _ _ refl (c .before .before .before .before .if1 .taken)) (c .before .before .unknown .ensures)
-
-unknown-requires-2 : tie.Need-unknown-requires-2
-unknown-requires-2 c κs = search needs
-
-same-length-2 : tie.Need-same-length-2
-same-length-2 c = search needs
 
 returns-2 : tie.Need-returns-2
 returns-2 c =
@@ -40,35 +22,11 @@ returns-2 c =
     let room = s6 .number .ensures .is in
     puts-as (no-room _ _ _ _ _ _ _ refl room (s5 .if1 .left) (s4 .if2 .taken)) (c .before .before .unknown2 .ensures)
 
-slice-relend-prefix-fill : tie.Need-slice-relend-prefix-fill
-slice-relend-prefix-fill c = search needs
-
 slice-aggregate-fill : tie.Need-slice-aggregate-fill
 slice-aggregate-fill c = sym (length-take-le _ _ (search needs))
 
-fill-requires : tie.Need-fill-requires
-fill-requires c κs = search needs
-
-sub-write-file : tie.Need-sub-write-file
-sub-write-file c = search needs
-
-part-write-file-start : tie.Need-part-write-file-start
-part-write-file-start c = search needs
-
-part-write-file-end : tie.Need-part-write-file-end
-part-write-file-end c = search needs
-
-slice-relend-prefix-write-file : tie.Need-slice-relend-prefix-write-file
-slice-relend-prefix-write-file c = search needs
-
 slice-aggregate-write-file : tie.Need-slice-aggregate-write-file
 slice-aggregate-write-file c = sym (length-take-le _ _ (search needs))
-
-write-file-requires : tie.Need-write-file-requires
-write-file-requires c κs = search needs
-
-slice-reshare-prefix-told-bytes : tie.Need-slice-reshare-prefix-told-bytes
-slice-reshare-prefix-told-bytes c = search needs
 
 slice-aggregate-told-bytes : tie.Need-slice-aggregate-told-bytes
 slice-aggregate-told-bytes c = sym (length-take-le _ _ (search needs))
@@ -78,12 +36,6 @@ told-bytes-requires c κs =
     let s13 = c .before .before .before .before .before .before .before .before .before .before .before .before .before in
     let s17 = s13 .before .before .before .before in
     near _ (s13 .number .result + 16) _ (s17 .pre) (search needs)
-
-same-length-3 : tie.Need-same-length-3
-same-length-3 c = search needs
-
-same-length-4 : tie.Need-same-length-4
-same-length-4 c = search needs
 
 returns-3 : tie.Need-returns-3
 returns-3 c =
@@ -105,27 +57,7 @@ returns-3 c =
 pub write-spec : {M : Type 1} → statement M
 write-spec =
     tie.close
-    (tie.spec
-    number-requires
-    add-all
-    unknown-requires
-    same-length
-    returns
-    unknown-requires-2
-    same-length-2
-    returns-2
-    slice-relend-prefix-fill
-    slice-aggregate-fill
-    fill-requires
-    sub-write-file
-    part-write-file-start
-    part-write-file-end
-    slice-relend-prefix-write-file
-    slice-aggregate-write-file
-    write-file-requires
-    slice-reshare-prefix-told-bytes
-    slice-aggregate-told-bytes
-    told-bytes-requires
-    same-length-3
-    same-length-4
-    returns-3)
+    (tie.spec (λ c κs. search needs) (λ c. search needs) (λ c κs. search needs) (λ c. search needs) returns (λ c κs. search needs)
+    (λ c. search needs) returns-2 (λ c. search needs) slice-aggregate-fill (λ c κs. search needs) (λ c. search needs) (λ c. search needs)
+    (λ c. search needs) (λ c. search needs) slice-aggregate-write-file (λ c κs. search needs) (λ c. search needs) slice-aggregate-told-bytes
+    told-bytes-requires (λ c. search needs) (λ c. search needs) returns-3)

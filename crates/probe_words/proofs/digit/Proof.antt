@@ -5,9 +5,6 @@ use borrow.Author.Tests.{le-leb, lt-leb}
 use Rattle.probe_words.proofs.digit.Statement.{statement}
 use Rattle.probe_words.proofs.digit.Tie as tie
 
-sub-result : tie.Need-sub-result
-sub-result c = search needs
-
 returns : tie.Need-returns
 returns c = let b = c .before .args .b in rw (lt-leb 48 b (omega arith), lt-leb 97 b (omega arith))
 
@@ -30,4 +27,5 @@ returns-5 c =
     rw (le-leb 48 b (omega arith), lt-leb b 57 (omega arith), le-leb 97 b (omega arith), lt-leb b 102 (omega arith))
 
 pub digit-spec : {M : Type 1} → statement M
-digit-spec = tie.close (tie.spec sub-result returns returns-2 returns-3 returns-4 returns-5)
+digit-spec =
+    tie.close (tie.spec (λ c. search needs) returns returns-2 returns-3 returns-4 returns-5)

@@ -10,4 +10,5 @@ returns-2 : tie.Need-returns-2
 returns-2 c = rw (le-ltb (c .before .args .a) (c .before .args .b) (c .if1 .left))
 
 pub least-spec : {M : Type 1} → statement M
-least-spec = tie.close (tie.spec returns returns-2)
+least-spec =
+    tie.close (tie.spec returns returns-2)

@@ -7,20 +7,8 @@ use Rattle.probe_words.proofs.number.Tie as tie
 returns : tie.Need-returns
 returns c = number-past _ _ (c .if1 .taken)
 
-byte-requires : tie.Need-byte-requires
-byte-requires c κs = search needs
-
 returns-2 : tie.Need-returns-2
 returns-2 c = number-other _ _ _ (c .before .byte .ensures .is) (c .if2 .taken)
-
-add-number-at : tie.Need-add-number-at
-add-number-at c = search needs
-
-number-at-requires : tie.Need-number-at-requires
-number-at-requires c κs = search needs
-
-add-if3 : tie.Need-add-if3
-add-if3 c = search needs
 
 returns-3 : tie.Need-returns-3
 returns-3 c = number-none _ _ _ (c .before .before .before .before .byte .ensures .is) _ (c .before .before .number-at .ensures) (c .if3 .taken)
@@ -35,12 +23,4 @@ returns-4 c =
 pub number-spec : {M : Type 1} → statement M
 number-spec =
     tie.close
-    (tie.spec
-    returns
-    byte-requires
-    returns-2
-    add-number-at
-    number-at-requires
-    add-if3
-    returns-3
-    returns-4)
+    (tie.spec returns (λ c κs. search needs) returns-2 (λ c. search needs) (λ c κs. search needs) (λ c. search needs) returns-3 returns-4)

@@ -9,26 +9,8 @@ use Rattle.probe_words.proofs.pair.Tie as tie
 returns : tie.Need-returns
 returns c = let a = c .before .before .args in pair-past (a .word .now) (a .i) (c .if1 .taken)
 
-add-if2 : tie.Need-add-if2
-add-if2 c = search needs
-
 returns-2 : tie.Need-returns-2
 returns-2 c = let a = c .before .before .before .args in pair-half (a .word .now) (a .i) (c .if2 .taken)
-
-byte-requires : tie.Need-byte-requires
-byte-requires c κs = search needs
-
-digit-requires : tie.Need-digit-requires
-digit-requires c κs = search needs
-
-add-byte : tie.Need-add-byte
-add-byte c = search needs
-
-byte-requires-2 : tie.Need-byte-requires-2
-byte-requires-2 c κs = search needs
-
-digit-requires-2 : tie.Need-digit-requires-2
-digit-requires-2 c κs = search needs
 
 returns-3 : tie.Need-returns-3
 returns-3 c =
@@ -50,15 +32,6 @@ returns-4 c =
     (s4 .digit .ensures ∙ ap hexOf (s5 .byte .ensures .is)) (c .before .before .digit2 .ensures ∙ ap hexOf (s3 .byte2 .ensures .is))
     (c .if4 .taken)
 
-mul-t6 : tie.Need-mul-t6
-mul-t6 c = search needs
-
-add-t8 : tie.Need-add-t8
-add-t8 c = search needs
-
-add-t9 : tie.Need-add-t9
-add-t9 c = search needs
-
 returns-5 : tie.Need-returns-5
 returns-5 c =
     let s3 = c .before .before .before in
@@ -74,18 +47,5 @@ returns-5 c =
 pub pair-spec : {M : Type 1} → statement M
 pair-spec =
     tie.close
-    (tie.spec
-    returns
-    add-if2
-    returns-2
-    byte-requires
-    digit-requires
-    add-byte
-    byte-requires-2
-    digit-requires-2
-    returns-3
-    returns-4
-    mul-t6
-    add-t8
-    add-t9
-    returns-5)
+    (tie.spec returns (λ c. search needs) returns-2 (λ c κs. search needs) (λ c κs. search needs) (λ c. search needs) (λ c κs. search needs)
+    (λ c κs. search needs) returns-3 returns-4 (λ c. search needs) (λ c. search needs) (λ c. search needs) returns-5)

@@ -6,20 +6,15 @@ use Rattle.probe_words.proofs.Parts.{least-right}
 use Rattle.probe_words.proofs.put.Statement.{statement}
 use Rattle.probe_words.proofs.put.Tie as tie
 
-least-requires : tie.Need-least-requires
-least-requires c κs = search needs
-
 put-word-requires : tie.Need-put-word-requires
 put-word-requires c κs =
     let s4 = c .before .before .before .before in
     let a = s4 .args in
     record { fits = omega (arith, least-right (a .at) (length (a .out .now))) }
 
-same-length : tie.Need-same-length
-same-length c = search needs
-
 returns : tie.Need-returns
 returns c = rw (c .before .before .before .before .least .ensures) at (c .before .before .put-word .ensures)
 
 pub put-spec : {M : Type 1} → statement M
-put-spec = tie.close (tie.spec least-requires put-word-requires same-length returns)
+put-spec =
+    tie.close (tie.spec (λ c κs. search needs) put-word-requires (λ c. search needs) returns)

@@ -4,21 +4,12 @@ use Rattle.probe_words.proofs.Parts.{least-take, hex-none, hex-some}
 use Rattle.probe_words.proofs.put_bytes.Statement.{statement}
 use Rattle.probe_words.proofs.put_bytes.Tie as tie
 
-least-requires : tie.Need-least-requires
-least-requires c κs = search needs
-
-slice-aggregate-put-word : tie.Need-slice-aggregate-put-word
-slice-aggregate-put-word c = search needs
-
 put-word-requires : tie.Need-put-word-requires
 put-word-requires c κs =
     let s3 = c .before .before .before in
     let s6 = s3 .before .before .before in
     let a = s6 .args in
     rw (hex-none (a .n) _ (a .bytes .now) (s3 .least .ensures) (c .before .before .if1 .taken)) (s6 .pre)
-
-same-length : tie.Need-same-length
-same-length c = search needs
 
 returns : tie.Need-returns
 returns c =
@@ -42,9 +33,6 @@ put-pairs-requires c κs =
     let a = s6 .args in
     rw (hex-some (a .n) _ (a .bytes .now) (s3 .least .ensures) (c .before .before .if1 .left)) (s6 .pre)
 
-same-length-2 : tie.Need-same-length-2
-same-length-2 c = search needs
-
 returns-2 : tie.Need-returns-2
 returns-2 c =
     let s5 = c .before .before .before .before .before in
@@ -56,13 +44,5 @@ returns-2 c =
 pub put-bytes-spec : {M : Type 1} → statement M
 put-bytes-spec =
     tie.close
-    (tie.spec
-    least-requires
-    slice-aggregate-put-word
-    put-word-requires
-    same-length
-    returns
-    slice-aggregate-put-pairs
-    put-pairs-requires
-    same-length-2
-    returns-2)
+    (tie.spec (λ c κs. search needs) (λ c. search needs) put-word-requires (λ c. search needs) returns slice-aggregate-put-pairs
+    put-pairs-requires (λ c. search needs) returns-2)

@@ -7,20 +7,15 @@ use Rattle.probe_words.proofs.Parts.{least-right}
 use Rattle.probe_words.proofs.put_number.Statement.{statement}
 use Rattle.probe_words.proofs.put_number.Tie as tie
 
-least-requires : tie.Need-least-requires
-least-requires c κs = search needs
-
 put-decimal-requires : tie.Need-put-decimal-requires
 put-decimal-requires c κs =
     let s3 = c .before .before .before in
     let a = s3 .args in
     record { fits = omega (arith, least-right (a .at) (length (a .out .now)), decimal-all (a .n)) }
 
-same-length : tie.Need-same-length
-same-length c = search needs
-
 returns : tie.Need-returns
 returns c = rw (c .before .before .before .before .least .ensures) at (c .before .before .put-decimal .ensures)
 
 pub put-number-spec : {M : Type 1} → statement M
-put-number-spec = tie.close (tie.spec least-requires put-decimal-requires same-length returns)
+put-number-spec =
+    tie.close (tie.spec (λ c κs. search needs) put-decimal-requires (λ c. search needs) returns)

@@ -4,9 +4,6 @@ use Rattle.probe_words.proofs.Parts.{least-take, take-least}
 use Rattle.probe_words.proofs.put_numbers.Statement.{statement}
 use Rattle.probe_words.proofs.put_numbers.Tie as tie
 
-least-requires : tie.Need-least-requires
-least-requires c κs = search needs
-
 slice-aggregate-spaced : tie.Need-slice-aggregate-spaced
 slice-aggregate-spaced c =
     let s5 = c .before .before .before .before .before in
@@ -16,12 +13,9 @@ slice-aggregate-spaced c =
 spaced-requires : tie.Need-spaced-requires
 spaced-requires c κs = rw (c .before .before .least .ensures, take-least) (c .before .before .before .before .before .pre)
 
-same-length : tie.Need-same-length
-same-length c = search needs
-
 returns : tie.Need-returns
 returns c = rw (c .before .before .before .before .before .least .ensures, take-least) at (c .before .before .spaced .ensures)
 
 pub put-numbers-spec : {M : Type 1} → statement M
 put-numbers-spec =
-    tie.close (tie.spec least-requires slice-aggregate-spaced spaced-requires same-length returns)
+    tie.close (tie.spec (λ c κs. search needs) slice-aggregate-spaced spaced-requires (λ c. search needs) returns)

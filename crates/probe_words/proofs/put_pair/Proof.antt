@@ -3,20 +3,8 @@ use borrow.Author.Needs.{needs}
 use Rattle.probe_words.proofs.put_pair.Statement.{statement}
 use Rattle.probe_words.proofs.put_pair.Tie as tie
 
-glyph-requires : tie.Need-glyph-requires
-glyph-requires c κs = search needs
-
-glyph-requires-2 : tie.Need-glyph-requires-2
-glyph-requires-2 c κs = search needs
-
-slice-aggregate-put-word : tie.Need-slice-aggregate-put-word
-slice-aggregate-put-word c = search needs
-
 put-word-requires : tie.Need-put-word-requires
 put-word-requires c κs = rw (c .before .before .glyph .ensures, c .before .glyph2 .ensures) (c .before .before .before .before .before .pre)
-
-same-length : tie.Need-same-length
-same-length c = search needs
 
 returns : tie.Need-returns
 returns c =
@@ -26,11 +14,4 @@ returns c =
 
 pub put-pair-spec : {M : Type 1} → statement M
 put-pair-spec =
-    tie.close
-    (tie.spec
-    glyph-requires
-    glyph-requires-2
-    slice-aggregate-put-word
-    put-word-requires
-    same-length
-    returns)
+    tie.close (tie.spec (λ c κs. search needs) (λ c κs. search needs) (λ c. search needs) put-word-requires (λ c. search needs) returns)

@@ -17,20 +17,11 @@ abbrev μ-loop : tie.MeasureT-loop
 loop-holds : tie.Need-loop-holds Inv-loop μ-loop
 loop-holds c = (search needs, left-first _ _ _)
 
-shared-slice-read-put-pair : tie.Need-shared-slice-read-put-pair Inv-loop μ-loop
-shared-slice-read-put-pair c = search needs
-
 put-pair-requires : tie.Need-put-pair-requires Inv-loop μ-loop
 put-pair-requires c κs =
     let s3 = c .before .before .before in
     let s6 = s3 .before .before .before in
     left-told _ _ (s6 .pre) (left-is (pairs-more _ _ (c .before .before .loop-test .taken)) (s3 .loop .inv .1))
-
-add-i : tie.Need-add-i Inv-loop μ-loop
-add-i c = search needs
-
-loop-less : tie.Need-loop-less Inv-loop μ-loop
-loop-less c = search needs
 
 loop-again : tie.Need-loop-again Inv-loop μ-loop
 loop-again c =
@@ -47,14 +38,5 @@ returns c = left-done (left-is (pairs-done _ _ (c .loop-test .left)) (c .before 
 pub put-pairs-spec : {M : Type 1} → statement M
 put-pairs-spec =
     tie.close
-    (tie.spec
-    Inv-loop
-    μ-loop
-    loop-holds
-    shared-slice-read-put-pair
-    put-pair-requires
-    add-i
-    loop-less
-    loop-again
-    same-length
+    (tie.spec Inv-loop μ-loop loop-holds (λ c. search needs) put-pair-requires (λ c. search needs) (λ c. search needs) loop-again same-length
     returns)

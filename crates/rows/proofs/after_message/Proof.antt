@@ -7,15 +7,6 @@ use Rattle.scope.specs.Plan.{afterPlaces}
 use Rattle.rows.proofs.after_message.Statement.{statement}
 use Rattle.rows.proofs.after_message.Tie as tie
 
-add-after-places : tie.Need-add-after-places
-add-after-places c = search needs
-
-place-count-requires : tie.Need-place-count-requires
-place-count-requires c κs = search needs
-
-after-places-requires : tie.Need-after-places-requires
-after-places-requires c κs = search needs
-
 returns : tie.Need-returns
 returns c =
     let a = c .before .before .before .args in
@@ -26,4 +17,4 @@ returns c =
 
 pub after-message-spec : {M : Type 1} → statement M
 after-message-spec =
-    tie.close (tie.spec add-after-places place-count-requires after-places-requires returns)
+    tie.close (tie.spec (λ c. search needs) (λ c κs. search needs) (λ c κs. search needs) returns)

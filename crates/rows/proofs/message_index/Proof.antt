@@ -16,15 +16,6 @@ Inv-loop row m at₀ k₀ at k =
 abbrev μ-loop : tie.MeasureT-loop
 μ-loop row m at₀ k₀ at k = m - k
 
-links-requires : tie.Need-links-requires Inv-loop μ-loop
-links-requires c κs = search needs
-
-mul-at : tie.Need-mul-at Inv-loop μ-loop
-mul-at c = search needs
-
-add-at : tie.Need-add-at Inv-loop μ-loop
-add-at c = search needs
-
 loop-holds : tie.Need-loop-holds Inv-loop μ-loop
 loop-holds c =
     let a = c .before .before .args in
@@ -33,15 +24,6 @@ loop-holds c =
       omega arith,
       omega arith,
     )
-
-after-message-requires : tie.Need-after-message-requires Inv-loop μ-loop
-after-message-requires c κs = search needs
-
-add-k : tie.Need-add-k Inv-loop μ-loop
-add-k c = search needs
-
-loop-less : tie.Need-loop-less Inv-loop μ-loop
-loop-less c = search needs
 
 loop-again : tie.Need-loop-again Inv-loop μ-loop
 loop-again c =
@@ -62,15 +44,5 @@ returns c =
 pub message-index-spec : {M : Type 1} → statement M
 message-index-spec =
     tie.close
-    (tie.spec
-    Inv-loop
-    μ-loop
-    links-requires
-    mul-at
-    add-at
-    loop-holds
-    after-message-requires
-    add-k
-    loop-less
-    loop-again
-    returns)
+    (tie.spec Inv-loop μ-loop (λ c κs. search needs) (λ c. search needs) (λ c. search needs) loop-holds (λ c κs. search needs)
+    (λ c. search needs) (λ c. search needs) loop-again returns)

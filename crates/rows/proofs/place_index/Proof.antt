@@ -8,15 +8,6 @@ use Rattle.scope.specs.SecondPath.{messageIndex}
 use Rattle.rows.proofs.place_index.Statement.{statement}
 use Rattle.rows.proofs.place_index.Tie as tie
 
-message-index-requires : tie.Need-message-index-requires
-message-index-requires c κs = search needs
-
-add-after-places : tie.Need-add-after-places
-add-after-places c = search needs
-
-after-places-requires : tie.Need-after-places-requires
-after-places-requires c κs = search needs
-
 returns : tie.Need-returns
 returns c =
     let a = c .before .before .before .args in
@@ -28,4 +19,4 @@ returns c =
 
 pub place-index-spec : {M : Type 1} → statement M
 place-index-spec =
-    tie.close (tie.spec message-index-requires add-after-places after-places-requires returns)
+    tie.close (tie.spec (λ c κs. search needs) (λ c. search needs) (λ c κs. search needs) returns)

@@ -7,9 +7,6 @@ use Rattle.rows.proofs.Second as law
 use Rattle.rows.proofs.second_path_part.Statement.{statement}
 use Rattle.rows.proofs.second_path_part.Tie as tie
 
-second-span-requires : tie.Need-second-span-requires
-second-span-requires c κs = search needs
-
 part-requires : tie.Need-part-requires
 part-requires c κs = let a = c .before .before .args in
     law.span-within (a .row .now) (a .m) (a .p) (walked (a .row .now) (c .before .before .pre)) (c .second-span .result)
@@ -25,4 +22,5 @@ returns c = let a = c .before .before .before .args in
     }
 
 pub second-path-part-spec : {M : Type 1} → statement M
-second-path-part-spec = tie.close (tie.spec second-span-requires part-requires returns)
+second-path-part-spec =
+    tie.close (tie.spec (λ c κs. search needs) part-requires returns)

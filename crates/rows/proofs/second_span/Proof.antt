@@ -10,18 +10,9 @@ use Rattle.rows.proofs.Second as law
 use Rattle.rows.proofs.second_span.Statement.{statement}
 use Rattle.rows.proofs.second_span.Tie as tie
 
-messages-requires : tie.Need-messages-requires
-messages-requires c κs = search needs
-
 returns : tie.Need-returns
 returns c = let a = c .before .before .before .args in
     law.span-no-message (a .row .now) (a .m) (a .p) _ refl refl (omega (arith, c .before .messages .ensures .is, c .if1 .taken))
-
-message-index-requires : tie.Need-message-index-requires
-message-index-requires c κs = search needs
-
-place-count-requires : tie.Need-place-count-requires
-place-count-requires c κs = search needs
 
 returns-2 : tie.Need-returns-2
 returns-2 c = let a = c .before .before .before .before .before .before .args in
@@ -35,15 +26,6 @@ returns-2 c = let a = c .before .before .before .before .before .before .args in
     let f : c .before .place-count .result ≡ placeCount row (messageIndex row (a .m)) =
     c .before .place-count .ensures .is ∙ ap (placeCount row) (c .before .before .message-index .ensures .is) in
     law.span-no-place row (a .m) (a .p) _ refl refl g (omega (arith, f, c .if2 .taken))
-
-add-after-places : tie.Need-add-after-places
-add-after-places c = search needs
-
-after-places-requires : tie.Need-after-places-requires
-after-places-requires c κs = search needs
-
-place-at-requires : tie.Need-place-at-requires
-place-at-requires c κs = search needs
 
 returns-3 : tie.Need-returns-3
 returns-3 c = let a = c .before .before .before .before .before .before .before .before .before .before .args in
@@ -93,14 +75,5 @@ returns-4 c = let a = c .before .before .before .before .before .before .before 
 pub second-span-spec : {M : Type 1} → statement M
 second-span-spec =
     tie.close
-    (tie.spec
-    messages-requires
-    returns
-    message-index-requires
-    place-count-requires
-    returns-2
-    add-after-places
-    after-places-requires
-    place-at-requires
-    returns-3
-    returns-4)
+    (tie.spec (λ c κs. search needs) returns (λ c κs. search needs) (λ c κs. search needs) returns-2 (λ c. search needs) (λ c κs. search needs)
+    (λ c κs. search needs) returns-3 returns-4)

@@ -102,16 +102,5 @@ returns-5 c =
 pub breaks-spec : {M : Type 1} → statement M
 breaks-spec =
     tie.close
-    (tie.spec
-    bad-ends-requires
-    returns
-    mul-i
-    element-copy-out-i
-    bad-path-requires
-    returns-2
-    bad-slots-requires
-    returns-3
-    held-below-requires
-    returns-4
-    bad-seconds-requires
-    returns-5)
+    (tie.spec bad-ends-requires returns mul-i element-copy-out-i bad-path-requires returns-2 bad-slots-requires returns-3 held-below-requires
+    returns-4 bad-seconds-requires returns-5)

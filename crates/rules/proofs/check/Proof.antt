@@ -9,9 +9,6 @@ use Rattle.rules.proofs.check.Tie as tie
 message-starts-requires : tie.Need-message-starts-requires
 message-starts-requires c κs = omega (arith, walked (c .before .args .row .now) (c .before .pre) .messages)
 
-slice-aggregate-fill-table : tie.Need-slice-aggregate-fill-table
-slice-aggregate-fill-table c = search needs
-
 fill-table-requires : tie.Need-fill-table-requires
 fill-table-requires c κs = (
   refl,
@@ -22,9 +19,6 @@ fill-table-requires c κs = (
   ),
 )
 
-slice-aggregate-check-all : tie.Need-slice-aggregate-check-all
-slice-aggregate-check-all c = search needs
-
 check-all-requires : tie.Need-check-all-requires
 check-all-requires c κs = record {
   lies = walked (c .before .before .before .before .before .before .before .args .row .now)
@@ -34,16 +28,7 @@ check-all-requires c κs = record {
   table-is = c .before .before .before .fill-table .ensures;
 }
 
-returns : tie.Need-returns
-returns c = search needs
-
 pub check-spec : {M : Type 1} → statement M
 check-spec =
     tie.close
-    (tie.spec
-    message-starts-requires
-    slice-aggregate-fill-table
-    fill-table-requires
-    slice-aggregate-check-all
-    check-all-requires
-    returns)
+    (tie.spec message-starts-requires (λ c. search needs) fill-table-requires (λ c. search needs) check-all-requires (λ c. search needs))

@@ -19,14 +19,8 @@ abbrev μ-loop : tie.MeasureT-loop
 loop-holds : tie.Need-loop-holds Inv-loop μ-loop
 loop-holds c = (law.rules-first (planOf (c .before .before .args .row .now)), omega arith, omega arith)
 
-count-for-requires : tie.Need-count-for-requires Inv-loop μ-loop
-count-for-requires c κs = search needs
-
 lowest-breaking-requires : tie.Need-lowest-breaking-requires Inv-loop μ-loop
 lowest-breaking-requires c κs = (c .before .before .before .before .before .pre, c .before .before .loop .inv .1, c .count-for .ensures)
-
-refuse-requires : tie.Need-refuse-requires Inv-loop μ-loop
-refuse-requires c κs = search needs
 
 returns : tie.Need-returns Inv-loop μ-loop
 returns c = let plan = planOf (c .before .before .before .before .before .before .before .before .args .row .now) in
@@ -34,12 +28,6 @@ returns c = let plan = planOf (c .before .before .before .before .before .before
     (c .before .before .before .count-for .result) (c .before .before .lowest-breaking .result)
     (c .before .before .before .before .loop-test .taken) (c .before .before .before .count-for .ensures)
     (c .before .before .lowest-breaking .ensures) (c .before .if1 .taken) ∙ c .before .before .before .before .before .loop .inv .0
-
-add-n : tie.Need-add-n Inv-loop μ-loop
-add-n c = search needs
-
-loop-less : tie.Need-loop-less Inv-loop μ-loop
-loop-less c = search needs
 
 loop-again : tie.Need-loop-again Inv-loop μ-loop
 loop-again c = let plan = planOf (c .before .before .before .before .before .before .before .args .row .now) in (
@@ -58,15 +46,5 @@ returns-2 c = law.rules-done (planOf (c .before .before .before .before .args .r
 pub check-all-spec : {M : Type 1} → statement M
 check-all-spec =
     tie.close
-    (tie.spec
-    Inv-loop
-    μ-loop
-    loop-holds
-    count-for-requires
-    lowest-breaking-requires
-    refuse-requires
-    returns
-    add-n
-    loop-less
-    loop-again
-    returns-2)
+    (tie.spec Inv-loop μ-loop loop-holds (λ c κs. search needs) lowest-breaking-requires (λ c κs. search needs) returns (λ c. search needs)
+    (λ c. search needs) loop-again returns-2)

@@ -7,12 +7,6 @@ use Rattle.rules.proofs.Laws as law
 use Rattle.rules.proofs.count_for.Statement.{statement}
 use Rattle.rules.proofs.count_for.Tie as tie
 
-links-requires : tie.Need-links-requires
-links-requires c κs = search needs
-
-messages-requires : tie.Need-messages-requires
-messages-requires c κs = search needs
-
 returns : tie.Need-returns
 returns c = let row = c .before .before .before .args .row .now in
     c .links .ensures .is ∙ sym (link-count row) ∙ law.count-links (planOf row) (c .before .before .before .args .n) (c .before .if1 .taken)
@@ -23,4 +17,5 @@ returns-2 c = let row = c .before .before .before .args .row .now in
     (c .before .if1 .left)
 
 pub count-for-spec : {M : Type 1} → statement M
-count-for-spec = tie.close (tie.spec links-requires messages-requires returns returns-2)
+count-for-spec =
+    tie.close (tie.spec (λ c κs. search needs) (λ c κs. search needs) returns returns-2)

@@ -36,12 +36,6 @@ returns-2 : tie.Need-returns-2 Inv-loop μ-loop
 returns-2 c = lowest-found _ _ _ (c .before .before .before .loop .inv) (c .before .before .loop-test .taken)
     (sym (c .before .breaks .ensures) ∙ c .if2 .taken)
 
-add-m : tie.Need-add-m Inv-loop μ-loop
-add-m c = search needs
-
-loop-less : tie.Need-loop-less Inv-loop μ-loop
-loop-less c = search needs
-
 loop-again : tie.Need-loop-again Inv-loop μ-loop
 loop-again c = seeking-next _ _ _ (c .before .before .before .loop .inv) (c .before .before .loop-test .taken)
     (sym (c .before .breaks .ensures) ∙ c .if2 .left)
@@ -52,15 +46,5 @@ returns-3 c = lowest-done _ _ _ (c .before .loop .inv) (c .loop-test .left)
 pub lowest-breaking-spec : {M : Type 1} → statement M
 lowest-breaking-spec =
     tie.close
-    (tie.spec
-    Inv-loop
-    μ-loop
-    lowest-repeat-requires
-    returns
-    loop-holds
-    breaks-requires
-    returns-2
-    add-m
-    loop-less
-    loop-again
-    returns-3)
+    (tie.spec Inv-loop μ-loop lowest-repeat-requires returns loop-holds breaks-requires returns-2 (λ c. search needs) (λ c. search needs)
+    loop-again returns-3)

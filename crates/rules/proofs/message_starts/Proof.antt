@@ -14,12 +14,6 @@ Inv-loop row starts₀ n at₀ m₀ starts at m = Noting row m at starts × (m �
 abbrev μ-loop : tie.MeasureT-loop
 μ-loop row starts₀ n at₀ m₀ starts at m = n - m
 
-messages-requires : tie.Need-messages-requires Inv-loop μ-loop
-messages-requires c κs = search needs
-
-message-index-requires : tie.Need-message-index-requires Inv-loop μ-loop
-message-index-requires c κs = search needs
-
 loop-holds : tie.Need-loop-holds Inv-loop μ-loop
 loop-holds c = (
   law.noting-first (c .before .before .before .args .row .now) 32 refl (c .message-index .result)
@@ -55,12 +49,6 @@ after-message-requires c κs = omega (
       .ensures .small,
 )
 
-add-m : tie.Need-add-m Inv-loop μ-loop
-add-m c = search needs
-
-loop-less : tie.Need-loop-less Inv-loop μ-loop
-loop-less c = search needs
-
 loop-again : tie.Need-loop-again Inv-loop μ-loop
 loop-again c = let l = c .before .before .loop in (
   law.noting-next (c .before .before .before .before .before .before .args .row .now) (l .m) (l .at) (c .after-message .result)
@@ -83,16 +71,5 @@ returns c = let l = c .before .loop in
 pub message-starts-spec : {M : Type 1} → statement M
 message-starts-spec =
     tie.close
-    (tie.spec
-    Inv-loop
-    μ-loop
-    messages-requires
-    message-index-requires
-    loop-holds
-    mul-starts
-    array-write-starts
-    after-message-requires
-    add-m
-    loop-less
-    loop-again
-    returns)
+    (tie.spec Inv-loop μ-loop (λ c κs. search needs) (λ c κs. search needs) loop-holds mul-starts array-write-starts after-message-requires
+    (λ c. search needs) (λ c. search needs) loop-again returns)

@@ -17,38 +17,11 @@ Inv-loop row e n sum₀ at₀ k₀ sum at k =
 abbrev μ-loop : tie.MeasureT-loop
 μ-loop row e n sum₀ at₀ k₀ sum at k = n - k
 
-messages-requires : tie.Need-messages-requires Inv-loop μ-loop
-messages-requires c κs = search needs
-
-message-index-requires : tie.Need-message-index-requires Inv-loop μ-loop
-message-index-requires c κs = search needs
-
 loop-holds : tie.Need-loop-holds Inv-loop μ-loop
 loop-holds c =
     let a = c .before .before .before .args in
     let all = law.entries-all (a .row .now) (a .e) _ (c .message-index .ensures .is) _ (c .before .messages .ensures .is) in
     (all, omega arith, omega arith, omega arith, omega arith)
-
-add-entries-of : tie.Need-add-entries-of Inv-loop μ-loop
-add-entries-of c = search needs
-
-place-count-requires : tie.Need-place-count-requires Inv-loop μ-loop
-place-count-requires c κs = search needs
-
-entries-of-requires : tie.Need-entries-of-requires Inv-loop μ-loop
-entries-of-requires c κs = search needs
-
-add-sum : tie.Need-add-sum Inv-loop μ-loop
-add-sum c = search needs
-
-after-message-requires : tie.Need-after-message-requires Inv-loop μ-loop
-after-message-requires c κs = search needs
-
-add-k : tie.Need-add-k Inv-loop μ-loop
-add-k c = search needs
-
-loop-less : tie.Need-loop-less Inv-loop μ-loop
-loop-less c = search needs
 
 loop-again : tie.Need-loop-again Inv-loop μ-loop
 loop-again c =
@@ -74,18 +47,5 @@ returns c =
 pub entries-spec : {M : Type 1} → statement M
 entries-spec =
     tie.close
-    (tie.spec
-    Inv-loop
-    μ-loop
-    messages-requires
-    message-index-requires
-    loop-holds
-    add-entries-of
-    place-count-requires
-    entries-of-requires
-    add-sum
-    after-message-requires
-    add-k
-    loop-less
-    loop-again
-    returns)
+    (tie.spec Inv-loop μ-loop (λ c κs. search needs) (λ c κs. search needs) loop-holds (λ c. search needs) (λ c κs. search needs)
+    (λ c κs. search needs) (λ c. search needs) (λ c κs. search needs) (λ c. search needs) (λ c. search needs) loop-again returns)

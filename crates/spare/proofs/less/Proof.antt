@@ -4,12 +4,6 @@ use Rattle.spare.proofs.Signed as law
 use Rattle.spare.proofs.less.Statement.{statement}
 use Rattle.spare.proofs.less.Tie as tie
 
-cast-result : tie.Need-cast-result
-cast-result c = search needs
-
-cast-result-2 : tie.Need-cast-result-2
-cast-result-2 c = search needs
-
 sub-result : tie.Need-sub-result
 sub-result c = law.less-fits (c .args .t) (c .args .used) (c .pre .0) (c .pre .1)
 
@@ -17,4 +11,5 @@ returns : tie.Need-returns
 returns c = law.less-is (c .args .t) (c .args .used) (c .pre .0) (c .pre .1)
 
 pub less-spec : {M : Type 1} → statement M
-less-spec = tie.close (tie.spec cast-result cast-result-2 sub-result returns)
+less-spec =
+    tie.close (tie.spec (λ c. search needs) (λ c. search needs) sub-result returns)

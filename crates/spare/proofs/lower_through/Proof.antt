@@ -18,9 +18,6 @@ Inv-loop row m e sum₀ at₀ j₀ sum at j =
 abbrev μ-loop : tie.MeasureT-loop
 μ-loop row m e sum₀ at₀ j₀ sum at j = m - j
 
-message-index-requires : tie.Need-message-index-requires Inv-loop μ-loop
-message-index-requires c κs = search needs
-
 loop-holds : tie.Need-loop-holds Inv-loop μ-loop
 loop-holds c =
     let a = c .before .before .args in (
@@ -30,21 +27,6 @@ loop-holds c =
       omega arith,
       omega (arith, c .before .shared-slice-known .given 3),
     )
-
-message-through-requires : tie.Need-message-through-requires Inv-loop μ-loop
-message-through-requires c κs = search needs
-
-add-sum : tie.Need-add-sum Inv-loop μ-loop
-add-sum c = search needs
-
-after-message-requires : tie.Need-after-message-requires Inv-loop μ-loop
-after-message-requires c κs = search needs
-
-add-j : tie.Need-add-j Inv-loop μ-loop
-add-j c = search needs
-
-loop-less : tie.Need-loop-less Inv-loop μ-loop
-loop-less c = search needs
 
 loop-again : tie.Need-loop-again Inv-loop μ-loop
 loop-again c =
@@ -72,15 +54,5 @@ returns c =
 pub lower-through-spec : {M : Type 1} → statement M
 lower-through-spec =
     tie.close
-    (tie.spec
-    Inv-loop
-    μ-loop
-    message-index-requires
-    loop-holds
-    message-through-requires
-    add-sum
-    after-message-requires
-    add-j
-    loop-less
-    loop-again
-    returns)
+    (tie.spec Inv-loop μ-loop (λ c κs. search needs) loop-holds (λ c κs. search needs) (λ c. search needs) (λ c κs. search needs)
+    (λ c. search needs) (λ c. search needs) loop-again returns)

@@ -5,15 +5,6 @@ use Rattle.spare.proofs.Loops as law
 use Rattle.spare.proofs.message_through.Statement.{statement}
 use Rattle.spare.proofs.message_through.Tie as tie
 
-add-through : tie.Need-add-through
-add-through c = search needs
-
-place-count-requires : tie.Need-place-count-requires
-place-count-requires c κs = search needs
-
-through-requires : tie.Need-through-requires
-through-requires c κs = search needs
-
 returns : tie.Need-returns
 returns c =
     let a = c .before .before .before .before .args in
@@ -36,4 +27,4 @@ returns-2 c =
 
 pub message-through-spec : {M : Type 1} → statement M
 message-through-spec =
-    tie.close (tie.spec add-through place-count-requires through-requires returns returns-2)
+    tie.close (tie.spec (λ c. search needs) (λ c κs. search needs) (λ c κs. search needs) returns returns-2)

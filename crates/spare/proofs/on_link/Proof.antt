@@ -11,4 +11,5 @@ returns-2 : tie.Need-returns-2
 returns-2 c = let a = c .before .args in record { is = rw (ne-eqb (a .link) (a .e) (c .if1 .left)); small = omega arith }
 
 pub on-link-spec : {M : Type 1} → statement M
-on-link-spec = tie.close (tie.spec returns returns-2)
+on-link-spec =
+    tie.close (tie.spec returns returns-2)

@@ -5,25 +5,12 @@ use Rattle.spare.proofs.Ways as law
 use Rattle.spare.proofs.slack.Statement.{statement}
 use Rattle.spare.proofs.slack.Tie as tie
 
-judge-requires : tie.Need-judge-requires
-judge-requires c κs = search needs
-
-enum-told : tie.Need-enum-told
-enum-told c = search needs
-
 slack-of-good-requires : tie.Need-slack-of-good-requires
 slack-of-good-requires c κs = good-row _ _ (gave _ (c .enum-told .given .1) (c .before .before .judge .ensures))
-
-enum-known-judged : tie.Need-enum-known-judged
-enum-known-judged c = search needs
-
-returns : tie.Need-returns
-returns c = search needs
 
 returns-2 : tie.Need-returns-2
 returns-2 c = law.bad-row _ _ _ _ (refused-as _ (c .before .judged .given .1) (c .before .before .before .judge .ensures))
 
 pub slack-spec : {M : Type 1} → statement M
 slack-spec =
-    tie.close
-    (tie.spec judge-requires enum-told slack-of-good-requires enum-known-judged returns returns-2)
+    tie.close (tie.spec (λ c κs. search needs) (λ c. search needs) slack-of-good-requires (λ c. search needs) (λ c. search needs) returns-2)

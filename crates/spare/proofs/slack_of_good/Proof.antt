@@ -33,27 +33,12 @@ stands : (h : tie.After-place-at) → h .before .after-places .result ≡ placeI
 stands h =
     law.place-at _ _ _ (h .before .before .before .before .message-index .ensures .is) (h .before .after-places .ensures .is)
 
-messages-requires : tie.Need-messages-requires
-messages-requires c κs = search needs
-
-refusal-at-requires : tie.Need-refusal-at-requires
-refusal-at-requires c κs = search needs
-
 returns : tie.Need-returns
 returns c =
     let b = c .before .before in
     let s = b .before .before in
     law.out-message (s .args .row .now) (s .args .m) (s .args .p) (s .pre) _ _ (b .messages .ensures .is) (c .before .if1 .taken)
     (c .refusal-at .ensures)
-
-message-index-requires : tie.Need-message-index-requires
-message-index-requires c κs = search needs
-
-place-count-requires : tie.Need-place-count-requires
-place-count-requires c κs = search needs
-
-refusal-at-requires-2 : tie.Need-refusal-at-requires-2
-refusal-at-requires-2 c κs = search needs
 
 returns-2 : tie.Need-returns-2
 returns-2 c =
@@ -63,18 +48,6 @@ returns-2 c =
     (b .before .before .if1 .left) (b .before .message-index .ensures .is) (b .place-count .ensures .is) _ (c .before .if2 .taken)
     (c .refusal-at2 .ensures)
 
-add-after-places : tie.Need-add-after-places
-add-after-places c = search needs
-
-after-places-requires : tie.Need-after-places-requires
-after-places-requires c κs = search needs
-
-place-at-requires : tie.Need-place-at-requires
-place-at-requires c κs = search needs
-
-refusal-at-requires-3 : tie.Need-refusal-at-requires-3
-refusal-at-requires-3 c κs = search needs
-
 returns-3 : tie.Need-returns-3
 returns-3 c =
     let h = c .before .before .before in
@@ -82,15 +55,6 @@ returns-3 c =
     law.out-second (row h) (m h) (p h) (start h .pre) _ _ _ (b .before .before .before .messages .ensures .is) (b .before .before .if1 .left)
     (b .before .message-index .ensures .is) (b .place-count .ensures .is) _ _ (h .before .before .if2 .left)
     (h .before .after-places .ensures .is) (h .place-at .ensures) _ (c .before .if3 .taken) (c .refusal-at3 .ensures)
-
-delay-requires : tie.Need-delay-requires
-delay-requires c κs = search needs
-
-add-used : tie.Need-add-used
-add-used c = search needs
-
-timeout-requires : tie.Need-timeout-requires
-timeout-requires c κs = search needs
 
 less-requires : tie.Need-less-requires
 less-requires c κs =
@@ -109,21 +73,6 @@ returns-4 c =
 pub slack-of-good-spec : {M : Type 1} → statement M
 slack-of-good-spec =
     tie.close
-    (tie.spec
-    messages-requires
-    refusal-at-requires
-    returns
-    message-index-requires
-    place-count-requires
-    refusal-at-requires-2
-    returns-2
-    add-after-places
-    after-places-requires
-    place-at-requires
-    refusal-at-requires-3
-    returns-3
-    delay-requires
-    add-used
-    timeout-requires
-    less-requires
-    returns-4)
+    (tie.spec (λ c κs. search needs) (λ c κs. search needs) returns (λ c κs. search needs) (λ c κs. search needs) (λ c κs. search needs)
+    returns-2 (λ c. search needs) (λ c κs. search needs) (λ c κs. search needs) (λ c κs. search needs) returns-3 (λ c κs. search needs)
+    (λ c. search needs) (λ c κs. search needs) less-requires returns-4)

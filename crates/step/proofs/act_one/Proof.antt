@@ -9,9 +9,6 @@ use Rattle.step.proofs.Acting.{home-does, home-tried, acts-first, acts-
 use Rattle.step.proofs.act_one.Statement.{statement}
 use Rattle.step.proofs.act_one.Tie as tie
 
-is-home-requires : tie.Need-is-home-requires
-is-home-requires c κs = search needs
-
 returns : tie.Need-returns
 returns c =
     let a = c .before .before .before .before .before .before .args in
@@ -32,30 +29,6 @@ meets-requires c κs =
     let h : s .args .p .left ≡ 0 → ⊥ = eqb-false _ _ (sym (c .before .is-home .ensures) ∙ c .if1 .left) in
     (omega (arith, h), s .pre .fit)
 
-cast-entry : tie.Need-cast-entry
-cast-entry c = search needs
-
-entry-requires : tie.Need-entry-requires
-entry-requires c κs = search needs
-
-first-trier-requires : tie.Need-first-trier-requires
-first-trier-requires c κs = search needs
-
-note-requires : tie.Need-note-requires
-note-requires c κs = search needs
-
-cast-acts : tie.Need-cast-acts
-cast-acts c = search needs
-
-cast-acts-2 : tie.Need-cast-acts-2
-cast-acts-2 c = search needs
-
-acts-requires : tie.Need-acts-requires
-acts-requires c κs = search needs
-
-same-length : tie.Need-same-length
-same-length c = search needs
-
 returns-2 : tie.Need-returns-2
 returns-2 c =
     let f = c .before .before .before .before .before in
@@ -66,15 +39,6 @@ returns-2 c =
     acts-tries _ _ (a .slot .0) (a .tried .now) (a .m) (a .row .now) (a .p) _ g _ _ _ _ (b .before .before .if2 .taken)
     (not-true _ (b .if3 .taken))
     (f .before .before .entry .ensures) (f .first-trier .ensures .0) (c .before .before .before .note .ensures) (c .acts .ensures _ (g .cut))
-
-cast-acts-3 : tie.Need-cast-acts-3
-cast-acts-3 c = search needs
-
-cast-acts-4 : tie.Need-cast-acts-4
-cast-acts-4 c = search needs
-
-acts-requires-2 : tie.Need-acts-requires-2
-acts-requires-2 c κs = search needs
 
 returns-3 : tie.Need-returns-3
 returns-3 c =
@@ -89,20 +53,6 @@ returns-3 c =
 pub act-one-spec : {M : Type 1} → statement M
 act-one-spec =
     tie.close
-    (tie.spec
-    is-home-requires
-    returns
-    meets-requires
-    cast-entry
-    entry-requires
-    first-trier-requires
-    note-requires
-    cast-acts
-    cast-acts-2
-    acts-requires
-    same-length
-    returns-2
-    cast-acts-3
-    cast-acts-4
-    acts-requires-2
-    returns-3)
+    (tie.spec (λ c κs. search needs) returns meets-requires (λ c. search needs) (λ c κs. search needs) (λ c κs. search needs)
+    (λ c κs. search needs) (λ c. search needs) (λ c. search needs) (λ c κs. search needs) (λ c. search needs) returns-2 (λ c. search needs)
+    (λ c. search needs) (λ c κs. search needs) returns-3)

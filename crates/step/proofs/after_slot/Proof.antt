@@ -6,9 +6,6 @@ use borrow.Author.Needs.{needs}
 use Rattle.step.proofs.after_slot.Statement.{statement}
 use Rattle.step.proofs.after_slot.Tie as tie
 
-slice-aggregate-lend : tie.Need-slice-aggregate-lend
-slice-aggregate-lend c = search needs
-
 lend-requires : tie.Need-lend-requires
 lend-requires c κs =
     let z : length (c .before .before .before .before .args .ps) ≡ 32 = search needs in
@@ -24,4 +21,5 @@ returns : tie.Need-returns
 returns c = record { next = c .before .lend .ensures .next; rest = c .before .lend .ensures .rest }
 
 pub after-slot-spec : {M : Type 1} → statement M
-after-slot-spec = tie.close (tie.spec slice-aggregate-lend lend-requires returns)
+after-slot-spec =
+    tie.close (tie.spec (λ c. search needs) lend-requires returns)

@@ -38,9 +38,6 @@ abbrev μ-loop : tie.MeasureT-loop
 shared-slice-read-n : tie.Need-shared-slice-read-n Inv-loop μ-loop
 shared-slice-read-n c = omega (arith, c .before .pre .room)
 
-cast-n : tie.Need-cast-n Inv-loop μ-loop
-cast-n c = search needs
-
 loop-holds : tie.Need-loop-holds Inv-loop μ-loop
 loop-holds c =
     let a = c .before .args in
@@ -92,9 +89,6 @@ returns c =
 add-j : tie.Need-add-j Inv-loop μ-loop
 add-j c = let t = c .before .before in omega (arith, in-list (t .before .loop .inv) (t .loop-test .taken))
 
-loop-less : tie.Need-loop-less Inv-loop μ-loop
-loop-less c = search needs
-
 loop-again : tie.Need-loop-again Inv-loop μ-loop
 loop-again c =
     let t = c .before .before in
@@ -118,23 +112,5 @@ returns-2 c =
 pub first-trier-spec : {M : Type 1} → statement M
 first-trier-spec =
     tie.close
-    (tie.spec
-    Inv-loop
-    μ-loop
-    shared-slice-read-n
-    cast-n
-    loop-holds
-    mul-if1
-    add-if1
-    mul-if1-2
-    shared-slice-read-if1
-    mul-result
-    add-result
-    mul-result-2
-    shared-slice-read-result
-    cast-result
-    returns
-    add-j
-    loop-less
-    loop-again
-    returns-2)
+    (tie.spec Inv-loop μ-loop shared-slice-read-n (λ c. search needs) loop-holds mul-if1 add-if1 mul-if1-2 shared-slice-read-if1 mul-result
+    add-result mul-result-2 shared-slice-read-result cast-result returns add-j (λ c. search needs) loop-again returns-2)

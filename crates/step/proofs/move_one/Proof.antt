@@ -4,14 +4,9 @@ use borrow.Author.Needs.{needs}
 use Rattle.step.proofs.move_one.Statement.{statement}
 use Rattle.step.proofs.move_one.Tie as tie
 
-act-one-requires : tie.Need-act-one-requires
-act-one-requires c κs = search needs
-
-same-length : tie.Need-same-length
-same-length c = search needs
-
 returns : tie.Need-returns
 returns c = moves-by (c .before .before .before .act-one .ensures)
 
 pub move-one-spec : {M : Type 1} → statement M
-move-one-spec = tie.close (tie.spec act-one-requires same-length returns)
+move-one-spec =
+    tie.close (tie.spec (λ c κs. search needs) (λ c. search needs) returns)

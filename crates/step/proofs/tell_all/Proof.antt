@@ -32,9 +32,6 @@ mul-p c = omega (arith, c .loop-test .taken, c .before .loop .inv .1 .few)
 array-copy-out-p : tie.Need-array-copy-out-p Inv-loop μ-loop
 array-copy-out-p c = omega (arith, c .loop-test .taken, c .before .loop .inv .1 .few)
 
-slice-aggregate-act-one : tie.Need-slice-aggregate-act-one Inv-loop μ-loop
-slice-aggregate-act-one c = search needs
-
 act-one-requires : tie.Need-act-one-requires Inv-loop μ-loop
 act-one-requires c κs =
     let t = c .before .before in
@@ -75,18 +72,5 @@ returns c = telling-done (c .before .loop .inv .2) (c .loop-test .left)
 pub tell-all-spec : {M : Type 1} → statement M
 tell-all-spec =
     tie.close
-    (tie.spec
-    Inv-loop
-    μ-loop
-    loop-holds
-    mul-p
-    array-copy-out-p
-    slice-aggregate-act-one
-    act-one-requires
-    mul-put-event
-    put-event-requires
-    add-m
-    loop-less
-    loop-again
-    same-length
-    returns)
+    (tie.spec Inv-loop μ-loop loop-holds mul-p array-copy-out-p (λ c. search needs) act-one-requires mul-put-event put-event-requires add-m
+    loop-less loop-again same-length returns)

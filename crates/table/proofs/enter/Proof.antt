@@ -14,27 +14,9 @@ Inv-loop row i w table₀ n at₀ k₀ table at k = Entering row i w table₀ n 
 abbrev μ-loop : tie.MeasureT-loop
 μ-loop row i w table₀ n at₀ k₀ table at k = n - k
 
-place-count-requires : tie.Need-place-count-requires Inv-loop μ-loop
-place-count-requires c κs = search needs
-
-add-at : tie.Need-add-at Inv-loop μ-loop
-add-at c = search needs
-
 loop-holds : tie.Need-loop-holds Inv-loop μ-loop
 loop-holds c = let a = c .before .before .before .args in
     law.entering-first (a .row .now) (a .i) (a .w) (a .table .now) (c .place-count .result) (c .place-count .ensures .is) (omega arith)
-
-place-at-requires : tie.Need-place-at-requires Inv-loop μ-loop
-place-at-requires c κs = search needs
-
-mark-requires : tie.Need-mark-requires Inv-loop μ-loop
-mark-requires c κs = search needs
-
-add-k : tie.Need-add-k Inv-loop μ-loop
-add-k c = search needs
-
-loop-less : tie.Need-loop-less Inv-loop μ-loop
-loop-less c = search needs
 
 loop-again : tie.Need-loop-again Inv-loop μ-loop
 loop-again c =
@@ -46,9 +28,6 @@ loop-again c =
     (l .at) (l .k) (l .table) (b .mark .last .0) (h .place-at .result) (l .inv) (h .before .loop-test .taken) (s .pre .2)
     (h .place-at .ensures) (b .mark .ensures)
 
-same-length : tie.Need-same-length Inv-loop μ-loop
-same-length c = search needs
-
 returns : tie.Need-returns Inv-loop μ-loop
 returns c = let a = c .before .before .before .before .before .args in
     let l = c .before .loop in
@@ -58,16 +37,5 @@ returns c = let a = c .before .before .before .before .before .args in
 pub enter-spec : {M : Type 1} → statement M
 enter-spec =
     tie.close
-    (tie.spec
-    Inv-loop
-    μ-loop
-    place-count-requires
-    add-at
-    loop-holds
-    place-at-requires
-    mark-requires
-    add-k
-    loop-less
-    loop-again
-    same-length
-    returns)
+    (tie.spec Inv-loop μ-loop (λ c κs. search needs) (λ c. search needs) loop-holds (λ c κs. search needs) (λ c κs. search needs)
+    (λ c. search needs) (λ c. search needs) loop-again (λ c. search needs) returns)

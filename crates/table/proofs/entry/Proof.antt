@@ -11,20 +11,11 @@ returns c = let a = c .before .before .args in sym (no-slot (a .table .now) (a .
 returns-2 : tie.Need-returns-2
 returns-2 c = let a = c .before .before .before .args in sym (no-link (a .table .now) (a .slot) (a .link) (c .if2 .taken))
 
-index-requires : tie.Need-index-requires
-index-requires c κs = search needs
-
-shared-slice-read-result : tie.Need-shared-slice-read-result
-shared-slice-read-result c = search needs
-
 returns-3 : tie.Need-returns-3
 returns-3 c =
     let i = c .before .before in
     let a = i .before .before .before .before .args in
     entry-is (a .table .now) (a .slot) (a .link) (i .before .before .if1 .left) (i .before .if2 .left) _ (i .index .ensures)
-
-shared-slice-read-result-2 : tie.Need-shared-slice-read-result-2
-shared-slice-read-result-2 c = search needs
 
 returns-4 : tie.Need-returns-4
 returns-4 c =
@@ -40,5 +31,4 @@ returns-5 c =
 
 pub entry-spec : {M : Type 1} → statement M
 entry-spec =
-    tie.close
-    (tie.spec returns returns-2 index-requires shared-slice-read-result returns-3 shared-slice-read-result-2 returns-4 returns-5)
+    tie.close (tie.spec returns returns-2 (λ c κs. search needs) (λ c. search needs) returns-3 (λ c. search needs) returns-4 returns-5)

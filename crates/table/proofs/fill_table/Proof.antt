@@ -15,35 +15,11 @@ Inv-loop row table₀ n at₀ m₀ table at m = Below row m at table × (m ≤ n
 abbrev μ-loop : tie.MeasureT-loop
 μ-loop row table₀ n at₀ m₀ table at m = n - m
 
-clear-requires : tie.Need-clear-requires Inv-loop μ-loop
-clear-requires c κs = search needs
-
-messages-requires : tie.Need-messages-requires Inv-loop μ-loop
-messages-requires c κs = search needs
-
-message-index-requires : tie.Need-message-index-requires Inv-loop μ-loop
-message-index-requires c κs = search needs
-
 loop-holds : tie.Need-loop-holds Inv-loop μ-loop
 loop-holds c =
     let z = c .before .before .before .before in
     let row = z .before .before .before .before .args .row .now in
     (law.below-first row _ (z .clear .last .0) (c .message-index .ensures) (z .clear .ensures), omega arith)
-
-add-w : tie.Need-add-w Inv-loop μ-loop
-add-w c = search needs
-
-cast-w : tie.Need-cast-w Inv-loop μ-loop
-cast-w c = search needs
-
-enter-requires : tie.Need-enter-requires Inv-loop μ-loop
-enter-requires c κs = search needs
-
-add-m : tie.Need-add-m Inv-loop μ-loop
-add-m c = search needs
-
-loop-less : tie.Need-loop-less Inv-loop μ-loop
-loop-less c = search needs
 
 loop-again : tie.Need-loop-again Inv-loop μ-loop
 loop-again c =
@@ -54,9 +30,6 @@ loop-again c =
     let row = n .before .before .before .before .before .before .before .args .row .now in
     let h : l .m < messageCount row = omega (arith, n .messages .ensures .is, t .loop-test .taken) in
     (law.below-next row (l .m) (l .at) _ (l .table) (e .enter .last .1 .1 .1 .0) h (l .inv .0) (e .enter .ensures), omega arith)
-
-same-length : tie.Need-same-length Inv-loop μ-loop
-same-length c = search needs
 
 returns : tie.Need-returns Inv-loop μ-loop
 returns c =
@@ -69,18 +42,5 @@ returns c =
 pub fill-table-spec : {M : Type 1} → statement M
 fill-table-spec =
     tie.close
-    (tie.spec
-    Inv-loop
-    μ-loop
-    clear-requires
-    messages-requires
-    message-index-requires
-    loop-holds
-    add-w
-    cast-w
-    enter-requires
-    add-m
-    loop-less
-    loop-again
-    same-length
-    returns)
+    (tie.spec Inv-loop μ-loop (λ c κs. search needs) (λ c κs. search needs) (λ c κs. search needs) loop-holds (λ c. search needs)
+    (λ c. search needs) (λ c κs. search needs) (λ c. search needs) (λ c. search needs) loop-again (λ c. search needs) returns)

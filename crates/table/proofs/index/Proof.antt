@@ -4,14 +4,9 @@ use borrow.Author.Needs.{needs}
 use Rattle.table.proofs.index.Statement.{statement}
 use Rattle.table.proofs.index.Tie as tie
 
-mul-result : tie.Need-mul-result
-mul-result c = search needs
-
-add-result : tie.Need-add-result
-add-result c = search needs
-
 returns : tie.Need-returns
 returns c = omega arith
 
 pub index-spec : {M : Type 1} → statement M
-index-spec = tie.close (tie.spec mul-result add-result returns)
+index-spec =
+    tie.close (tie.spec (λ c. search needs) (λ c. search needs) returns)

@@ -14,26 +14,11 @@ returns-2 c =
     let s = c .before .before .before in
     law.mark-no-slot (s .args .table .now) (s .args .w) (s .args .link) (s .args .slot) (s .pre) (c .if2 .taken)
 
-entry-requires : tie.Need-entry-requires
-entry-requires c κs = search needs
-
-same-length : tie.Need-same-length
-same-length c = search needs
-
 returns-3 : tie.Need-returns-3
 returns-3 c =
     let s = c .before .before .before .before .before .before in
     let a = s .args in
     law.mark-held (a .table .now) (a .w) (a .link) (a .slot) (s .pre) _ (c .before .entry .ensures) (c .if3 .taken)
-
-index-requires : tie.Need-index-requires
-index-requires c κs = search needs
-
-slice-write-table : tie.Need-slice-write-table
-slice-write-table c = search needs
-
-same-length-2 : tie.Need-same-length-2
-same-length-2 c = search needs
 
 returns-4 : tie.Need-returns-4
 returns-4 c =
@@ -46,13 +31,5 @@ returns-4 c =
 pub mark-spec : {M : Type 1} → statement M
 mark-spec =
     tie.close
-    (tie.spec
-    returns
-    returns-2
-    entry-requires
-    same-length
-    returns-3
-    index-requires
-    slice-write-table
-    same-length-2
-    returns-4)
+    (tie.spec returns returns-2 (λ c κs. search needs) (λ c. search needs) returns-3 (λ c κs. search needs) (λ c. search needs)
+    (λ c. search needs) returns-4)

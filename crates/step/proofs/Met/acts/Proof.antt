@@ -4,12 +4,6 @@ use Rattle.step.proofs.Turns.{met-first, met-second}
 use Rattle.step.proofs.Met.acts.Statement.{statement}
 use Rattle.step.proofs.Met.acts.Tie as tie
 
-act-second-requires : tie.Need-act-second-requires
-act-second-requires c κs = search needs
-
-act-first-requires : tie.Need-act-first-requires
-act-first-requires c κs = search needs
-
 returns : tie.Need-returns
 returns c = let a = c .before .before .before .before .args in let g = c .before .before .before .before .pre in
     met-second (a .row .now) (a .self) (g .0) (g .2) (a .slot .0) (a .entry) _ (a .first) _ (c .before .if1 .taken) (c .act-second .ensures)
@@ -19,4 +13,5 @@ returns-2 c = let a = c .before .before .before .before .args in let g = c .befo
     met-first (a .row .now) (a .self) (g .0) (g .2) (a .slot .0) (a .entry) _ (a .first) _ (c .before .if1 .left) (c .act-first .ensures)
 
 pub acts-spec : {M : Type 1} → statement M
-acts-spec = tie.close (tie.spec act-second-requires act-first-requires returns returns-2)
+acts-spec =
+    tie.close (tie.spec (λ c κs. search needs) (λ c κs. search needs) returns returns-2)

@@ -5,15 +5,6 @@ use Rattle.step.proofs.Steps as law
 use Rattle.step.proofs.Position.act_first.Statement.{statement}
 use Rattle.step.proofs.Position.act_first.Tie as tie
 
-cast-place-slot : tie.Need-cast-place-slot
-cast-place-slot c = search needs
-
-place-slot-requires : tie.Need-place-slot-requires
-place-slot-requires c κs = search needs
-
-past-place-requires : tie.Need-past-place-requires
-past-place-requires c κs = search needs
-
 returns : tie.Need-returns
 returns c =
     let s = c .before .before in
@@ -49,5 +40,4 @@ returns-3 c =
 
 pub act-first-spec : {M : Type 1} → statement M
 act-first-spec =
-    tie.close
-    (tie.spec cast-place-slot place-slot-requires past-place-requires returns returns-2 returns-3)
+    tie.close (tie.spec (λ c. search needs) (λ c κs. search needs) (λ c κs. search needs) returns returns-2 returns-3)

@@ -5,20 +5,11 @@ use Rattle.step.proofs.Steps as law
 use Rattle.step.proofs.Position.act_second.Statement.{statement}
 use Rattle.step.proofs.Position.act_second.Tie as tie
 
-sub-t17 : tie.Need-sub-t17
-sub-t17 c = search needs
-
-cast-t18 : tie.Need-cast-t18
-cast-t18 c = search needs
-
 add-t21 : tie.Need-add-t21
 add-t21 c =
     let s = c .before .before .before .before in
     let w = law.second-within (s .args .row .now) (s .args .self) (s .pre .1) (s .pre .0) in
     omega (arith, w, s .pre)
-
-sub-t22 : tie.Need-sub-t22
-sub-t22 c = search needs
 
 returns : tie.Need-returns
 returns c =
@@ -66,4 +57,4 @@ returns-4 c =
 
 pub act-second-spec : {M : Type 1} → statement M
 act-second-spec =
-    tie.close (tie.spec sub-t17 cast-t18 add-t21 sub-t22 returns returns-2 returns-3 returns-4)
+    tie.close (tie.spec (λ c. search needs) (λ c. search needs) add-t21 (λ c. search needs) returns returns-2 returns-3 returns-4)

@@ -6,20 +6,11 @@ use Rattle.step.proofs.Turns as law
 use Rattle.step.proofs.Position.meets.Statement.{statement}
 use Rattle.step.proofs.Position.meets.Tie as tie
 
-faces-requires : tie.Need-faces-requires
-faces-requires c κs = search needs
-
 returns : tie.Need-returns
 returns c =
     let f = c .before in
     let s = f .before .before .before in
     law.meets-turned (s .args .row .now) (isDown (s .args .down .now)) (s .args .self) (s .pre .0) _ (f .faces .ensures) (c .if1 .taken)
-
-cast-place-at : tie.Need-cast-place-at
-cast-place-at c = search needs
-
-place-at-requires : tie.Need-place-at-requires
-place-at-requires c κs = search needs
 
 cast-t12 : tie.Need-cast-t12
 cast-t12 c =
@@ -42,9 +33,6 @@ cast-t13 c =
     law.second-fits (s .args .row .now) (isDown (s .args .down .now)) (s .args .self) (s .pre .0) _ (f .faces .ensures) (b .before .if1 .left)
     (b .if2 .taken) (h .place-at .result) (h .place-at .ensures) (c .before .before .if3 .taken) in
     omega (arith, w, s .pre .1)
-
-faces-requires-2 : tie.Need-faces-requires-2
-faces-requires-2 c κs = search needs
 
 returns-2 : tie.Need-returns-2
 returns-2 c =
@@ -74,14 +62,5 @@ returns-4 c =
 pub meets-spec : {M : Type 1} → statement M
 meets-spec =
     tie.close
-    (tie.spec
-    faces-requires
-    returns
-    cast-place-at
-    place-at-requires
-    cast-t12
-    cast-t13
-    faces-requires-2
-    returns-2
-    returns-3
-    returns-4)
+    (tie.spec (λ c κs. search needs) returns (λ c. search needs) (λ c κs. search needs) cast-t12 cast-t13 (λ c κs. search needs) returns-2
+    returns-3 returns-4)

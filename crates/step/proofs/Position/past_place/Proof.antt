@@ -5,21 +5,12 @@ use Rattle.step.proofs.Steps as law
 use Rattle.step.proofs.Position.past_place.Statement.{statement}
 use Rattle.step.proofs.Position.past_place.Tie as tie
 
-cast-place-at : tie.Need-cast-place-at
-cast-place-at c = search needs
-
-place-at-requires : tie.Need-place-at-requires
-place-at-requires c κs = search needs
-
 cast-t5 : tie.Need-cast-t5
 cast-t5 c =
     let h = c .before in
     let s = h .before .before .before in
     let w = law.past-fits (s .args .row .now) (s .args .self) (s .pre .1) (s .pre .0) (h .place-at .result) (h .place-at .ensures) in
     omega (arith, w, s .pre .2)
-
-sub-t6 : tie.Need-sub-t6
-sub-t6 c = search needs
 
 returns : tie.Need-returns
 returns c =
@@ -31,4 +22,5 @@ returns c =
     }
 
 pub past-place-spec : {M : Type 1} → statement M
-past-place-spec = tie.close (tie.spec cast-place-at place-at-requires cast-t5 sub-t6 returns)
+past-place-spec =
+    tie.close (tie.spec (λ c. search needs) (λ c κs. search needs) cast-t5 (λ c. search needs) returns)

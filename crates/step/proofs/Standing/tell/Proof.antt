@@ -8,11 +8,9 @@ tell-all-requires c κs =
     let g = c .before .before .before .before .before .before .pre in
     record { stand = g .go .stand; early = g .go .early; enough = g .enough }
 
-same-length : tie.Need-same-length
-same-length c = search needs
-
 returns : tie.Need-returns
 returns c = c .before .before .tell-all .ensures
 
 pub tell-spec : {M : Type 1} → statement M
-tell-spec = tie.close (tie.spec tell-all-requires same-length returns)
+tell-spec =
+    tie.close (tie.spec tell-all-requires (λ c. search needs) returns)
