@@ -33,7 +33,8 @@ zeros-after l size n long past =
     (λ i h. getD-drop n l i 0 ∙ past (n + i) (omega arith) ∙
     sym (getD-replicate {A = ℕ} (size - n) i 0 0 (omega (arith, length-drop n l)))))
 
-lower-first : (plan : Plan) (k l m : ℕ) (cuts : List ℕ) → FirstFailing plan k l cuts → arrivals plan cuts < m → m ≤ l → FirstFailing plan k m cuts
+lower-first : (plan : Plan) (k l m : ℕ) (cuts : List ℕ) → FirstFailing plan k l cuts → arrivals plan cuts < m → m ≤ l →
+    FirstFailing plan k m cuts
 lower-first plan k l m cuts f h g =
     record { good = f .good; few = f .few; fails = h; first = λ others good fails. f .first others good (omega arith) }
 
@@ -97,7 +98,8 @@ module _ (row table fragile seconds weights most : List ℕ) (o : Opening) (k : 
 
     -- the answers that were put
     pub descend-on : (next : Hunted) (out′ : List ℕ) → h .found ≡ true → length out′ ≡ length out →
-        Filled (h .arrivals + 1) (l + 1) (h .pairs + 1) (h .numbers) out out′ → Hunts row (h .arrivals) k next → Descending row o k entry (h .arrivals) next out′
+        Filled (h .arrivals + 1) (l + 1) (h .pairs + 1) (h .numbers) out out′ → Hunts row (h .arrivals) k next →
+        Descending row o k entry (h .arrivals) next out′
     descend-on next out′ t size p n =
         record {
           within = omega (arith, less t, g .within);

@@ -14,7 +14,8 @@ back : (out part w final : List ℕ) (at : ℕ) → part ≡ w ++ drop (length w
     final ≡ take at out ++ (part ++ drop (length out - at) (drop at out)) → final ≡ take at out ++ (w ++ drop (length w) (drop at out))
 back out part w final at p e =
     let f : length (drop at out) ≤ length out - at = omega (arith, length-drop at out) in
-    e ∙ ap (λ (z : List ℕ). take at out ++ (part ++ z)) (drop-of-length-le (drop at out) f) ∙ ap (λ (z : List ℕ). take at out ++ z) (append-nil part) ∙
+    e ∙ ap (λ (z : List ℕ). take at out ++ (part ++ z)) (drop-of-length-le (drop at out) f) ∙ ap (λ (z : List ℕ). take at out ++ z)
+    (append-nil part) ∙
     ap (λ (z : List ℕ). take at out ++ z) (p ∙ ap (λ (z : List ℕ). w ++ drop (length w) z) (take-all (length out - at) (drop at out) f))
 
 pub puts-seven : (out numbers part final : List ℕ) (head : ℕ) → 7 ≤ length out → length numbers ≡ 6 →
@@ -25,7 +26,8 @@ puts-seven [] numbers part final head h l p e = absurd (omega arith)
 puts-seven (x ∷ xs) numbers part final head h l p e =
     back (head ∷ xs) part numbers final 1 p e ∙ ap (λ (k : ℕ). head ∷ (numbers ++ drop k xs)) l
 
-pub seven-length : (out numbers final : List ℕ) (head : ℕ) → 7 ≤ length out → length numbers ≡ 6 → final ≡ (head ∷ numbers) ++ drop 7 out → length final ≡ length out
+pub seven-length : (out numbers final : List ℕ) (head : ℕ) → 7 ≤ length out → length numbers ≡ 6 → final ≡ (head ∷ numbers) ++ drop 7 out →
+    length final ≡ length out
 seven-length out numbers final head h l e =
     omega (arith, ap length e, length-append numbers (drop 7 out), length-drop 7 out)
 
@@ -35,7 +37,8 @@ room-left out at n h =
     let f : length (drop at out) ≤ length out - at = omega (arith, length-drop at out) in
     rw (take-all (length out - at) (drop at out) f) (omega (arith, length-drop at out))
 
-module _ (out w final : List ℕ) (l : ℕ) (long : length w ≡ 7) (room : 7 * l + 7 ≤ length out) (is : final ≡ take (7 * l) out ++ (w ++ drop (length w) (drop (7 * l) out))) where
+module _ (out w final : List ℕ) (l : ℕ) (long : length w ≡ 7) (room : 7 * l + 7 ≤ length out)
+    (is : final ≡ take (7 * l) out ++ (w ++ drop (length w) (drop (7 * l) out))) where
   front : length (take (7 * l) out) ≡ 7 * l
   front = length-take-le (7 * l) out (omega arith)
 
@@ -57,11 +60,13 @@ module _ (out w final : List ℕ) (l : ℕ) (long : length w ≡ 7) (room : 7 * 
       take-at w (drop (length w) (drop (7 * l) out)) 7 long
 
   before : (m : ℕ) → m < l → seven m final ≡ seven m out
-  before m h = ap (seven m) is ∙ under (w ++ drop (length w) (drop (7 * l) out)) ∙ sym (under (drop (7 * l) out)) ∙ ap (seven m) (take-append-drop (7 * l) out)
+  before m h = ap (seven m) is ∙ under (w ++ drop (length w) (drop (7 * l) out)) ∙ sym (under (drop (7 * l) out)) ∙ ap (seven m)
+      (take-append-drop (7 * l) out)
     where
       under : (y : List ℕ) → seven m (take (7 * l) out ++ y) ≡ take 7 (drop (7 * m) (take (7 * l) out))
       under y =
-          let d : length (drop (7 * m) (take (7 * l) out)) ≡ 7 * l - 7 * m = length-drop (7 * m) (take (7 * l) out) ∙ ap (λ (k : ℕ). k - 7 * m) front in
+          let d : length (drop (7 * m) (take (7 * l) out)) ≡ 7 * l - 7 * m = length-drop (7 * m) (take (7 * l) out) ∙ ap
+          (λ (k : ℕ). k - 7 * m) front in
           ap (take 7) (drop-append-le (7 * m) (take (7 * l) out) y (omega (arith, front))) ∙
           take-append-le 7 (drop (7 * m) (take (7 * l) out)) y (omega arith)
 

@@ -25,7 +25,8 @@ use Rattle.all_verdicts.specs.Filling.{MayFillAll}
 written : (o : Outcome) (plan : Plan) (k : ℕ) (entry : List ℕ) (r : Refusal) → o ≡ refused r → After o plan k entry entry
 written o plan k entry r e = rw e refl
 
-refuses : (row : List ℕ) (k : ℕ) (entry : List ℕ) (r : Refusal) (a : Answer) → mayAnswer row k (length entry) ≡ refused r → outcomeOf a ≡ refused r →
+refuses : (row : List ℕ) (k : ℕ) (entry : List ℕ) (r : Refusal) (a : Answer) → mayAnswer row k (length entry) ≡ refused r →
+    outcomeOf a ≡ refused r →
     AnswersAll row k entry entry a
 refuses row k entry r a e is = record { answer = is ∙ sym e; buffer = written (mayAnswer row k (length entry)) (planOf row) k entry r e }
 
@@ -64,7 +65,8 @@ says-once plan k l a b (inr x) (inl y) = absurd (resistant-or-failing plan k l (
 says-once plan k l a b (inr x) (inr y) = x .is ∙ ap failing (first-once plan k l (x .cuts) (y .cuts) (x .first) (y .first)) ∙ sym (y .is)
 
 fronts : (plan : Plan) (k : ℕ) (x y : List ℕ) → ((l : ℕ) → l ≤ length (plan .messages) → Says plan k l (seven l x)) →
-    ((l : ℕ) → l ≤ length (plan .messages) → Says plan k l (seven l y)) → (n : ℕ) → n ≤ length (plan .messages) + 1 → take (7 * n) x ≡ take (7 * n) y
+    ((l : ℕ) → l ≤ length (plan .messages) → Says plan k l (seven l y)) → (n : ℕ) → n ≤ length (plan .messages) + 1 →
+    take (7 * n) x ≡ take (7 * n) y
 fronts plan k x y f g zero h = refl
 fronts plan k x y f g (suc n) h =
     let e : 7 * suc n ≡ 7 * n + 7 = omega arith in
@@ -80,6 +82,7 @@ said-once (gives n) plan k entry x y a b =
 said-once (refused r) plan k entry x y a b = a ∙ sym b
 
 -- two outcomes that the statement allows are equal
-pub one-outcome : (row : List ℕ) (k : ℕ) (entry x y : List ℕ) (r s : Answer) → AnswersAll row k entry x r → AnswersAll row k entry y s → (r ≡ s) × (x ≡ y)
+pub one-outcome : (row : List ℕ) (k : ℕ) (entry x y : List ℕ) (r s : Answer) → AnswersAll row k entry x r → AnswersAll row k entry y s →
+    (r ≡ s) × (x ≡ y)
 one-outcome row k entry x y r s a b =
     (same-answer r s (a .answer ∙ sym (b .answer)), said-once (mayAnswer row k (length entry)) (planOf row) k entry x y (a .buffer) (b .buffer))

@@ -1,6 +1,7 @@
 // All answers of a plan for one k at once, one for each l: document 01's refusals 1 to 11 and 13, or seven numbers for each l.
 // `all_answers` takes anything and asks nothing; `answers_good` takes a row that is known to be good. The first failing list for l is that for
-// every lower l down to one more than its arrivals, so there is one search for each distinct list. It leans on `plan` for refusals 1 to 10, on `search` for the search and on `verdicts` for what that is lent.
+// every lower l down to one more than its arrivals, so there is one search for each distinct list. It leans on `plan` for refusals 1 to
+// 10, on `search` for the search and on `verdicts` for what that is lent.
 use scope::Answer;
 use scope::limits::CUT_NUMBERS;
 use scope::limits::CUTS;

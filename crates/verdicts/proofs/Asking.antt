@@ -68,7 +68,8 @@ module _ (row : List ℕ) (good : GoodRow row) where
           heavy = w .long;
           tops = m .long;
           bounds = λ l need h.
-              bounds-of (planOf row) time ways many fragile seconds f table weights tab w l need most (good .keeps) m (omega (arith, message-count row));
+              bounds-of (planOf row) time ways many fragile seconds f table weights tab w l need most (good .keeps) m
+              (omega (arith, message-count row));
           stand =
               record {
                 time = b .time;
@@ -81,7 +82,8 @@ module _ (row : List ℕ) (good : GoodRow row) where
         }
 
 -- what is lent has room, and its seconds are 0
-pub may-lend : (row : List ℕ) → GoodRow row → (table fragile seconds weights most : List ℕ) → length table ≡ tableSize → length fragile ≡ tableSize →
+pub may-lend : (row : List ℕ) → GoodRow row → (table fragile seconds weights most : List ℕ) → length table ≡ tableSize →
+    length fragile ≡ tableSize →
     seconds ≡ replicate secondsSize 0 → length weights ≡ weightsSize → length most ≡ topsSize → MayLend row table fragile seconds weights most
 may-lend row good table fragile seconds weights most entries breaks zeros heavy tops =
     record {
@@ -108,7 +110,8 @@ module _ (row table fragile seconds weights most : List ℕ) (o : Opening) (l lo
 
   pub asks : (need : ℕ) → need ≡ o .asked .messages + 1 - l →
       MayHunt row table fragile seconds weights most
-      (record { timeout = o .asked .timeout; links = o .asked .links; messages = o .asked .messages; least = l; need = need }) (o .standing) low k
+      (record { timeout = o .asked .timeout; links = o .asked .links; messages = o .asked .messages; least = l; need = need }) (o .standing)
+      low k
   asks need e =
       let p = m .lent .play in
       record {

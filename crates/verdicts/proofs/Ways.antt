@@ -40,7 +40,8 @@ module _ (row : List ℕ) (k l : ℕ) (entry : List ℕ) (g : GoodRow row) where
   unfolding mayJudge
   l-too-large m r e h is =
       record {
-        may = rw (judged row g, lt-ltb (length (planOf row .messages)) l (omega (arith, message-count row)), or-true (ltb 3 k)) (ap refused (sym is));
+        may = rw (judged row g, lt-ltb (length (planOf row .messages)) l (omega (arith, message-count row)), or-true (ltb 3 k))
+            (ap refused (sym is));
         buffer = refl;
       }
 
@@ -54,7 +55,13 @@ module _ (row : List ℕ) (k l : ℕ) (entry : List ℕ) (g : GoodRow row) where
     too-short r h is =
         record {
           may =
-              rw (judged row g, le-ltb 3 k few, le-ltb (length (planOf row .messages)) l (omega (arith, message-count row)), lt-leb (2 * k) (length entry) h)
+              rw (
+                judged row g,
+                le-ltb 3 k few,
+                le-ltb (length (planOf row .messages)) l (omega (arith, message-count row)),
+                lt-leb (2 * k)
+                    (length entry) h,
+              )
               (ap refused (sym is));
           buffer = refl;
         }
@@ -62,7 +69,13 @@ module _ (row : List ℕ) (k l : ℕ) (entry : List ℕ) (g : GoodRow row) where
     module _ (room : 2 * k ≤ length entry) where
       may : mayJudge row k l (length entry) ≡ gives (2 * k)
       unfolding mayJudge
-      may = rw (judged row g, le-ltb 3 k few, le-ltb (length (planOf row .messages)) l (omega (arith, message-count row)), le-leb (2 * k) (length entry) room)
+      may = rw (
+        judged row g,
+        le-ltb 3 k few,
+        le-ltb (length (planOf row .messages)) l (omega (arith, message-count row)),
+        le-leb (2 * k)
+            (length entry) room,
+      )
 
       module _ (h : Hunted) (f : Hunts row l k h) where
         pub resists : h .found ≡ false → IsResistant row k l entry entry
@@ -72,10 +85,12 @@ module _ (row : List ℕ) (k l : ℕ) (entry : List ℕ) (g : GoodRow row) where
         front = length-take-le (2 * h .pairs) (h .numbers) (omega (arith, f .long, f .few))
 
         pub fails : (exit : List ℕ) → h .found ≡ true →
-            exit ≡ take (2 * h .pairs) (h .numbers) ++ drop (length (take (2 * h .pairs) (h .numbers))) entry → IsFailing row k l entry exit (h .pairs)
+            exit ≡ take (2 * h .pairs) (h .numbers) ++ drop (length (take (2 * h .pairs) (h .numbers))) entry →
+            IsFailing row k l entry exit (h .pairs)
         fails exit t is =
             let list : take (2 * h .pairs) exit ≡ take (2 * h .pairs) (h .numbers) =
-            ap (take (2 * h .pairs)) is ∙ take-at (take (2 * h .pairs) (h .numbers)) (drop (length (take (2 * h .pairs) (h .numbers))) entry) (2 * h .pairs) front in
+            ap (take (2 * h .pairs)) is ∙ take-at (take (2 * h .pairs) (h .numbers))
+            (drop (length (take (2 * h .pairs) (h .numbers))) entry) (2 * h .pairs) front in
             record {
               may = may;
               list = rw list (f .some t);
@@ -90,7 +105,8 @@ module _ (row : List ℕ) (k l : ℕ) (entry : List ℕ) (g : GoodRow row) where
 module _ (row : List ℕ) (k l : ℕ) (entry exit exit′ : List ℕ) where
   pub failing-once : (n m : ℕ) → IsFailing row k l entry exit n → IsFailing row k l entry exit′ m → (n ≡ m) × (exit ≡ exit′)
   failing-once n m a b =
-      let same : take (2 * n) exit ≡ take (2 * m) exit′ = first-once (planOf row) k l (take (2 * n) exit) (take (2 * m) exit′) (a .list) (b .list) in
+      let same : take (2 * n) exit ≡ take (2 * m) exit′ = first-once (planOf row) k l (take (2 * n) exit) (take (2 * m) exit′) (a .list)
+      (b .list) in
       let count : n ≡ m = sym (a .count) ∙ ap pairs same ∙ b .count in (
         count,
         sym (take-append-drop (2 * n) exit) ∙ ap₂ _++_ same (a .rest ∙ ap (λ (i : ℕ). drop (2 * i) entry) count ∙ sym (b .rest)) ∙

@@ -18,7 +18,10 @@ answers-good-requires : tie.Need-answers-good-requires
 answers-good-requires c κs = good-row _ _ (gave _ (c .before .enum-told .given .1) (c .before .before .before .judge .ensures))
 
 returns : tie.Need-returns
-returns c = bad-row (c .before .before .before .before .before .before .args .row .now) (c .before .before .before .before .before .before .args .k) (c .before .before .before .before .before .before .args .out .now) _ (refused-as _ (c .before .judged .given .1) (c .before .before .before .judge .ensures))
+returns c =
+    bad-row (c .before .before .before .before .before .before .args .row .now) (c .before .before .before .before .before .before .args .k)
+    (c .before .before .before .before .before .before .args .out .now) _
+    (refused-as _ (c .before .judged .given .1) (c .before .before .before .judge .ensures))
 
 same-length : tie.Need-same-length
 same-length c = search needs

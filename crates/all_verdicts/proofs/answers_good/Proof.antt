@@ -24,16 +24,24 @@ refuse-requires-2 : tie.Need-refuse-requires-2
 refuse-requires-2 c κs = search needs
 
 returns-2 : tie.Need-returns-2
-returns-2 c = too-short _ _ _ (c .before .before .before .before .before .before .pre) (c .before .before .before .if1 .left) _ _ (c .before .before .messages .ensures .is) refl _ (c .before .if2 .taken) (c .refuse2 .ensures)
+returns-2 c =
+    too-short _ _ _ (c .before .before .before .before .before .before .pre) (c .before .before .before .if1 .left) _ _
+    (c .before .before .messages .ensures .is) refl _ (c .before .if2 .taken) (c .refuse2 .ensures)
 
 fill-requires : tie.Need-fill-requires
-fill-requires c κs = may-fill-all _ _ (c .before .before .before .before .before .before .args .out .now) (c .before .before .before .before .before .before .pre) (c .before .before .before .if1 .left) _ _ (c .before .before .messages .ensures .is) refl (c .before .if2 .left)
+fill-requires c κs =
+    may-fill-all _ _ (c .before .before .before .before .before .before .args .out .now)
+    (c .before .before .before .before .before .before .pre) (c .before .before .before .if1 .left) _ _
+    (c .before .before .messages .ensures .is) refl (c .before .if2 .left)
 
 same-length : tie.Need-same-length
 same-length c = search needs
 
 returns-3 : tie.Need-returns-3
-returns-3 c = answered _ _ _ (c .before .before .before .before .before .before .before .before .before .pre) (c .before .before .before .before .before .before .if1 .left) _ _ (c .before .before .before .before .before .messages .ensures .is) refl (c .before .before .before .before .if2 .left) _ (c .before .before .fill .ensures)
+returns-3 c =
+    answered _ _ _ (c .before .before .before .before .before .before .before .before .before .pre)
+    (c .before .before .before .before .before .before .if1 .left) _ _ (c .before .before .before .before .before .messages .ensures .is)
+    refl (c .before .before .before .before .if2 .left) _ (c .before .before .fill .ensures)
 
 pub answers-good-spec : {M : Type 1} → statement M
 answers-good-spec =

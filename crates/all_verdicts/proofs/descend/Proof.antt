@@ -1,7 +1,8 @@
 -- `all_verdicts::descend` meets its contract: the answers above l are there.
 use mathlib.Core.Path.{refl, _∙_}
 use native.Mathlib.Omega.{arith}
-use Rattle.all_verdicts.proofs.Descending.{Descending, ask-first, descend-first, may-put, ask-next, less, descend-on, room-all, descend-done}
+use Rattle.all_verdicts.proofs.Descending.{Descending, ask-first, descend-first, may-put, ask-next, less, descend-on, room-all}
+use Rattle.all_verdicts.proofs.Descending.{descend-done}
 use Rattle.all_verdicts.proofs.descend.Statement.{statement}
 use Rattle.all_verdicts.proofs.descend.Tie as tie
 
@@ -13,11 +14,13 @@ abbrev μ-loop : tie.MeasureT-loop
 
 ask-requires : tie.Need-ask-requires Inv-loop μ-loop
 ask-requires c κs =
-    ask-first _ _ _ _ _ _ _ _ (c .before .before .before .before .before .before .before .before .args .out .now) (c .before .before .before .before .before .before .before .before .pre) _
-    refl
+    ask-first _ _ _ _ _ _ _ _ (c .before .before .before .before .before .before .before .before .args .out .now)
+    (c .before .before .before .before .before .before .before .before .pre) _ refl
 
 loop-holds : tie.Need-loop-holds Inv-loop μ-loop
-loop-holds c = descend-first _ _ _ _ _ _ _ _ _ (c .before .before .before .before .before .before .before .before .before .pre) _ _ refl (c .ask .ensures)
+loop-holds c =
+    descend-first _ _ _ _ _ _ _ _ _ (c .before .before .before .before .before .before .before .before .before .pre) _ _ refl
+    (c .ask .ensures)
 
 put-failing-requires : tie.Need-put-failing-requires Inv-loop μ-loop
 put-failing-requires c κs =
@@ -26,24 +29,30 @@ put-failing-requires c κs =
 
 ask-requires-2 : tie.Need-ask-requires-2 Inv-loop μ-loop
 ask-requires-2 c κs =
-    ask-next _ _ _ _ _ _ _ _ _ (c .before .before .before .before .before .before .before .before .before .before .before .before .before .before .before .pre) _ _ _
+    ask-next _ _ _ _ _ _ _ _ _
+    (c .before .before .before .before .before .before .before .before .before .before .before .before .before .before .before .pre) _ _ _
     (c .before .before .before .before .before .loop .inv) _ (c .before .before .before .before .loop-test .taken) refl
 
 loop-less : tie.Need-loop-less Inv-loop μ-loop
 loop-less c =
-    less _ _ _ _ _ _ _ _ _ (c .before .before .before .before .before .before .before .before .before .before .before .before .before .before .before .before .pre) _
-    _ _ (c .before .before .before .before .before .before .loop .inv) (c .before .before .before .before .before .loop-test .taken)
+    less _ _ _ _ _ _ _ _ _
+    (c .before .before .before .before .before .before .before .before .before .before .before .before .before .before .before .before .pre)
+    _ _ _ (c .before .before .before .before .before .before .loop .inv) (c .before .before .before .before .before .loop-test .taken)
 
 loop-again : tie.Need-loop-again Inv-loop μ-loop
 loop-again c =
-    descend-on _ _ _ _ _ _ _ _ _ (c .before .before .before .before .before .before .before .before .before .before .before .before .before .before .before .before .pre) _ _ _
-    (c .before .before .before .before .before .before .loop .inv) _ _ (c .before .before .before .before .before .loop-test .taken)
+    descend-on _ _ _ _ _ _ _ _ _
+    (c .before .before .before .before .before .before .before .before .before .before .before .before .before .before .before .before .pre)
+    _ _ _ (c .before .before .before .before .before .before .loop .inv) _ _ (c .before .before .before .before .before .loop-test .taken)
     (c .before .before .before .put-failing .kept .0) (c .before .before .before .put-failing .ensures) (c .ask2 .ensures)
 
 add-put-answers : tie.Need-add-put-answers Inv-loop μ-loop
 add-put-answers c =
-    omega
-    (arith, c .before .before .loop .inv .within, c .before .before .before .before .before .before .before .before .before .before .before .before .pre .ask .lent .many)
+    omega (
+      arith,
+      c .before .before .loop .inv .within,
+      c .before .before .before .before .before .before .before .before .before .before .before .before .pre .ask .lent .many,
+    )
 
 put-answers-requires : tie.Need-put-answers-requires Inv-loop μ-loop
 put-answers-requires c κs =
@@ -55,8 +64,9 @@ same-length c = c .before .before .put-answers .kept .0 ∙ c .before .before .b
 
 returns : tie.Need-returns Inv-loop μ-loop
 returns c =
-    descend-done _ _ _ _ _ _ _ _ _ (c .before .before .before .before .before .before .before .before .before .before .before .before .before .before .before .pre) _
-    _ _ (c .before .before .before .before .before .loop .inv) _ (c .before .before .before .before .loop-test .left)
+    descend-done _ _ _ _ _ _ _ _ _
+    (c .before .before .before .before .before .before .before .before .before .before .before .before .before .before .before .pre) _ _ _
+    (c .before .before .before .before .before .loop .inv) _ (c .before .before .before .before .loop-test .left)
     (c .before .before .put-answers .ensures)
 
 pub descend-spec : {M : Type 1} → statement M

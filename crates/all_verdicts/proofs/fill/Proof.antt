@@ -23,7 +23,8 @@ slice-aggregate-lend-5 c = search needs
 
 lend-requires : tie.Need-lend-requires
 lend-requires c κs =
-    may-lend _ (c .before .before .before .before .before .before .before .pre .good) _ _ _ _ _ (search needs) (search needs) refl (search needs) (search needs)
+    may-lend _ (c .before .before .before .before .before .before .before .pre .good) _ _ _ _ _ (search needs) (search needs) refl
+    (search needs) (search needs)
 
 slice-aggregate-descend : tie.Need-slice-aggregate-descend
 slice-aggregate-descend c = search needs
@@ -42,7 +43,14 @@ slice-aggregate-descend-5 c = search needs
 
 descend-requires : tie.Need-descend-requires
 descend-requires c κs =
-    record { ask = may-ask-on _ _ _ _ _ _ _ (c .before .before .before .before .before .before .before .before .before .before .before .lend .ensures) _ _ (omega arith) (c .before .before .before .before .before .before .before .before .before .before .before .before .before .before .before .before .before .before .before .pre .few); enough = c .before .before .before .before .before .before .before .before .before .before .before .before .before .before .before .before .before .before .before .pre .enough }
+    record {
+      ask =
+          may-ask-on _ _ _ _ _ _ _
+          (c .before .before .before .before .before .before .before .before .before .before .before .lend .ensures)
+          _ _ (omega arith) (c .before .before .before .before .before .before .before .before .before .before .before .before .before .before .before .before .before .before .before .pre .few);
+      enough =
+          c .before .before .before .before .before .before .before .before .before .before .before .before .before .before .before .before .before .before .before .pre .enough;
+    }
 
 same-length : tie.Need-same-length
 same-length c = search needs

@@ -24,13 +24,26 @@ part-copy-end : tie.Need-part-copy-end
 part-copy-end c = search needs
 
 copy-requires : tie.Need-copy-requires
-copy-requires c κs = let z : length (c .before .before .before .args .t3) ≡ 6 = search needs in rw z (room-left (set (c .before .before .before .args .out .now) 0 (c .before .before .before .args .head)) 1 6 (simp length-set (omega (arith, c .before .before .before .pre))))
+copy-requires c κs =
+    let z : length (c .before .before .before .args .t3) ≡ 6 = search needs in rw z
+    (room-left (set (c .before .before .before .args .out .now) 0 (c .before .before .before .args .head)) 1 6
+    (simp length-set (omega (arith, c .before .before .before .pre))))
 
 same-length : tie.Need-same-length
-same-length c = let z : length (c .before .before .before .before .before .before .args .t3) ≡ 6 = search needs in seven-length (c .before .before .before .before .before .before .args .out .now) (c .before .before .before .before .before .before .args .t3) _ (c .before .before .before .before .before .before .args .head) (c .before .before .before .before .before .before .pre) z (puts-seven (c .before .before .before .before .before .before .args .out .now) (c .before .before .before .before .before .before .args .t3) _ _ (c .before .before .before .before .before .before .args .head) (c .before .before .before .before .before .before .pre) z (c .before .before .copy .ensures) refl)
+same-length c =
+    let z : length (c .before .before .before .before .before .before .args .t3) ≡ 6 = search needs in seven-length
+    (c .before .before .before .before .before .before .args .out .now) (c .before .before .before .before .before .before .args .t3) _
+    (c .before .before .before .before .before .before .args .head) (c .before .before .before .before .before .before .pre) z
+    (puts-seven (c .before .before .before .before .before .before .args .out .now)
+    (c .before .before .before .before .before .before .args .t3) _ _ (c .before .before .before .before .before .before .args .head)
+    (c .before .before .before .before .before .before .pre) z (c .before .before .copy .ensures) refl)
 
 returns : tie.Need-returns
-returns c = let z : length (c .before .before .before .before .before .before .args .t3) ≡ 6 = search needs in puts-seven (c .before .before .before .before .before .before .args .out .now) (c .before .before .before .before .before .before .args .t3) _ _ (c .before .before .before .before .before .before .args .head) (c .before .before .before .before .before .before .pre) z (c .before .before .copy .ensures) refl
+returns c =
+    let z : length (c .before .before .before .before .before .before .args .t3) ≡ 6 = search needs in puts-seven
+    (c .before .before .before .before .before .before .args .out .now) (c .before .before .before .before .before .before .args .t3) _ _
+    (c .before .before .before .before .before .before .args .head) (c .before .before .before .before .before .before .pre) z
+    (c .before .before .copy .ensures) refl
 
 pub put-answer-spec : {M : Type 1} → statement M
 put-answer-spec =

@@ -32,7 +32,9 @@ part-put-answer-end : tie.Need-part-put-answer-end Inv-loop μ-loop
 part-put-answer-end c = search needs
 
 put-answer-requires : tie.Need-put-answer-requires Inv-loop μ-loop
-put-answer-requires c κs = room-left (c .before .before .loop .out) (7 * c .before .before .loop .l) 7 (omega (arith, c .before .loop-test .taken, c .before .before .before .before .pre .2, c .before .before .loop .inv .same))
+put-answer-requires c κs =
+    room-left (c .before .before .loop .out) (7 * c .before .before .loop .l) 7
+    (omega (arith, c .before .loop-test .taken, c .before .before .before .before .pre .2, c .before .before .loop .inv .same))
 
 add-l : tie.Need-add-l Inv-loop μ-loop
 add-l c = omega (arith, c .before .before .before .before .loop-test .taken, c .before .before .before .before .before .before .before .pre .1)
@@ -41,7 +43,10 @@ loop-less : tie.Need-loop-less Inv-loop μ-loop
 loop-less c = omega (arith, c .before .before .before .before .loop-test .taken)
 
 loop-again : tie.Need-loop-again Inv-loop μ-loop
-loop-again c = putting-more _ _ _ _ _ _ _ (c .before .before .before .before .before .loop .inv) _ _ (c .before .before .before .before .loop-test .taken) (c .before .before .before .before .before .before .before .pre .2) (search needs) (c .before .before .put-answer .ensures) refl
+loop-again c =
+    putting-more _ _ _ _ _ _ _ (c .before .before .before .before .before .loop .inv) _ _
+    (c .before .before .before .before .loop-test .taken) (c .before .before .before .before .before .before .before .pre .2) (search needs)
+    (c .before .before .put-answer .ensures) refl
 
 same-length : tie.Need-same-length Inv-loop μ-loop
 same-length c = c .before .loop .inv .same

@@ -8,13 +8,16 @@ no-list-requires : tie.Need-no-list-requires
 no-list-requires c κs = search needs
 
 returns : tie.Need-returns
-returns c = asks-nought _ _ _ _ _ _ _ _ _ _ (c .before .before .before .before .before .before .before .before .pre) _ (c .before .if1 .taken) (c .no-list .ensures)
+returns c =
+    asks-nought _ _ _ _ _ _ _ _ _ _ (c .before .before .before .before .before .before .before .before .pre) _ (c .before .if1 .taken)
+    (c .no-list .ensures)
 
 need-requires : tie.Need-need-requires
 need-requires c κs = search needs
 
 first-list-requires : tie.Need-first-list-requires
-first-list-requires c κs = asks _ _ _ _ _ _ _ _ _ _ (c .before .before .before .before .before .before .before .before .before .before .pre) _ (c .need .ensures)
+first-list-requires c κs =
+    asks _ _ _ _ _ _ _ _ _ _ (c .before .before .before .before .before .before .before .before .before .before .pre) _ (c .need .ensures)
 
 returns-2 : tie.Need-returns-2
 returns-2 c = search needs

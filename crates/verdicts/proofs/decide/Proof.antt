@@ -22,7 +22,8 @@ slice-aggregate-lend-5 c = search needs
 
 lend-requires : tie.Need-lend-requires
 lend-requires c κs =
-    may-lend _ (c .before .before .before .before .before .before .pre .good) _ _ _ _ _ (search needs) (search needs) refl (search needs) (search needs)
+    may-lend _ (c .before .before .before .before .before .before .pre .good) _ _ _ _ _ (search needs) (search needs) refl (search needs)
+    (search needs)
 
 slice-aggregate-ask : tie.Need-slice-aggregate-ask
 slice-aggregate-ask c = search needs

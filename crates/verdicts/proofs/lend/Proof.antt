@@ -5,7 +5,11 @@ use Rattle.verdicts.proofs.lend.Statement.{statement}
 use Rattle.verdicts.proofs.lend.Tie as tie
 
 fill-table-requires : tie.Need-fill-table-requires
-fill-table-requires c κs = (c .before .before .before .before .before .before .before .pre .entries, lies (c .before .before .before .before .before .before .before .args .row .now) (c .before .before .before .before .before .before .before .pre .good) .messages)
+fill-table-requires c κs = (
+  c .before .before .before .before .before .before .before .pre .entries,
+  lies (c .before .before .before .before .before .before .before .args .row .now)
+      (c .before .before .before .before .before .before .before .pre .good) .messages,
+)
 
 fill-requires : tie.Need-fill-requires
 fill-requires c κs = search needs
@@ -20,7 +24,11 @@ messages-requires : tie.Need-messages-requires
 messages-requires c κs = search needs
 
 start-all-requires : tie.Need-start-all-requires
-start-all-requires c κs = may-start _ (c .before .before .before .before .before .before .before .before .before .before .before .before .before .before .before .before .before .before .before .before .before .before .before .before .before .before .before .before .before .before .pre .good) _ (c .messages .ensures .is)
+start-all-requires c κs =
+    may-start _
+    (c .before .before .before .before .before .before .before .before .before .before .before .before .before .before .before .before
+    .before .before .before .before .before .before .before .before .before .before .before .before .before .before .pre .good) _
+    (c .messages .ensures .is)
 
 timeout-requires : tie.Need-timeout-requires
 timeout-requires c κs = search needs
@@ -45,9 +53,17 @@ same-length-5 c = search needs
 
 returns : tie.Need-returns
 returns c =
-    lends _ (c .before .before .before .before .before .before .before .before .before .before .before .before .before .before .before .before .before .before .before .before .before .before .before .before .before .before .before .before .before .before .before .before .before .pre .good) _ _ _ _ _ (c .before .before .before .before .before .before .before .before .before .before .before .before .before .before .before .before .before .before .before .before .before .before .before .before .before .fill-table .ensures) (c .before .before .before .before .before .before .before .before .before .before .before .before .before .before .before .before .before .before .before .before .fill .ensures)
-    (c .before .before .before .before .before .before .before .before .before .before .before .weigh-all .ensures) (c .before .before .before .before .before .before .tops-all .ensures) _ _ _ _ _ _
-    (c .before .timeout .ensures .is) (c .links .ensures .is) (c .before .before .before .messages .ensures .is) (c .before .before .start-all .ensures)
+    lends _
+    (c .before .before .before .before .before .before .before .before .before .before .before .before .before .before .before .before
+    .before .before .before .before .before .before .before .before .before .before .before .before .before .before .before .before .before
+    .pre .good) _ _ _ _ _
+    (c .before .before .before .before .before .before .before .before .before .before .before .before .before .before .before .before
+    .before .before .before .before .before .before .before .before .before .fill-table .ensures)
+    (c .before .before .before .before .before .before .before .before .before .before .before .before .before .before .before .before
+    .before .before .before .before .fill .ensures)
+    (c .before .before .before .before .before .before .before .before .before .before .before .weigh-all .ensures)
+    (c .before .before .before .before .before .before .tops-all .ensures) _ _ _ _ _ _ (c .before .timeout .ensures .is)
+    (c .links .ensures .is) (c .before .before .before .messages .ensures .is) (c .before .before .start-all .ensures)
 
 pub lend-spec : {M : Type 1} → statement M
 lend-spec =

@@ -19,7 +19,9 @@ refusal-at-requires-2 : tie.Need-refusal-at-requires-2
 refusal-at-requires-2 c κs = search needs
 
 returns-2 : tie.Need-returns-2
-returns-2 c = l-too-large _ _ _ _ (c .before .before .before .before .before .before .pre) _ _ (c .before .before .messages .ensures .is) (c .before .if2 .taken) (c .refusal-at2 .ensures)
+returns-2 c =
+    l-too-large _ _ _ _ (c .before .before .before .before .before .before .pre) _ _ (c .before .before .messages .ensures .is)
+    (c .before .if2 .taken) (c .refusal-at2 .ensures)
 
 mul-if3 : tie.Need-mul-if3
 mul-if3 c = search needs
@@ -31,10 +33,15 @@ refusal-at-requires-3 : tie.Need-refusal-at-requires-3
 refusal-at-requires-3 c κs = search needs
 
 returns-3 : tie.Need-returns-3
-returns-3 c = too-short _ _ _ _ (c .before .before .before .before .before .before .before .pre) _ (c .before .before .before .messages .ensures .is) (c .before .before .before .before .if1 .left) (c .before .before .if2 .left) _ (c .before .if3 .taken) (c .refusal-at3 .ensures)
+returns-3 c =
+    too-short _ _ _ _ (c .before .before .before .before .before .before .before .pre) _ (c .before .before .before .messages .ensures .is)
+    (c .before .before .before .before .if1 .left) (c .before .before .if2 .left) _ (c .before .if3 .taken) (c .refusal-at3 .ensures)
 
 decide-requires : tie.Need-decide-requires
-decide-requires c κs = may-ask _ _ _ (c .before .before .before .before .before .before .args .list .now) (c .before .before .before .before .before .before .pre) _ (c .before .before .messages .ensures .is) (c .before .before .before .if1 .left) (c .before .if2 .left)
+decide-requires c κs =
+    may-ask _ _ _ (c .before .before .before .before .before .before .args .list .now)
+    (c .before .before .before .before .before .before .pre) _ (c .before .before .messages .ensures .is)
+    (c .before .before .before .if1 .left) (c .before .if2 .left)
 
 mul-numbers : tie.Need-mul-numbers
 mul-numbers c = search needs
@@ -43,19 +50,46 @@ array-share-prefix-numbers : tie.Need-array-share-prefix-numbers
 array-share-prefix-numbers c = search needs
 
 slice-aggregate-copy : tie.Need-slice-aggregate-copy
-slice-aggregate-copy c = sym (front _ _ _ (c .before .before .before .before .before .before .before .before .before .before .args .list .now) (c .before .before .before .before .before .before .before .before .before .before .pre) _ (c .before .before .before .before .before .before .messages .ensures .is) (c .before .before .before .before .before .before .before .if1 .left) (c .before .before .before .before .before .if2 .left) (c .before .before .before .before .if3 .left) _ (c .before .before .before .decide .ensures))
+slice-aggregate-copy c =
+    sym
+    (front _ _ _ (c .before .before .before .before .before .before .before .before .before .before .args .list .now)
+    (c .before .before .before .before .before .before .before .before .before .before .pre) _
+    (c .before .before .before .before .before .before .messages .ensures .is)
+    (c .before .before .before .before .before .before .before .if1 .left) (c .before .before .before .before .before .if2 .left)
+    (c .before .before .before .before .if3 .left) _ (c .before .before .before .decide .ensures))
 
 copy-requires : tie.Need-copy-requires
-copy-requires c κs = omega (arith, front _ _ _ (c .before .before .before .before .before .before .before .before .before .before .before .args .list .now) (c .before .before .before .before .before .before .before .before .before .before .before .pre) _ (c .before .before .before .before .before .before .before .messages .ensures .is) (c .before .before .before .before .before .before .before .before .if1 .left) (c .before .before .before .before .before .before .if2 .left) (c .before .before .before .before .before .if3 .left) _ (c .before .before .before .before .decide .ensures), c .before .before .before .before .decide .ensures .few, c .before .before .before .before .before .if3 .left)
+copy-requires c κs =
+    omega (
+      arith,
+      front _ _ _ (c .before .before .before .before .before .before .before .before .before .before .before .args .list .now)
+          (c .before .before .before .before .before .before .before .before .before .before .before .pre) _
+          (c .before .before .before .before .before .before .before .messages .ensures .is)
+          (c .before .before .before .before .before .before .before .before .if1 .left)
+          (c .before .before .before .before .before .before .if2 .left) (c .before .before .before .before .before .if3 .left) _
+          (c .before .before .before .before .decide .ensures),
+      c .before .before .before .before .decide .ensures .few,
+      c .before .before .before .before .before .if3 .left,
+    )
 
 same-length : tie.Need-same-length
 same-length c = search needs
 
 returns-4 : tie.Need-returns-4
-returns-4 c = fails _ _ _ _ (c .before .before .before .before .before .before .before .before .before .before .before .before .before .before .pre) _ (c .before .before .before .before .before .before .before .before .before .before .messages .ensures .is) (c .before .before .before .before .before .before .before .before .before .before .before .if1 .left) (c .before .before .before .before .before .before .before .before .before .if2 .left) (c .before .before .before .before .before .before .before .before .if3 .left) _ (c .before .before .before .before .before .before .before .decide .ensures) _ (c .before .before .before .before .before .before .if4 .taken) (c .before .before .copy .ensures)
+returns-4 c =
+    fails _ _ _ _ (c .before .before .before .before .before .before .before .before .before .before .before .before .before .before .pre) _
+    (c .before .before .before .before .before .before .before .before .before .before .messages .ensures .is)
+    (c .before .before .before .before .before .before .before .before .before .before .before .if1 .left)
+    (c .before .before .before .before .before .before .before .before .before .if2 .left)
+    (c .before .before .before .before .before .before .before .before .if3 .left) _
+    (c .before .before .before .before .before .before .before .decide .ensures) _
+    (c .before .before .before .before .before .before .if4 .taken) (c .before .before .copy .ensures)
 
 returns-5 : tie.Need-returns-5
-returns-5 c = resists _ _ _ _ (c .before .before .before .before .before .before .before .before .pre) _ (c .before .before .before .before .messages .ensures .is) (c .before .before .before .before .before .if1 .left) (c .before .before .before .if2 .left) (c .before .before .if3 .left) _ (c .before .decide .ensures) (c .if4 .left)
+returns-5 c =
+    resists _ _ _ _ (c .before .before .before .before .before .before .before .before .pre) _
+    (c .before .before .before .before .messages .ensures .is) (c .before .before .before .before .before .if1 .left)
+    (c .before .before .before .if2 .left) (c .before .before .if3 .left) _ (c .before .decide .ensures) (c .if4 .left)
 
 pub verdict-good-spec : {M : Type 1} → statement M
 verdict-good-spec =
