@@ -10,6 +10,7 @@ use lib.ListN.{length, getD, take, drop, replicate, length-drop, length-replicat
 use lib.Seq.{length-take-le, getD-drop, ext-getD}
 use lib.Dec.{ltb}
 use borrow.Author.Tests.{ltb-true, ltb-false}
+use Rattle.scope.specs.Limits.{mostMessages}
 use Rattle.scope.specs.Plan.{Plan, planOf}
 use Rattle.scope.specs.Cuts.{pairs}
 use Rattle.scope.specs.Cycle.{arrivals}
@@ -21,7 +22,7 @@ use Rattle.bound.specs.Bound.{Fails}
 use Rattle.search.proofs.Answer.{all-leave}
 use Rattle.verdicts.specs.declared.Opening.{Opening}
 use Rattle.verdicts.specs.Lent.{MayAskOn}
-use Rattle.all_verdicts.specs.Answers.{failing, Says, seven, needed, AllSaid}
+use Rattle.all_verdicts.specs.Answers.{answerSize, failing, Says, seven, needed, AllSaid}
 use Rattle.all_verdicts.specs.Filling.{Filled, MayFill, MayPut}
 
 -- a list that ends in zeros
@@ -130,7 +131,7 @@ module _ (row table fragile seconds weights most : List ℕ) (o : Opening) (k : 
               is = p .inside m (omega arith) (omega arith) ∙ is;
             })
 
-    pub room-all : (0 ≤ l + 1) × (l + 1 ≤ 64) × (7 * (l + 1) ≤ length out)
+    pub room-all : (0 ≤ l + 1) × (l + 1 ≤ mostMessages + 1) × (answerSize * (l + 1) ≤ length out)
     room-all = omega (arith, g .same, g .within, f .enough, count, f .ask .lent .many)
 
     pub descend-done : (exit : List ℕ) → h .found ≡ false → Filled 0 (l + 1) 0 (replicate 6 0) out exit → AllSaid (planOf row) k entry exit

@@ -9,16 +9,21 @@ use lib.ListN.{length, take, drop, replicate}
 use lib.Dec.{ltb}
 use Rattle.scope.specs.declared.Answer.{Answer}
 use Rattle.scope.specs.Outcome.{Outcome, gives, refused, refuse, outcomeOf, andThen, room}
+use Rattle.scope.specs.Limits.{mostCuts}
 use Rattle.scope.specs.Plan.{Plan, planOf}
 use Rattle.scope.specs.Cuts.{pairs}
 use Rattle.scope.specs.Verdict.{Resistant, FirstFailing}
 use Rattle.scope.specs.Questions.{judge}
 
+-- the numbers of one answer: its head, and those of its list
+abbrev pub answerSize : ℕ
+answerSize = 7
+
 abbrev pub resistant : List ℕ
-resistant = replicate 7 0
+resistant = replicate answerSize 0
 
 abbrev pub failing : List ℕ → List ℕ
-failing cuts = (pairs cuts + 1) ∷ (cuts ++ replicate (6 - length cuts) 0)
+failing cuts = (pairs cuts + 1) ∷ (cuts ++ replicate (2 * mostCuts - length cuts) 0)
 
 pub record SaysResistant (plan : Plan) (k l : ℕ) (seven : List ℕ) : Type 0 where
   pub resists : Resistant plan k l
@@ -35,15 +40,15 @@ Says plan k l seven = SaysResistant plan k l seven ⊎ SaysFailing plan k l seve
 
 -- the seven numbers for l
 abbrev pub seven : ℕ → List ℕ → List ℕ
-seven l out = take 7 (drop (7 * l) out)
+seven l out = take answerSize (drop (answerSize * l) out)
 
 -- how many numbers there are
 abbrev pub needed : Plan → ℕ
-needed plan = 7 * (length (plan .messages) + 1)
+needed plan = answerSize * (length (plan .messages) + 1)
 
 -- refusals 1 to 10; 11, "k above 3"; 13
 unfoldable pub mayAnswer : List ℕ → ℕ → ℕ → Outcome
-mayAnswer row k lent = andThen (judge row) (λ _. cond (ltb 3 k) (refuse 11 0) (room (needed (planOf row)) lent))
+mayAnswer row k lent = andThen (judge row) (λ _. cond (ltb mostCuts k) (refuse 11 0) (room (needed (planOf row)) lent))
 
 -- every answer is there, and the rest is as it was
 pub record AllSaid (plan : Plan) (k : ℕ) (entry exit : List ℕ) : Type 0 where

@@ -16,15 +16,19 @@ ghost use Prim.Native.Nat.{_+_, _*_, _≤_, _<_};
 ghost use mathlib.Core.Path.{_≡_};
 ghost use mathlib.Core.List.{_++_, _∷_};
 ghost use lib.ListN.{length, drop};
+ghost use Rattle.scope.specs.Limits.{mostMessages};
 ghost use Rattle.scope.specs.Plan.{planOf};
 ghost use Rattle.plan.specs.Answers.{GoodRow};
-ghost use Rattle.all_verdicts.specs.Answers.{AllSaid, AnswersAll};
+ghost use Rattle.all_verdicts.specs.Answers.{answerSize, AllSaid, AnswersAll};
 ghost use Rattle.all_verdicts.specs.Filling.{Filled, MayFill, MayPut, MayFillAll};
 
-// Seven numbers at the front of a list.
+// The numbers of one answer: its head, and those of its list.
+pub const ANSWER: usize = 1 + CUT_NUMBERS;
+
+// One answer at the front of a list.
 fn put_answer(out: &mut [u16], head: u16, numbers: [u16; CUT_NUMBERS])
-    requires { ⌜ 7 ≤ length (now out) ⌝ }
-    ensures { λ _. ⌜ now (out .exit) ≡ (head ∷ numbers) ++ drop 7 (now (out .entry)) ⌝ }
+    requires { ⌜ answerSize ≤ length (now out) ⌝ }
+    ensures { λ _. ⌜ now (out .exit) ≡ (head ∷ numbers) ++ drop answerSize (now (out .entry)) ⌝ }
 {
     out[0] = head;
     plan::copy(&numbers, &mut out[1..]);
@@ -32,12 +36,12 @@ fn put_answer(out: &mut [u16], head: u16, numbers: [u16; CUT_NUMBERS])
 
 // The same answer for each l from `from` on, below `to`.
 fn put_answers(out: &mut [u16], from: usize, to: usize, head: u16, numbers: [u16; CUT_NUMBERS])
-    requires { ⌜ (from ≤ to) × (to ≤ 64) × (7 * to ≤ length (now out)) ⌝ }
+    requires { ⌜ (from ≤ to) × (to ≤ mostMessages + 1) × (answerSize * to ≤ length (now out)) ⌝ }
     ensures { λ _. ⌜ Filled from to head numbers (now (out .entry)) (now (out .exit)) ⌝ }
 {
     let mut l = from;
     while l < to {
-        let at = 7 * l;
+        let at = ANSWER * l;
         put_answer(&mut out[at..], head, numbers);
         l += 1;
     }
@@ -121,7 +125,7 @@ pub fn answers_good(row: &[u16], k: usize, out: &mut [u16]) -> Answer
     if CUTS < k {
         return refuse(11, 0);
     }
-    let needed = 7 * (rows::messages(row) + 1);
+    let needed = ANSWER * (rows::messages(row) + 1);
     if out.len() < needed {
         return refuse(13, needed);
     }
