@@ -9,7 +9,7 @@ use lib.Seq.{getD-set-same, getD-set-other}
 use lib.Dec.{ltb, eqb}
 use borrow.Author.Count.{below-more}
 use borrow.Author.Tests.{ltb-true, ltb-false, lt-ltb, eqb-true, eqb-false, eq-eqb, ne-eqb}
-use Rattle.scope.specs.Limits.{mostSlots, mostMessages, mostEntries}
+use Rattle.scope.specs.Limits.{mostMessages, mostEntries}
 use Rattle.table.specs.Table.{entryAt}
 use Rattle.bound.specs.Sums.{sumOf, oneIf}
 use Rattle.bound.specs.Seconds.{secondIn}
@@ -35,14 +35,14 @@ same-some a b c e = by (ltb 0 b) refl
         ap (ltb 0) same
 
 -- the slots before slot i are marked
-pub record Marking (table : List ℕ) (s e : ℕ) (old new : List ℕ) (i : ℕ) : Type 0 where
+pub record Marking (table : List ℕ) (t s e : ℕ) (old new : List ℕ) (i : ℕ) : Type 0 where
   pub from : s ≤ i
-  pub few : i ≤ mostSlots
+  pub few : i ≤ t
   pub long : length new ≡ mostEntries
   pub is : (w : ℕ) → w < mostEntries → ltb 0 (getD new w 0) ≡ ltb 0 (getD old w 0 + standing table w s e (i - s))
 
-module _ (table : List ℕ) (s e : ℕ) (old : List ℕ) (may : MayMark s old) where
-  pub marking-none : Marking table s e old old s
+module _ (table : List ℕ) (t s e : ℕ) (old : List ℕ) (may : MayMark t s old) where
+  pub marking-none : Marking table t s e old old s
   unfolding sumOf
   marking-none =
       let z : s - s ≡ zero = omega arith in
@@ -53,8 +53,8 @@ module _ (table : List ℕ) (s e : ℕ) (old : List ℕ) (may : MayMark s old) w
         is = λ w h. let none : getD old w 0 ≡ getD old w 0 + 0 = omega arith in rw z (ap (ltb 0) none);
       }
 
-  module _ (new : List ℕ) (i : ℕ) (g : Marking table s e old new i) where
-    pub marking-more : (v : ℕ) → i < mostSlots → v < mostEntries → v ≡ entryAt table i e → Marking table s e old (set new v 1) (i + 1)
+  module _ (new : List ℕ) (i : ℕ) (g : Marking table t s e old new i) where
+    pub marking-more : (v : ℕ) → i < t → v < mostEntries → v ≡ entryAt table i e → Marking table t s e old (set new v 1) (i + 1)
     unfolding sumOf
     marking-more v h small here =
         record {
@@ -87,9 +87,9 @@ module _ (table : List ℕ) (s e : ℕ) (old : List ℕ) (may : MayMark s old) w
             getD old w 0 + (standing table w s e (i - s) + oneIf (eqb (entryAt table (s + (i - s)) e) w)) = omega (arith, none-more) in
             rw more (ap (ltb 0) (getD-set-other new v w 1 0 other) ∙ g .is w l ∙ ap (ltb 0) whole)
 
-    pub marking-done : mostSlots ≤ i → Marked (entryHits table) s e old new
+    pub marking-done : t ≤ i → Marked (entryHits table t) s e old new
     marking-done h =
-        let k : i - s ≡ mostSlots - s = omega (arith, g .few) in
+        let k : i - s ≡ t - s = omega (arith, g .few) in
         record {
           long = g .long;
           is = λ m l. g .is (m + 1) (omega arith) ∙ ap (λ (n : ℕ). ltb 0 (getD old (m + 1) 0 + standing table (m + 1) s e n)) k;
@@ -133,14 +133,16 @@ module _ (seconds : List ℕ) (e : ℕ) (old : List ℕ) where
     baring-done h = record { long = g .long; is = λ j l. g .is j (omega arith) }
 
 -- first the fragile entries, then the second paths
-pub bared-by-both : (fragile seconds : List ℕ) (s e : ℕ) (old mid new : List ℕ) →
-    Marked (entryHits fragile) s e old mid → Marked (λ j s e. secondIn seconds e j) 0 e mid new → Marked (stripHits fragile seconds) s e old new
-bared-by-both fragile seconds s e old mid new a b =
+pub bared-by-both : (fragile seconds : List ℕ) (t s e : ℕ) (old mid new : List ℕ) →
+    Marked (entryHits fragile t) s e old mid → Marked (λ j s e. secondIn seconds e j) 0 e mid new →
+    Marked (stripHits fragile seconds t) s e old new
+bared-by-both fragile seconds t s e old mid new a b =
     record {
       long = b .long;
       is = λ m l.
-          let sum : getD old (m + 1) 0 + entryHits fragile m s e + secondIn seconds e m ≡ getD old (m + 1) 0 + stripHits fragile seconds m s e =
+          let sum : getD old (m + 1) 0 + entryHits fragile t m s e + secondIn seconds e m ≡ getD old (m + 1) 0 +
+          stripHits fragile seconds t m s e =
           omega arith in
-          b .is m l ∙ same-some (getD mid (m + 1) 0) (getD old (m + 1) 0 + entryHits fragile m s e) (secondIn seconds e m) (a .is m l) ∙
+          b .is m l ∙ same-some (getD mid (m + 1) 0) (getD old (m + 1) 0 + entryHits fragile t m s e) (secondIn seconds e m) (a .is m l) ∙
           ap (ltb 0) sum;
     }

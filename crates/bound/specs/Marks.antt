@@ -4,28 +4,28 @@ use mathlib.Core.Path.{_≡_}
 use mathlib.Core.List.{List}
 use lib.ListN.{length, getD}
 use lib.Dec.{ltb, eqb}
-use Rattle.scope.specs.Limits.{mostSlots, mostLinks, mostMessages, mostEntries, secondsSize}
+use Rattle.scope.specs.Limits.{mostLinks, mostMessages, mostEntries, secondsSize}
 use Rattle.scope.specs.Cuts.{pairs}
 use Rattle.table.specs.Table.{entryAt}
 use Rattle.bound.specs.Sums.{sumOf, oneIf}
 use Rattle.bound.specs.Touch.{harm}
 use Rattle.bound.specs.Seconds.{secondIn}
 
--- how often a table has entry w on link e in slot s or later
-abbrev pub entryFrom : List ℕ → ℕ → ℕ → ℕ → ℕ
-entryFrom table w s e = sumOf (λ i. oneIf (eqb (entryAt table (s + i) e) w)) (mostSlots - s)
+-- how often a table has entry w on link e in the slots from s on and before t
+abbrev pub entryFrom : List ℕ → ℕ → ℕ → ℕ → ℕ → ℕ
+entryFrom table t w s e = sumOf (λ i. oneIf (eqb (entryAt table (s + i) e) w)) (t - s)
 
 -- how often the pair (s, e) hits message m in a table
-abbrev pub entryHits : List ℕ → ℕ → ℕ → ℕ → ℕ
-entryHits table m s e = entryFrom table (m + 1) s e
+abbrev pub entryHits : List ℕ → ℕ → ℕ → ℕ → ℕ → ℕ
+entryHits table t m s e = entryFrom table t (m + 1) s e
 
 -- and in a table of fragile places and the second paths of robust ones
-abbrev pub stripHits : List ℕ → List ℕ → ℕ → ℕ → ℕ → ℕ
-stripHits fragile seconds m s e = entryHits fragile m s e + secondIn seconds e m
+abbrev pub stripHits : List ℕ → List ℕ → ℕ → ℕ → ℕ → ℕ → ℕ
+stripHits fragile seconds t m s e = entryHits fragile t m s e + secondIn seconds e m
 
 -- a pair may be marked
-pub record MayMark (s : ℕ) (marks : List ℕ) : Type 0 where
-  pub slot : s ≤ mostSlots
+pub record MayMark (t s : ℕ) (marks : List ℕ) : Type 0 where
+  pub slot : s ≤ t
   pub long : length marks ≡ mostEntries
 
 pub record MayBare (seconds : List ℕ) (e : ℕ) (marks : List ℕ) : Type 0 where

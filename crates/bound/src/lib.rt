@@ -151,13 +151,13 @@ pub fn need(messages: usize, least: usize) -> usize
     messages + 1 - least
 }
 
-// Marks each entry that stands on link e in slot s or later.
-pub fn mark(table: &[u8], s: usize, e: usize, marks: &mut [u8])
-    requires { ⌜ MayMark s (now marks) ⌝ }
-    ensures { λ _. ⌜ Marked (entryHits (now (table .entry))) s e (now (marks .entry)) (now (marks .exit)) ⌝ }
+// Marks each entry that stands on link e in slot s or later, before slot t.
+pub fn mark(table: &[u8], t: usize, s: usize, e: usize, marks: &mut [u8])
+    requires { ⌜ MayMark t s (now marks) ⌝ }
+    ensures { λ _. ⌜ Marked (entryHits (now (table .entry)) t) s e (now (marks .entry)) (now (marks .exit)) ⌝ }
 {
     let mut i = s;
-    while i < SLOTS {
+    while i < t {
         let w = table::entry(table, i, e) as usize;
         marks[w] = 1;
         i += 1;
@@ -179,11 +179,11 @@ fn mark_seconds(seconds: &[u8], e: usize, marks: &mut [u8])
     }
 }
 
-// Marks each message that the pair of slot s and link e strips.
-pub fn bare(fragile: &[u8], seconds: &[u8], s: usize, e: usize, marks: &mut [u8])
-    requires { ⌜ (s ≤ mostSlots) × MayBare (now seconds) e (now marks) ⌝ }
-    ensures { λ _. ⌜ Marked (stripHits (now (fragile .entry)) (now (seconds .entry))) s e (now (marks .entry)) (now (marks .exit)) ⌝ }
+// Marks each message that the pair of slot s and link e strips, of entries before slot t.
+pub fn bare(fragile: &[u8], seconds: &[u8], t: usize, s: usize, e: usize, marks: &mut [u8])
+    requires { ⌜ (s ≤ t) × MayBare (now seconds) e (now marks) ⌝ }
+    ensures { λ _. ⌜ Marked (stripHits (now (fragile .entry)) (now (seconds .entry)) t) s e (now (marks .entry)) (now (marks .exit)) ⌝ }
 {
-    mark(fragile, s, e, marks);
+    mark(fragile, t, s, e, marks);
     mark_seconds(seconds, e, marks);
 }

@@ -13,11 +13,12 @@ use Rattle.scope.specs.Good.{rules}
 use Rattle.scope.specs.Cycle.{tableOf}
 use Rattle.table.specs.Table.{Table, entryAt}
 use Rattle.bound.specs.Sums.{sumOf, oneIf}
-use Rattle.bound.specs.Touch.{touches}
+use Rattle.bound.specs.Touch.{touchedIn, touches}
+use Rattle.bound.specs.Harmed.{hers}
 use Rattle.bound.specs.Strips.{fragilePlan, throughRobust, strips, bares}
 use Rattle.bound.specs.Seconds.{secondIn, onLink}
 use Rattle.bound.specs.Weights.{entriesFrom, WeighsAll, TopsAll}
-use Rattle.bound.specs.Marks.{stripHits}
+use Rattle.bound.specs.Marks.{entryHits, stripHits}
 use Rattle.bound.specs.Bound.{Fails}
 use Rattle.bound.specs.Bounds.{weightIn, Bounds}
 use Rattle.bound.proofs.Sums.{sum-same, sum-fewer}
@@ -26,14 +27,22 @@ use Rattle.bound.proofs.Weights.{entries-fall}
 use Rattle.bound.proofs.Enough.{AtMost, bounds}
 use Rattle.strips.specs.Filled.{Filled}
 
--- entries that pass a test: those of the plan's slots are no more than those of the table's
-entries-most : (test : ℕ → Bool) (owner : ℕ → ℕ → ℕ) (table : List ℕ) → Table owner table → (n s e : ℕ) → n ≤ mostSlots → e < mostLinks →
-    sumOf (λ i. oneIf (test (owner (s + i) e))) (n - s) ≤ sumOf (λ i. oneIf (test (entryAt table (s + i) e))) (mostSlots - s)
-entries-most test owner table t n s e hn he =
-    let same : sumOf (λ i. oneIf (test (owner (s + i) e))) (n - s) ≡ sumOf (λ i. oneIf (test (entryAt table (s + i) e))) (n - s) =
+-- entries that pass a test: those of a table are its owner's
+entries-same : (test : ℕ → Bool) (owner : ℕ → ℕ → ℕ) (table : List ℕ) → Table owner table → (n s e : ℕ) → n ≤ mostSlots → e < mostLinks →
+    sumOf (λ i. oneIf (test (owner (s + i) e))) (n - s) ≡ sumOf (λ i. oneIf (test (entryAt table (s + i) e))) (n - s)
+entries-same test owner table t n s e hn he =
     sum-same (λ i. oneIf (test (owner (s + i) e))) (λ i. oneIf (test (entryAt table (s + i) e))) (n - s)
-    (λ i l. ap (λ (x : ℕ). oneIf (test x)) (sym (t .is (s + i) e (omega arith) he))) in
-    omega (arith, same, sum-fewer (λ i. oneIf (test (entryAt table (s + i) e))) (n - s) (mostSlots - s) (omega arith))
+    (λ i l. ap (λ (x : ℕ). oneIf (test x)) (sym (t .is (s + i) e (omega arith) he)))
+
+-- and all slots of the table have no fewer
+entries-most : (owner : ℕ → ℕ → ℕ) (table : List ℕ) → Table owner table → (n s e : ℕ) → n ≤ mostSlots → e < mostLinks →
+    touchedIn owner (n - s) s e ≤ entriesFrom table s e
+entries-most owner table t n s e hn he =
+    omega (
+      arith,
+      entries-same (ltb 0) owner table t n s e hn he,
+      sum-fewer (λ i. oneIf (ltb 0 (entryAt table (s + i) e))) (n - s) (mostSlots - s) (omega arith),
+    )
 
 -- fewer come from a later slot on
 fewer : (table : List ℕ) (s i e : ℕ) → s ≤ i → i < mostSlots → entriesFrom table i e ≤ entriesFrom table s e
@@ -41,19 +50,26 @@ fewer table s i e l h = let d : s + (i - s) ≡ i = omega arith in rw d at (entr
 
 module _ (plan : Plan) (time : plan .timeout ≤ mostSlots) (links : length (plan .links) ≤ mostLinks)
     (messages : length (plan .messages) ≤ mostMessages) where
+  -- the pair touches message m no more often than it hits it in the table
+  pub touch-hits : (table : List ℕ) → Table (tableOf plan) table → (m s e : ℕ) → e < length (plan .links) →
+      hers plan m s e ≤ entryHits table (plan .timeout) m s e
+  touch-hits table t m s e he =
+      omega (arith, hers-most plan m s e, entries-same (λ x. eqb x (m + 1)) (tableOf plan) table t (plan .timeout) s e time (omega arith))
+
   module _ (fragile seconds : List ℕ) (f : Filled plan fragile seconds) where
-    -- the pair strips message m no more often than it hits it in the tables
-    pub strip-hits : (m s e : ℕ) → m < length (plan .messages) → e < length (plan .links) → strips plan m s e ≤ stripHits fragile seconds m s e
+    -- and strips it no more often
+    pub strip-hits : (m s e : ℕ) → m < length (plan .messages) → e < length (plan .links) →
+        strips plan m s e ≤ stripHits fragile seconds (plan .timeout) m s e
     strip-hits m s e hm he =
-        let fragile-hits = entries-most (λ x. eqb x (m + 1)) (tableOf (fragilePlan plan)) fragile (f .table) (plan .timeout) s e time
-        (omega arith) in
+        let fragile-hits =
+        entries-same (λ x. eqb x (m + 1)) (tableOf (fragilePlan plan)) fragile (f .table) (plan .timeout) s e time (omega arith) in
         omega (arith, hers-most (fragilePlan plan) m s e, fragile-hits, f .bytes .is m e (omega arith) (omega arith))
 
     -- and all messages no more often than the tables count
     bares-most : (s e : ℕ) → e < length (plan .links) → bares plan s e ≤ entriesFrom fragile s e + onLink seconds e
     bares-most s e he =
         let through : ℕ → ℕ = λ m. oneIf (throughRobust plan m e (pathOf plan m)) in
-        let fragile-count = entries-most (ltb 0) (tableOf (fragilePlan plan)) fragile (f .table) (plan .timeout) s e time (omega arith) in
+        let fragile-count = entries-most (tableOf (fragilePlan plan)) fragile (f .table) (plan .timeout) s e time (omega arith) in
         let same : sumOf through (length (plan .messages)) ≡ sumOf (secondIn seconds e) (length (plan .messages)) =
         sum-same through (secondIn seconds e) (length (plan .messages)) (λ m l. sym (f .bytes .is m e (omega arith) (omega arith))) in
         omega (
@@ -70,7 +86,7 @@ module _ (plan : Plan) (time : plan .timeout ≤ mostSlots) (links : length (pla
           omega (
             arith,
             touches-most plan s e,
-            entries-most (ltb 0) (tableOf plan) table t (plan .timeout) s e time (omega arith),
+            entries-most (tableOf plan) table t (plan .timeout) s e time (omega arith),
             w .touches s e (omega arith) (omega arith),
           )
 

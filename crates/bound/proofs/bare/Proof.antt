@@ -22,7 +22,7 @@ same-length c = search needs
 returns : tie.Need-returns
 returns c =
     bared-by-both (c .before .before .before .before .before .before .before .before .before .before .before .args .fragile .now)
-    (c .before .before .before .before .before .before .before .before .before .before .before .args .seconds .now) _ _ _ _ _
+    (c .before .before .before .before .before .before .before .before .before .before .before .args .seconds .now) _ _ _ _ _ _
     (c .before .before .before .before .before .before .mark .ensures) (c .before .before .mark-seconds .ensures)
 
 pub bare-spec : {M : Type 1} → statement M

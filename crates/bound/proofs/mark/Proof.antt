@@ -1,20 +1,19 @@
 -- `bound::mark` meets its contract: the slots before slot i are marked.
 use Prim.Native.Nat.{_-_}
 use native.Mathlib.Omega.{arith}
-use Rattle.scope.specs.Limits.{mostSlots}
 use Rattle.bound.proofs.Marking.{Marking, marking-none, marking-more, marking-done}
 use borrow.Author.Needs.{needs}
 use Rattle.bound.proofs.mark.Statement.{statement}
 use Rattle.bound.proofs.mark.Tie as tie
 
 abbrev Inv-loop : tie.InvT-loop
-Inv-loop table s e marks₀ i₀ marks i = Marking table s e marks₀ marks i
+Inv-loop table t s e marks₀ i₀ marks i = Marking table t s e marks₀ marks i
 
 abbrev μ-loop : tie.MeasureT-loop
-μ-loop table s e marks₀ i₀ marks i = mostSlots - i
+μ-loop table t s e marks₀ i₀ marks i = t - i
 
 loop-holds : tie.Need-loop-holds Inv-loop μ-loop
-loop-holds c = marking-none _ _ _ _ (c .before .before .pre)
+loop-holds c = marking-none _ _ _ _ _ (c .before .before .pre)
 
 entry-requires : tie.Need-entry-requires Inv-loop μ-loop
 entry-requires c κs = search needs
@@ -33,14 +32,14 @@ loop-less c = search needs
 
 loop-again : tie.Need-loop-again Inv-loop μ-loop
 loop-again c =
-    marking-more _ _ _ _ (c .before .before .before .before .before .pre) _ _ (c .before .before .loop .inv) _
+    marking-more _ _ _ _ _ (c .before .before .before .before .before .pre) _ _ (c .before .before .loop .inv) _
     (c .before .loop-test .taken) (omega (arith, c .entry .ok)) (c .entry .ensures)
 
 same-length : tie.Need-same-length Inv-loop μ-loop
 same-length c = search needs
 
 returns : tie.Need-returns Inv-loop μ-loop
-returns c = marking-done _ _ _ _ (c .before .before .before .before .pre) _ _ (c .before .loop .inv) (c .loop-test .left)
+returns c = marking-done _ _ _ _ _ (c .before .before .before .before .pre) _ _ (c .before .loop .inv) (c .loop-test .left)
 
 pub mark-spec : {M : Type 1} → statement M
 mark-spec =
