@@ -201,7 +201,7 @@ module _ (row : List ℕ) (good : GoodRow row) (n : ℕ) (count : n ≡ messageC
         small = i .small;
         most = omega arith;
         long = may .numbers;
-        left = λ e h. rw (i .is, f) (omega (arith, may .zero e));
+        left = λ e h. rw (i .is, f) (omega (arith, may .clear e));
         upto = upto-none (ways row) bytes (may .bytes) (may .none);
       }
 

@@ -60,7 +60,7 @@ pub record Counted (row : List ℕ) (i m : ℕ) (counts counts' ways ways' : Lis
 pub record MayCountAll (row counts ways : List ℕ) : Type 0 where
   pub good : GoodRow row
   pub numbers : length counts ≡ mostLinks
-  pub zero : (e : ℕ) → getD counts e 0 ≡ 0
+  pub clear : (e : ℕ) → getD counts e 0 ≡ 0
   pub bytes : length ways ≡ secondsSize
   pub none : (k : ℕ) → getD ways k 0 ≡ 0
 

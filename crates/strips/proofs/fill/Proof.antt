@@ -18,8 +18,7 @@ count-all-requires c κs =
     record {
       good = c .before .before .before .before .before .pre .good;
       numbers = length-replicate {A = ℕ} mostLinks 0;
-      zero =
-          zeros mostLinks;
+      clear = zeros mostLinks;
       bytes = length-replicate {A = ℕ} secondsSize 0;
       none = zeros secondsSize;
     }
