@@ -13,11 +13,12 @@ use Rattle.bound.specs.Touch.{harm, touches}
 use Rattle.bound.specs.Harmed.{hers, isHit, away, harmed, CountsLosses}
 use Rattle.bound.specs.Strips.{strips, bares, bared}
 use Rattle.bound.specs.Bound.{Fails}
-use Rattle.bound.specs.Bounds.{weightIn, topIn, Enough, Bounds}
+use Rattle.bound.specs.Bounds.{weightIn, topIn, frontIn, Enough, BoundOn, Bounds}
 use Rattle.order.proofs.Parts.{slot-right, link-right, pairs-both}
 use Rattle.bound.proofs.Sums.{sum-le, sum-plus}
 use Rattle.bound.proofs.Touch.{touches-count}
 use Rattle.bound.proofs.Harmed.{loses-no-more-from}
+use Rattle.bound.proofs.Last.{one-last}
 use Rattle.bound.proofs.Strips.{strips-count, loses-no-more-than-both}
 
 -- in each slot and on each link of a plan one weight is at most another
@@ -58,26 +59,29 @@ pub bounds : (plan : Plan) (l need : ℕ) (weights most : List ℕ) → rules pl
     AtMost plan (λ s e. touches plan s e + bares plan s e) (weightIn weights 2) →
     ((j s i e : ℕ) → j < 3 → s ≤ i → i < plan .timeout → e < length (plan .links) → weightIn weights j i e ≤ topIn most j s) →
     ((j s i e : ℕ) → j < 3 → s ≤ i → i < plan .timeout → e < length (plan .links) → weightIn weights j i e ≤ weightIn weights j s e) →
+    ((s e x : ℕ) → s < plan .timeout → e < length (plan .links) → x ≤ weightIn weights 0 s e → weightIn weights 1 s e ≤ frontIn most s x) →
     Bounds plan (Fails plan l) need weights most
-bounds plan l need weights most g e touched stripped both top fall =
+bounds plan l need weights most g e touched stripped both top fall front =
     let fails = Fails plan l in
     let touching : Enough plan fails need (harmed plan) (touches plan) =
     enough-lost plan l need (hers plan) (touches plan) (touches-count plan g) e in
     let baring : Enough plan fails need (bared plan) (bares plan) =
     enough-lost plan l need (strips plan) (bares plan) (strips-count plan g) e in
+    let one : BoundOn plan fails need (harmed plan) (weightIn weights 0) (topIn most 0) =
     record {
-      touches =
-          record {
-            enough = enough-more plan fails need (harmed plan) (touches plan) (weightIn weights 0) touched touching;
-            later = λ s i f. top 0 s i f (omega arith);
-            falls = λ s i f. fall 0 s i f (omega arith);
-          };
-      strips =
-          record {
-            enough = enough-more plan fails need (bared plan) (bares plan) (weightIn weights 1) stripped baring;
-            later = λ s i f. top 1 s i f (omega arith);
-            falls = λ s i f. fall 1 s i f (omega arith);
-          };
+      enough = enough-more plan fails need (harmed plan) (touches plan) (weightIn weights 0) touched touching;
+      later = λ s i f. top 0 s i f (omega arith);
+      falls = λ s i f. fall 0 s i f (omega arith);
+    } in
+    let two : BoundOn plan fails need (bared plan) (weightIn weights 1) (topIn most 1) =
+    record {
+      enough = enough-more plan fails need (bared plan) (bares plan) (weightIn weights 1) stripped baring;
+      later = λ s i f. top 1 s i f (omega arith);
+      falls = λ s i f. fall 1 s i f (omega arith);
+    } in
+    record {
+      touches = one;
+      strips = two;
       both =
           record {
             enough =
@@ -86,5 +90,6 @@ bounds plan l need weights most g e touched stripped both top fall =
             later = λ s i f. top 2 s i f (omega arith);
             falls = λ s i f. fall 2 s i f (omega arith);
           };
+      last = one-last plan fails need weights most (topIn most 0) (topIn most 1) one two front;
       whole = λ cuts d s early long good lost. omega (arith, loses-no-more-than-both plan cuts s g early);
     }

@@ -5,9 +5,11 @@ pub mod Harmed
 pub mod Fragile
 pub mod Strips
 pub mod Sharper
+pub mod Last
 pub mod Enough
 pub mod OneLink
 pub mod Weights
 pub mod Planes
+pub mod Fronting
 pub mod Bounds
 pub mod Marking

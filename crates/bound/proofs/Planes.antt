@@ -16,7 +16,7 @@ use Rattle.table.specs.Table.{indexOf}
 use Rattle.bound.specs.Sums.{sumOf}
 use Rattle.bound.specs.Seconds.{secondIn, onLink}
 use Rattle.bound.specs.Weights.{entriesFrom, below, mostOnLink, ForLinks, OnLinks, Weighs, WeighsStrips, MayAdd, Added, WeighsAll, Tops}
-use Rattle.bound.specs.Weights.{TopsAll}
+use Rattle.bound.specs.Weights.{TopsEach}
 use Rattle.bound.specs.Bounds.{weightIn, topIn}
 use Rattle.bound.proofs.Weights.{below-small}
 
@@ -165,7 +165,7 @@ module _ (weights most : List ℕ) (size : length weights ≡ weightsSize) where
             )) p b s i e;
       }
 
-  pub topped-done : (j : ℕ) → Topped weights most j → 3 ≤ j → TopsAll weights most
+  pub topped-done : (j : ℕ) → Topped weights most j → 3 ≤ j → TopsEach weights most
   topped-done j g h = record { long = g .long; later = λ p s i e l. g .later p s i e (omega arith) }
 
 -- the three weights, one after another

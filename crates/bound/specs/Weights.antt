@@ -9,7 +9,7 @@ use Rattle.scope.specs.Limits.{mostSlots, mostLinks, mostMessages, tableSize, s
 use Rattle.table.specs.Table.{indexOf, entryAt}
 use Rattle.bound.specs.Touch.{touchedIn}
 use Rattle.bound.specs.Seconds.{onLink}
-use Rattle.bound.specs.Bounds.{weightIn, topIn}
+use Rattle.bound.specs.Bounds.{weightIn, topIn, frontIn}
 
 -- how many entries a table has on link e from slot s on
 abbrev pub entriesFrom : List ℕ → ℕ → ℕ → ℕ
@@ -82,6 +82,11 @@ pub record Tops (weights most : List ℕ) : Type 0 where
   pub later : (s i e : ℕ) → s ≤ i → i < mostSlots → e < mostLinks → getD weights (indexOf i e) 0 ≤ getD most s 0
 
 -- in none of the three
-pub record TopsAll (weights most : List ℕ) : Type 0 where
+pub record TopsEach (weights most : List ℕ) : Type 0 where
   pub long : length most ≡ topsSize
   pub later : (j s i e : ℕ) → j < 3 → s ≤ i → i < mostSlots → e < mostLinks → weightIn weights j i e ≤ topIn most j s
+
+-- and no pair of a slot strips more than the number for so many messages as it touches, or for fewer
+pub record TopsAll (weights most : List ℕ) : Type 0 where
+  pub tops : TopsEach weights most
+  pub fronts : (s e x : ℕ) → s < mostSlots → e < mostLinks → x ≤ weightIn weights 0 s e → weightIn weights 1 s e ≤ frontIn most s x

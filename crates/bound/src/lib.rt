@@ -2,17 +2,22 @@
 // that it leaves without what would help them, and a list loses only messages that it both touches and strips (specs/Touch, specs/Strips). A
 // search needs no more of this than specs/Bounds says, so that a sharper bound can take its place. It leans on the table of `table` and on
 // the theorems of `laws`.
+use scope::limits::FRONT;
+use scope::limits::FRONTS;
 use scope::limits::LINKS;
 use scope::limits::MESSAGES;
 use scope::limits::SLOTS;
 use scope::limits::TABLE;
+use scope::limits::TOPS;
 ghost use mathlib.Core.Path.{_≡_};
 ghost use Prim.Native.Nat.{_+_, _-_, _≤_, _<_};
 ghost use lib.ListN.{length};
-ghost use Rattle.scope.specs.Limits.{mostSlots, mostLinks, tableSize, secondsSize, weightsSize, topsSize};
+ghost use Rattle.scope.specs.Limits.{mostSlots, mostLinks, tableSize, secondsSize, weightsSize, topsSize, frontsSize};
 ghost use Rattle.bound.specs.Seconds.{secondIn, onLink};
 ghost use Rattle.bound.specs.Weights.{mostOnLink, laterIn, ForLinks, OnLinks, WeighsFrom, Weighs, WeighsStrips, MayAdd, Added};
-ghost use Rattle.bound.specs.Weights.{MayWeigh, WeighsAll, Tops, TopsAll};
+ghost use Rattle.bound.specs.Weights.{MayWeigh, WeighsAll, Tops, TopsEach, TopsAll};
+ghost use Rattle.bound.specs.Bounds.{frontOf, frontIn};
+ghost use Rattle.bound.specs.Fronts.{Larger, MayFront, Bucketed, Carried, RunsDown, Fronts};
 ghost use Rattle.bound.specs.Marks.{entryHits, stripHits, MayMark, MayBare, Marked};
 
 // The weight a slot later, or a link's number where there is none.
@@ -129,9 +134,9 @@ fn tops(weights: &[u16], most: &mut [u16])
 }
 
 // Of each of the three weights.
-pub fn tops_all(weights: &[u16], most: &mut [u16])
+fn tops_each(weights: &[u16], most: &mut [u16])
     requires { ⌜ (length (now weights) ≡ weightsSize) × (length (now most) ≡ topsSize) ⌝ }
-    ensures { λ _. ⌜ TopsAll (now (weights .entry)) (now (most .exit)) ⌝ }
+    ensures { λ _. ⌜ TopsEach (now (weights .entry)) (now (most .exit)) ⌝ }
 {
     let mut j = 0;
     while j < 3 {
@@ -141,6 +146,88 @@ pub fn tops_all(weights: &[u16], most: &mut [u16])
         );
         j += 1;
     }
+}
+
+// The place for a slot and a count of messages, of which there can be no more than so many.
+fn front_of(s: usize, x: usize) -> usize
+    requires { ⌜ s < mostSlots ⌝ }
+    ensures { λ r. ⌜ (r ≡ frontOf s x) × (r < frontsSize) ⌝ }
+{
+    if MESSAGES < x {
+        s * FRONT + MESSAGES
+    } else {
+        s * FRONT + x
+    }
+}
+
+// The most that one pair of slot s strips which touches at least x messages.
+pub fn front(most: &[u16], s: usize, x: usize) -> usize
+    requires { ⌜ (length (now most) ≡ topsSize) × (s < mostSlots) ⌝ }
+    ensures { λ r. ⌜ r ≡ frontIn (now (most .entry)) s x ⌝ }
+{
+    most[3 * SLOTS + front_of(s, x)] as usize
+}
+
+fn larger(a: u16, b: u16) -> u16
+    ensures { λ r. ⌜ Larger a b r ⌝ }
+{
+    if a < b { b } else { a }
+}
+
+// For each slot and each count of messages the most that a pair strips which touches so many; no number falls.
+fn bucket(weights: &[u16], fronts: &mut [u16])
+    requires { ⌜ MayFront (now weights) (now fronts) ⌝ }
+    ensures { λ _. ⌜ Bucketed (now (weights .entry)) (now (fronts .exit)) ⌝ }
+{
+    let mut k = 0;
+    while k < TABLE {
+        let at = front_of(k / LINKS, weights[k] as usize);
+        fronts[at] = larger(fronts[at], weights[TABLE + k]);
+        k += 1;
+    }
+}
+
+// The number before index k, or the one at k where that is of the same slot and larger.
+fn carried(fronts: &[u16], k: usize) -> u16
+    requires { ⌜ (length (now fronts) ≡ frontsSize) × (0 < k) × (k < frontsSize) ⌝ }
+    ensures { λ r. ⌜ Carried (now (fronts .entry)) k r ⌝ }
+{
+    if k % FRONT == 0 {
+        fronts[k - 1]
+    } else {
+        larger(fronts[k - 1], fronts[k])
+    }
+}
+
+// Each number at least those for more messages in its slot.
+fn run_down(fronts: &mut [u16])
+    requires { ⌜ length (now fronts) ≡ frontsSize ⌝ }
+    ensures { λ _. ⌜ RunsDown (now (fronts .entry)) (now (fronts .exit)) ⌝ }
+{
+    let mut k = FRONTS - 1;
+    while 0 < k {
+        let v = carried(fronts, k);
+        k -= 1;
+        fronts[k] = v;
+    }
+}
+
+// For each slot and each count of messages the most that a pair strips which touches at least so many, where the numbers are 0 before.
+fn fronts(weights: &[u16], fronts: &mut [u16])
+    requires { ⌜ MayFront (now weights) (now fronts) ⌝ }
+    ensures { λ _. ⌜ Fronts (now (weights .entry)) (now (fronts .exit)) ⌝ }
+{
+    bucket(weights, fronts);
+    run_down(fronts);
+}
+
+// All that a search asks of later pairs.
+pub fn tops_all(weights: &[u16], most: &mut [u16])
+    requires { ⌜ (length (now weights) ≡ weightsSize) × (length (now most) ≡ topsSize) ⌝ }
+    ensures { λ _. ⌜ TopsAll (now (weights .entry)) (now (most .exit)) ⌝ }
+{
+    tops_each(weights, most);
+    fronts(weights, &mut most[3 * SLOTS..TOPS]);
 }
 
 // What a list must weigh at least that leaves fewer than `least` of so many messages.

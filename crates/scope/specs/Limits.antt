@@ -30,12 +30,20 @@ secondsSize = 2048
 abbrev pub mostEntries : ℕ
 mostEntries = 256
 
--- three weights for each slot and link, one table after another, and the most of each for each slot
+-- three weights for each slot and link, one table after another
 abbrev pub weightsSize : ℕ
 weightsSize = 12288
 
+-- a number for each count of messages, from 0 on; and that for each slot
+abbrev pub frontSize : ℕ
+frontSize = 33
+
+abbrev pub frontsSize : ℕ
+frontsSize = 2112
+
+-- the most of each weight for each slot, and those after them
 abbrev pub topsSize : ℕ
-topsSize = 192
+topsSize = 2304
 
 -- "The longest file is 7,348 bytes"; "the plan's row, at most 10,405 numbers"
 abbrev pub longestFile : ℕ

@@ -20,10 +20,16 @@ pub const SECONDS: usize = LINKS * MESSAGES;
 
 pub const ENTRIES: usize = 256;
 
-// Three weights for each slot and link, and the three for each slot that none from there on exceeds.
+// Three weights for each slot and link.
 pub const WEIGHTS: usize = 3 * TABLE;
 
-pub const TOPS: usize = 3 * SLOTS;
+// A number for each count of messages, from 0 on; and that for each slot.
+pub const FRONT: usize = MESSAGES + 1;
+
+pub const FRONTS: usize = SLOTS * FRONT;
+
+// The three numbers for each slot that no weight from there on exceeds, and those after them.
+pub const TOPS: usize = 3 * SLOTS + FRONTS;
 
 // The longest file in bytes, the longest row and the longest row of events in numbers.
 pub const FILE: usize = 7348;

@@ -117,5 +117,5 @@ module _ (plan : Plan) (time : plan .timeout ≤ mostSlots) (links : length (pla
       pub lent : (l need : ℕ) (most : List ℕ) → rules plan ≡ gives 0 → TopsAll weights most → need ≡ length (plan .messages) + 1 - l →
           Bounds plan (Fails plan l) need weights most
       lent l need most g m e =
-          bounds plan l need weights most g e touched stripped both (λ j s i f a b c d. m .later j s i f a b (omega arith) (omega arith))
-          (λ j s i f a b c d. falls j s i f a b (omega arith) (omega arith))
+          bounds plan l need weights most g e touched stripped both (λ j s i f a b c d. m .tops .later j s i f a b (omega arith) (omega arith))
+          (λ j s i f a b c d. falls j s i f a b (omega arith) (omega arith)) (λ s f x a b c. m .fronts s f x (omega arith) (omega arith) c)
