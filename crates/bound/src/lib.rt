@@ -163,7 +163,7 @@ fn front_of(s: usize, x: usize) -> usize
 // The most that one pair of slot s strips which touches at least x messages.
 pub fn front(most: &[u16], s: usize, x: usize) -> usize
     requires { ⌜ (length (now most) ≡ topsSize) × (s < mostSlots) ⌝ }
-    ensures { λ r. ⌜ r ≡ frontIn (now (most .entry)) s x ⌝ }
+    ensures { λ r. ⌜ (r ≡ frontIn (now (most .entry)) s x) × (r < 65536) ⌝ }
 {
     most[3 * SLOTS + front_of(s, x)] as usize
 }

@@ -2,10 +2,11 @@
 use Prim.Native.Nat.{ℕ, _+_, _-_, _*_, _≤_, _<_}
 use native.Mathlib.Omega.{arith}
 use mathlib.Core.Path.{_≡_, refl, sym, subst}
-use mathlib.Core.Bool.{Bool, true, false, not, _&&_, and-eq-true-iff}
+use mathlib.Core.Bool.{Bool, true, false, not, _&&_, cond, and-eq-true-iff}
 use mathlib.Core.List.{List, [], _∷_, _++_}
 use lib.ListN.{length, take}
-use borrow.Author.Tests.{not-false, not-true}
+use lib.Dec.{eqb}
+use borrow.Author.Tests.{eqb-true, not-false, not-true}
 use Rattle.scope.specs.Limits.{mostLinks, mostMessages, mostCuts}
 use Rattle.scope.specs.Lowest.{seek}
 use Rattle.cuts.specs.Down.{isDown}
@@ -14,29 +15,29 @@ use Rattle.scope.proofs.Lowest.{seek-from, seek-most, seek-is, seek-low}
 use Rattle.step.specs.declared.Standing.{Standing}
 use Rattle.bound.specs.Harmed.{harmed}
 use Rattle.bound.specs.Strips.{bared}
-use Rattle.bound.specs.Bounds.{weightIn, topIn, harmedAndBared}
+use Rattle.bound.specs.Bounds.{weightIn, topIn, frontIn, harmedAndBared}
 use Rattle.search.specs.declared.Asked.{Asked}
 use Rattle.search.specs.declared.Picked.{Picked}
 use Rattle.search.specs.declared.Hits.{Hits}
 use Rattle.search.specs.declared.Risk.{Risk}
-use Rattle.search.specs.declared.Loss.{Loss}
+use Rattle.search.specs.declared.Rest.{Rest}
 use Rattle.search.specs.declared.Found.{Found}
 use Rattle.order.specs.Search.{code, Not, NoneOf, NoneIn}
-use Rattle.search.specs.Hunt.{cutsOf, withPair, lossOf, lossWith, tooLight, passes, Seeks, Fits, noFound, Ready, Holding, StandAt, Leaves}
+use Rattle.search.specs.Hunt.{cutsOf, withPair, restOf, stripsWith, lossWith, tooLight, passes, Seeks, Fits, noFound, Ready, Holding, StandAt, Leaves}
 use Rattle.search.specs.Hunt.{MayPlayOut, MayAdvance, MaySeek, MaySeekIn, Sought, SoughtIn}
 use Rattle.order.proofs.Steps.{after, no-more, none-before, passed, cut-already, no-list-here, first-here, slot-over, joined, first-in-slot, all-over, first-of-all}
-use Rattle.search.proofs.Weigh.{which, too-light}
+use Rattle.search.proofs.Weigh.{which, not-before, too-light}
 use Rattle.search.proofs.Telling.{tells-none, tells-more}
 use Rattle.search.specs.Risks.{risksOf, MayCount, MayHit, IsHit, MayWeigh, MayTry}
 use Rattle.search.proofs.Picking.{named, cuts-more, holding-more, stand-more}
 use Rattle.search.proofs.Risks.{covers-more, counted, may-weigh}
 
 -- in slot s, from link e on: the lists whose next pair is there and before link i leave enough
-pub record Looking (row weights : List ℕ) (a : Asked) (p : Picked) (n s e i : ℕ) (rest : Loss) : Type 0 where
+pub record Looking (row weights most : List ℕ) (a : Asked) (p : Picked) (n s e i : ℕ) (rest : Rest) : Type 0 where
   pub leave : NoneIn (planOf row) (Seeks row a) (cutsOf p) (n - 1) (code s e) (code s i)
   pub start : e ≤ i
   pub within : i ≤ a .links
-  pub may : i < a .links → passes (p .down) weights (a .need) rest s i ≡ true
+  pub may : i < a .links → passes (p .down) weights most (a .need) rest s i ≡ true
 
 -- over the slots: the lists whose next pair comes before slot s and link e leave enough
 pub record Climbing (row : List ℕ) (a : Asked) (p : Picked) (n s e : ℕ) (qs : Standing) : Type 0 where
@@ -53,43 +54,63 @@ module _ (row table fragile seconds weights most : List ℕ) (a : Asked) (p : Pi
   few = omega (arith, y .play .links, y .play .few)
 
   -- where too little is lost with a pair of slot s, it is with one of a later slot
-  all-light : (s i b : ℕ) (rest : Loss) → Leaves row (cutsOf p) most s (n - 1) rest → s ≤ i → b < a .links →
-      tooLight (a .need) (lossWith rest weights s b) ≡ true → (x : List ℕ) → length x ≡ 2 * (n - 1) → Not (planOf row) (Seeks row a) (cutsOf p ++ i ∷ b ∷ x)
+  all-light : (s i b : ℕ) (rest : Rest) → Leaves row (cutsOf p) most s (n - 1) rest → s ≤ i → b < a .links →
+      tooLight (a .need) (lossWith rest weights most (a .need) s b) ≡ true → (x : List ℕ) → length x ≡ 2 * (n - 1) → Not (planOf row) (Seeks row a) (cutsOf p ++ i ∷ b ∷ x)
   all-light s i b rest v later there light x long =
       let plan = planOf row in
       let Answers = Seeks row a in
       let start = code (p .slot) (p .link) in
-      let known : b < length (planOf row .links) = omega (arith, y .play .links) in
-      which (Not plan Answers (cutsOf p ++ i ∷ b ∷ x)) (a .need) (lossWith rest weights s b) light
+      which (Not plan Answers (cutsOf p ++ i ∷ b ∷ x)) (a .need) (lossWith rest weights most (a .need) s b) light
       (λ less.
       too-light plan Answers (a .need) (harmed plan) (weightIn weights 0) (topIn most 0) (y .bounds .touches) few (cutsOf p) (p .count) start (h .chosen)
       (n - 1) s i b later known (omega (arith, less, v .touches)) x long)
-      (λ less.
-      too-light plan Answers (a .need) (bared plan) (weightIn weights 1) (topIn most 1) (y .bounds .strips) few (cutsOf p) (p .count) start (h .chosen)
-      (n - 1) s i b later known (omega (arith, less, v .strips)) x long)
+      (λ less. strips-light (eqb (rest .pairs) 1) refl less)
       (λ less.
       too-light plan Answers (2 * a .need) (harmedAndBared plan) (weightIn weights 2) (topIn most 2) (y .bounds .both) few (cutsOf p) (p .count) start
       (h .chosen) (n - 1) s i b later known (omega (arith, less, v .both)) x long)
+    where
+      known : b < length (planOf row .links)
+      known = omega (arith, y .play .links)
+
+      -- too few can be stripped: by one last pair that touches enough, or by any
+      strips-light : (t : Bool) → eqb (rest .pairs) 1 ≡ t →
+          cond t (rest .stripped + weightIn weights 1 s b + frontIn most s (a .need - (rest .touched + weightIn weights 0 s b)))
+          (rest .strips + weightIn weights 1 s b) <
+          a .need → Not (planOf row) (Seeks row a) (cutsOf p ++ i ∷ b ∷ x)
+      strips-light true one less =
+          λ good it.
+          let last : n - 1 ≡ 1 = omega (arith, v .pairs, eqb-true (rest .pairs) 1 one) in
+          let two : length {A = ℕ} (i ∷ b ∷ x) ≡ 2 * 2 = omega arith in
+          omega (
+            arith,
+            less,
+            y .bounds .last (cutsOf p) (i ∷ b ∷ x) (p .count) s (rest .touched) (rest .stripped) (h .chosen .long) two
+                (not-before (planOf row) few (cutsOf p) (i ∷ b ∷ x) (p .count) 2 s (h .chosen .long) two good later) good it (v .touched)
+                (v .stripped),
+          )
+      strips-light false one less =
+          too-light (planOf row) (Seeks row a) (a .need) (bared (planOf row)) (weightIn weights 1) (topIn most 1) (y .bounds .strips) few (cutsOf p)
+          (p .count) (code (p .slot) (p .link)) (h .chosen) (n - 1) s i b later known (omega (arith, less, v .strips)) x long
 
   -- a link that may not be tried in slot s is not to be tried in a later one
-  not-tried : (s i b : ℕ) (rest : Loss) → Leaves row (cutsOf p) most s (n - 1) rest → s ≤ i → b < a .links →
-      passes (p .down) weights (a .need) rest s b ≡ false → (x : List ℕ) → length x ≡ 2 * (n - 1) →
+  not-tried : (s i b : ℕ) (rest : Rest) → Leaves row (cutsOf p) most s (n - 1) rest → s ≤ i → b < a .links →
+      passes (p .down) weights most (a .need) rest s b ≡ false → (x : List ℕ) → length x ≡ 2 * (n - 1) →
       Not (planOf row) (Seeks row a) (cutsOf p ++ i ∷ b ∷ x)
   not-tried s i b rest v later l no-pass x long = by (isDown (p .down) b) refl no-pass
     where
-      by : (t : Bool) → isDown (p .down) b ≡ t → (not t && not (tooLight (a .need) (lossWith rest weights s b))) ≡ false →
+      by : (t : Bool) → isDown (p .down) b ≡ t → (not t && not (tooLight (a .need) (lossWith rest weights most (a .need) s b))) ≡ false →
           Not (planOf row) (Seeks row a) (cutsOf p ++ i ∷ b ∷ x)
-      by false e light = all-light s i b rest v later l (not-false (tooLight (a .need) (lossWith rest weights s b)) light) x long
+      by false e light = all-light s i b rest v later l (not-false (tooLight (a .need) (lossWith rest weights most (a .need) s b)) light) x long
       by true e light =
           let who = named row a p h b e in
           cut-already (planOf row) (Seeks row a) few (cutsOf p) (p .count) (code (p .slot) (p .link)) (h .chosen) (n - 1) i b (who .0)
           (omega (arith, who .1, h .chosen .long)) (who .2) x
 
-  pub looked : (s e i : ℕ) (rest : Loss) (r : ℕ) → Leaves row (cutsOf p) most s (n - 1) rest → e ≤ i → i ≤ a .links →
+  pub looked : (s e i : ℕ) (rest : Rest) (r : ℕ) → Leaves row (cutsOf p) most s (n - 1) rest → e ≤ i → i ≤ a .links →
       NoneIn (planOf row) (Seeks row a) (cutsOf p) (n - 1) (code s e) (code s i) →
-      r ≡ seek (passes (p .down) weights (a .need) rest s) (a .links - i) i → Looking row weights a p n s e r rest
+      r ≡ seek (passes (p .down) weights most (a .need) rest s) (a .links - i) i → Looking row weights most a p n s e r rest
   looked s e i rest r v low high leave found =
-      let test = passes (p .down) weights (a .need) rest s in
+      let test = passes (p .down) weights most (a .need) rest s in
       let from = seek-from test (a .links - i) i in
       let most′ = seek-most test (a .links - i) i in
       record {
@@ -105,11 +126,11 @@ module _ (row table fragile seconds weights most : List ℕ) (a : Asked) (p : Pi
   pub look-first : (s e : ℕ) → NoneIn (planOf row) (Seeks row a) (cutsOf p) (n - 1) (code s e) (code s e)
   look-first s e x y z long low high = absurd (omega arith)
 
-  module _ (s e i : ℕ) (rest : Loss) (g : Looking row weights a p n s e i rest) where
+  module _ (s e i : ℕ) (rest : Rest) (g : Looking row weights most a p n s e i rest) where
     pub not-cut-yet : i < a .links → isDown (p .down) i ≡ false
     not-cut-yet l =
         not-true (isDown (p .down) i)
-        (and-eq-true-iff (not (isDown (p .down) i)) (not (tooLight (a .need) (lossWith rest weights s i))) .0 (g .may l) .0)
+        (and-eq-true-iff (not (isDown (p .down) i)) (not (tooLight (a .need) (lossWith rest weights most (a .need) s i))) .0 (g .may l) .0)
 
     module _ (r : Found) (l : i < a .links) (f : Sought row a (withPair p s i) (n - 1) r) where
       more : cutsOf (withPair p s i) ≡ cutsOf p ++ s ∷ i ∷ []
@@ -155,8 +176,8 @@ module _ (row table fragile seconds weights most : List ℕ) (a : Asked) (p : Pi
 
   module _ (s e : ℕ) (qs : Standing) (g : Climbing row a p n s e qs) where
     -- no link of this slot may be tried
-    pub climb-stop : (r : Found) (rest : Loss) (f : ℕ) → r ≡ noFound → Leaves row (cutsOf p) most s (n - 1) rest →
-        f ≡ seek (passes (p .down) weights (a .need) rest s) (a .links - 0) 0 → a .links ≤ f → Sought row a p n r
+    pub climb-stop : (r : Found) (rest : Rest) (f : ℕ) → r ≡ noFound → Leaves row (cutsOf p) most s (n - 1) rest →
+        f ≡ seek (passes (p .down) weights most (a .need) rest s) (a .links - 0) 0 → a .links ≤ f → Sought row a p n r
     climb-stop r rest f is v found over =
         let plan = planOf row in
         let Answers = Seeks row a in
@@ -167,7 +188,7 @@ module _ (row table fragile seconds weights most : List ℕ) (a : Asked) (p : Pi
         let next = after plan Answers few (cutsOf p) (p .count) (code (p .slot) (p .link)) (h .chosen) (n - 1) i b x good in
         let there : b < a .links = omega (arith, next .link, y .play .links) in
         not-tried s i b rest v (omega (arith, low, next .link, few, g .link, y .play .few)) there
-        (seek-low (passes (p .down) weights (a .need) rest s) (a .links - 0) 0 b (omega arith) (omega arith)) x long good it)))
+        (seek-low (passes (p .down) weights most (a .need) rest s) (a .links - 0) 0 b (omega arith) (omega arith)) x long good it)))
 
     pub climb-over : (r : Found) → r ≡ noFound → a .timeout ≤ s → Sought row a p n r
     climb-over r is over =
@@ -205,9 +226,9 @@ pub goes-up : (test : ℕ → Bool) (n i r : ℕ) → r ≡ seek test n (i + 1) 
 goes-up test n i r e = omega (arith, seek-from test n (i + 1))
 
 -- the calls
-module _ (row table fragile seconds weights most : List ℕ) (a : Asked) (hits : Hits) (ps : Standing) (p : Picked) (n s e : ℕ) (rest : Loss)
+module _ (row table fragile seconds weights most : List ℕ) (a : Asked) (hits : Hits) (ps : Standing) (p : Picked) (n s e : ℕ) (rest : Rest)
     (m : MaySeekIn row table fragile seconds weights most a hits ps p n s e rest) where
-  next-holds : (i : ℕ) → Looking row weights a p n s e i rest → i < a .links → Holding row a (withPair p s i)
+  next-holds : (i : ℕ) → Looking row weights most a p n s e i rest → i < a .links → Holding row a (withPair p s i)
   next-holds i g l =
       holding-more row table a p (m .ready .play) (m .holding) s i (omega (arith, m .few, m .some)) (omega (arith, m .later, g .start)) (m .early) l
       (not-cut-yet row table fragile seconds weights most a p n (m .ready) (m .holding) (m .some) (m .few) s e i rest g l)
@@ -215,21 +236,21 @@ module _ (row table fragile seconds weights most : List ℕ) (a : Asked) (hits :
   count-messages : length (planOf row .messages) ≤ mostMessages
   count-messages = omega (arith, m .ready .play .messages, m .stand .next .stand .few)
 
-  pub may-try : MayTry weights rest s
-  may-try = record { heavy = m .ready .heavy; fits = m .leaves .fits; early = omega (arith, m .early, m .ready .play .short) }
+  pub may-try : MayTry weights most (a .need) rest s
+  may-try = record { heavy = m .ready .heavy; tops = m .ready .tops; small = m .ready .small; fits = m .leaves .fits; early = omega (arith, m .early, m .ready .play .short) }
 
-  pub may-hit : (i : ℕ) → i < a .links → MayHit seconds hits s i
+  pub may-hit : (i : ℕ) → i < a .links → MayHit seconds (a .timeout) hits s i
   may-hit i l =
       record {
         long = m .ready .strip .long;
         touched = m .covers .touches;
         stripped = m .covers .strips;
-        slot = omega (arith, m .early, m .ready .play .short);
+        slot = omega (arith, m .early);
         link = omega (arith, m .ready .play .few);
       }
 
-  pub may-go-on : (i : ℕ) (q : Picked) (more : Hits) → Looking row weights a p n s e i rest → i < a .links → q ≡ withPair p s i →
-      IsHit table fragile seconds hits s i more → MaySeek row table fragile seconds weights most a more ps q (n - 1)
+  pub may-go-on : (i : ℕ) (q : Picked) (more : Hits) → Looking row weights most a p n s e i rest → i < a .links → q ≡ withPair p s i →
+      IsHit table fragile seconds (a .timeout) hits s i more → MaySeek row table fragile seconds weights most a more ps q (n - 1)
   may-go-on i q more g l is hit =
       record {
         ready = m .ready;
@@ -243,12 +264,12 @@ module _ (row table fragile seconds weights most : List ℕ) (a : Asked) (hits :
       }
 
   pub looks-first : (r : ℕ) →
-      r ≡ seek (passes (p .down) weights (a .need) rest s) (a .links - e) e → Looking row weights a p n s e r rest
+      r ≡ seek (passes (p .down) weights most (a .need) rest s) (a .links - e) e → Looking row weights most a p n s e r rest
   looks-first r found =
       looked row table fragile seconds weights most a p n (m .ready) (m .holding) (m .some) (m .few) s e e rest r (m .leaves)
       (omega arith) (m .link) (look-first row table fragile seconds weights most a p n (m .ready) (m .holding) (m .some) (m .few) s e) found
 
-  module _ (i : ℕ) (q : Picked) (r : Found) (g : Looking row weights a p n s e i rest) (l : i < a .links) (is : q ≡ withPair p s i)
+  module _ (i : ℕ) (q : Picked) (r : Found) (g : Looking row weights most a p n s e i rest) (l : i < a .links) (is : q ≡ withPair p s i)
       (f : Sought row a q (n - 1) r) where
     found : Sought row a (withPair p s i) (n - 1) r
     found = rw is at f
@@ -258,7 +279,7 @@ module _ (row table fragile seconds weights most : List ℕ) (a : Asked) (hits :
         look-some row table fragile seconds weights most a p n (m .ready) (m .holding) (m .some) (m .few) s e i rest g r l found t
 
     pub looks-on : (j : ℕ) → r .found ≡ false →
-        j ≡ seek (passes (p .down) weights (a .need) rest s) (a .links - (i + 1)) (i + 1) → Looking row weights a p n s e j rest
+        j ≡ seek (passes (p .down) weights most (a .need) rest s) (a .links - (i + 1)) (i + 1) → Looking row weights most a p n s e j rest
     looks-on j t next =
         looked row table fragile seconds weights most a p n (m .ready) (m .holding) (m .some) (m .few) s e (i + 1) rest j (m .leaves)
         (omega (arith, g .start)) (omega arith)
@@ -294,14 +315,14 @@ module _ (row table fragile seconds weights most : List ℕ) (a : Asked) (hits :
         may-weigh row (a .messages) (cutsOf p) s qs (g .stand) (m .ready .play .messages) hits (m .covers) most (n - 1) risk is (omega (arith, m .few))
         (m .ready .tops) (omega (arith, m .ready .play .short))
 
-    module _ (risk : Risk) (rest : Loss) (is : risk ≡ risksOf hits (qs .positions) (a .messages)) (so : (rest ≡ lossOf risk (n - 1) most s) × Fits rest) where
+    module _ (risk : Risk) (rest : Rest) (is : risk ≡ risksOf hits (qs .positions) (a .messages)) (so : (rest ≡ restOf risk (n - 1) most s) × Fits rest) where
       leaves : Leaves row (cutsOf p) most s (n - 1) rest
       leaves = counted row (a .messages) (cutsOf p) s qs (g .stand) (m .ready .play .messages) hits (m .covers) most (n - 1) risk rest is (so .0) (so .1)
 
-      pub may-try-all : s < a .timeout → MayTry weights rest s
-      may-try-all early = record { heavy = m .ready .heavy; fits = so .1; early = omega (arith, m .ready .play .short) }
+      pub may-try-all : s < a .timeout → MayTry weights most (a .need) rest s
+      may-try-all early = record { heavy = m .ready .heavy; tops = m .ready .tops; small = m .ready .small; fits = so .1; early = omega (arith, m .ready .play .short) }
 
-      pub climbs-stop : (r : Found) (f : ℕ) → r ≡ noFound → f ≡ seek (passes (p .down) weights (a .need) rest s) (a .links - 0) 0 → a .links ≤ f →
+      pub climbs-stop : (r : Found) (f : ℕ) → r ≡ noFound → f ≡ seek (passes (p .down) weights most (a .need) rest s) (a .links - 0) 0 → a .links ≤ f →
           Sought row a p n r
       climbs-stop r f none =
           climb-stop row table fragile seconds weights most a p n (m .ready) (m .holding) positive (m .few) s e qs g r rest f none leaves

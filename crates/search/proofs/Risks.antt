@@ -25,15 +25,15 @@ use Rattle.bound.specs.Touch.{harm}
 use Rattle.bound.specs.Harmed.{hersIn, hers, isTouched, stands, away}
 use Rattle.bound.specs.Strips.{strips, isStripped, lost}
 use Rattle.bound.specs.Marks.{entryFrom, entryHits, stripHits}
-use Rattle.bound.proofs.Sums.{sum-same, sum-le, sum-fewer}
+use Rattle.bound.proofs.Sums.{sum-same, sum-le}
 use Rattle.bound.proofs.Parts.{harm-both}
 use Rattle.bound.proofs.OneLink.{hers-most}
 use Rattle.order.proofs.Parts.{pairs-both}
 use Rattle.search.specs.declared.Asked.{Asked}
 use Rattle.search.specs.declared.Hits.{Hits}
 use Rattle.search.specs.declared.Risk.{Risk}
-use Rattle.search.specs.declared.Loss.{Loss}
-use Rattle.search.specs.Hunt.{isMarked, noHits, lossOf, Fits, Playable, Strippable, StandAt, Covers, Leaves}
+use Rattle.search.specs.declared.Rest.{Rest}
+use Rattle.search.specs.Hunt.{isMarked, noHits, restOf, Fits, Playable, Strippable, StandAt, Covers, Leaves}
 use Rattle.search.specs.Risks.{awayIf, countAway, risksOf, withMessage, MayCountOn, IsHit, MayWeigh}
 
 -- zeros, and zeros past them
@@ -81,35 +81,34 @@ covers-none row =
 
 module _ (row table : List ℕ) (a : Asked) (y : Playable row table a) where
   -- the table says what the plan says
-  entry-is : (m i e : ℕ) → entryFrom table (m + 1) i e ≡ hersIn (tableOf (planOf row)) (mostSlots - i) m i e
+  entry-is : (m i e : ℕ) → entryFrom table (a .timeout) (m + 1) i e ≡ hersIn (tableOf (planOf row)) (a .timeout - i) m i e
   entry-is m i e =
-      sum-same (λ k. oneIf (eqb (entryAt table (i + k) e) (m + 1))) (λ k. oneIf (eqb (tableOf (planOf row) (i + k) e) (m + 1))) (mostSlots - i)
-      (λ k g. ap (λ (f : ℕ → ℕ). oneIf (eqb (f e) (m + 1))) (y .owner (i + k) (omega arith)))
+      sum-same (λ k. oneIf (eqb (entryAt table (i + k) e) (m + 1))) (λ k. oneIf (eqb (tableOf (planOf row) (i + k) e) (m + 1))) (a .timeout - i)
+      (λ k g. ap (λ (f : ℕ → ℕ). oneIf (eqb (f e) (m + 1))) (y .owner (i + k) (omega (arith, y .short))))
 
-  -- and has no fewer slots
-  touched-is : (m s e : ℕ) → hers (planOf row) m s e ≤ entryHits table m s e
+  touched-is : (m s e : ℕ) → hers (planOf row) m s e ≤ entryHits table (a .timeout) m s e
   touched-is m s e =
       omega (
         arith,
         hers-most (planOf row) m s e,
         entry-is m s e,
-        sum-fewer (λ k. oneIf (eqb (tableOf (planOf row) (s + k) e) (m + 1))) (planOf row .timeout - s) (mostSlots - s) (omega (arith, y .timeout, y .short)),
+        ap (λ (t : ℕ). hersIn (tableOf (planOf row)) (t - s) m s e) (y .timeout),
       )
 
   -- one pair more
   pub covers-more : (fragile seconds cuts : List ℕ) (d s e : ℕ) (old new : Hits) → Strippable row fragile seconds → length (planOf row .messages) ≤ mostMessages →
-      length cuts ≡ 2 * d → e < length (planOf row .links) → Covers row cuts old → IsHit table fragile seconds old s e new →
+      length cuts ≡ 2 * d → e < length (planOf row .links) → Covers row cuts old → IsHit table fragile seconds (a .timeout) old s e new →
       Covers row (cuts ++ s ∷ e ∷ []) new
   covers-more fragile seconds cuts d s e old new z many long there c h =
       record {
         touches = h .touched .long;
         strips = h .stripped .long;
         touched = λ m l.
-            marked-more (hers (planOf row) m) cuts d s e (entryHits table m s e) (getD (old .touched) (m + 1) 0) (getD (new .touched) (m + 1) 0) long
+            marked-more (hers (planOf row) m) cuts d s e (entryHits table (a .timeout) m s e) (getD (old .touched) (m + 1) 0) (getD (new .touched) (m + 1) 0) long
             (touched-is m s e) (c .touched m l) (h .touched .is m (omega arith));
         stripped = λ m l.
-            marked-more (strips (planOf row) m) cuts d s e (stripHits fragile seconds m s e) (getD (old .stripped) (m + 1) 0) (getD (new .stripped) (m + 1) 0) long
-            (z .is m s e l there) (c .stripped m l) (h .stripped .is m (omega arith));
+            marked-more (strips (planOf row) m) cuts d s e (stripHits fragile seconds (a .timeout) m s e) (getD (old .stripped) (m + 1) 0) (getD (new .stripped) (m + 1) 0) long
+            (rw (y .timeout) (z .is m s e l there)) (c .stripped m l) (h .stripped .is m (omega arith));
       }
 
 one-few : (b : Bool) → oneIf b ≤ 1
@@ -158,7 +157,7 @@ module _ (row : List ℕ) (n : ℕ) (cuts : List ℕ) (s : ℕ) (st : Standing) 
         let two = and-eq-true-iff (isTouched (planOf row) cuts m) (isStripped (planOf row) cuts m) .0 z in
         rw (c .touched m l (two .0), c .stripped m l (two .1)))
 
-    pub counted : (most : List ℕ) (k : ℕ) (risk : Risk) (rest : Loss) → risk ≡ risksOf hits (st .positions) n → rest ≡ lossOf risk k most s → Fits rest →
+    pub counted : (most : List ℕ) (k : ℕ) (risk : Risk) (rest : Rest) → risk ≡ risksOf hits (st .positions) n → rest ≡ restOf risk k most s → Fits rest →
         Leaves row cuts most s k rest
     counted most k risk rest is so fits =
         let touched = away-counted (isTouched (planOf row) cuts) (isMarked (hits .touched)) (c .touched) in
@@ -166,9 +165,12 @@ module _ (row : List ℕ) (n : ℕ) (cuts : List ℕ) (s : ℕ) (st : Standing) 
         let t = ap (λ (r : Risk). r .touched) is in
         let u = ap (λ (r : Risk). r .stripped) is in
         record {
-          touches = omega (arith, touched, t, ap (λ (l : Loss). l .touches) so);
-          strips = omega (arith, stripped, u, ap (λ (l : Loss). l .strips) so);
-          both = omega (arith, touched, stripped, t, u, ap (λ (l : Loss). l .both) so);
+          touched = omega (arith, touched, t, ap (λ (l : Rest). l .touched) so);
+          stripped = omega (arith, stripped, u, ap (λ (l : Rest). l .stripped) so);
+          pairs = ap (λ (l : Rest). l .pairs) so;
+          touches = omega (arith, touched, t, ap (λ (l : Rest). l .touches) so);
+          strips = omega (arith, stripped, u, ap (λ (l : Rest). l .strips) so);
+          both = omega (arith, touched, stripped, t, u, ap (λ (l : Rest). l .both) so);
           fits = fits;
         }
 

@@ -1,5 +1,5 @@
 -- What the pairs still to come can add to the messages that a list marks, once over any weight; and which of the three bounds it is that fails.
-use Prim.Native.Nat.{ℕ, zero, suc, _+_, _*_, _≤_, _<_}
+use Prim.Native.Nat.{ℕ, zero, suc, _+_, _-_, _*_, _≤_, _<_}
 use native.Mathlib.Omega.{arith}
 use native.Mathlib.Nat.{suc-mul}
 use mathlib.Core.Path.{_≡_, refl}
@@ -7,7 +7,7 @@ use mathlib.Core.Bool.{Bool, true, false, _||_}
 use mathlib.Core.List.{List, _∷_, _++_}
 use lib.ListN.{length, getD}
 use lib.Dec.{ltb}
-use borrow.Author.Tests.{ltb-true, lt-ltb, le-ltb}
+use borrow.Author.Tests.{ltb-true, lt-ltb, le-ltb, eq-eqb, ne-eqb}
 use Rattle.scope.specs.Limits.{mostSlots, mostLinks, tableSize}
 use Rattle.scope.specs.Plan.{Plan}
 use Rattle.scope.specs.Cuts.{pairs, cutSlot, cutLink, isCutList}
@@ -15,13 +15,14 @@ use Rattle.scope.proofs.Cuts.{slot-below, link-below}
 use Rattle.bound.specs.Sums.{sumOf}
 use Rattle.bound.specs.Touch.{harm}
 use Rattle.bound.specs.Harmed.{NotBefore}
-use Rattle.bound.specs.Bounds.{BoundOn}
+use Rattle.bound.specs.Bounds.{frontIn, BoundOn}
 use Rattle.order.specs.Search.{Chosen, Not}
 use Rattle.order.proofs.Parts.{slot-right, link-right, pairs-both}
 use Rattle.order.proofs.Pairs.{slots-from}
 use Rattle.search.specs.declared.Loss.{Loss}
+use Rattle.search.specs.declared.Rest.{Rest}
 use Rattle.search.specs.declared.Risk.{Risk}
-use Rattle.search.specs.Hunt.{lossOf, lossWith, tooLight, Fits}
+use Rattle.search.specs.Hunt.{restOf, stripsWith, lossWith, tooLight, Fits}
 
 -- what cannot answer fails one of the bounds
 pub which : (X : Type 0) (need : ℕ) (loss : Loss) → tooLight need loss ≡ true → (loss .touches < need → X) → (loss .strips < need → X) →
@@ -44,40 +45,55 @@ pub light-both : (need : ℕ) (loss : Loss) → need ≤ loss .touches → need 
 light-both need loss g h = rw (le-ltb (loss .touches) need g, le-ltb (loss .strips) need h) refl
 
 -- what the numbers of a slot and of a pair are
+abbrev restFrom : Risk → ℕ → ℕ → ℕ → ℕ → Rest
+restFrom risk n t u v = record { touched = risk .touched; stripped = risk .stripped; pairs = n; touches = t; strips = u; both = v }
+
 losses-are : (risk : Risk) (n : ℕ) (most : List ℕ) (s x y z t u v : ℕ) → x ≡ getD most s 0 → y ≡ getD most (mostSlots + s) 0 → z ≡ getD most (2 * mostSlots + s) 0 →
     t ≡ risk .touched + n * x → u ≡ risk .stripped + n * y → v ≡ risk .touched + risk .stripped + n * z →
-    _≡_ {A = Loss} (record { touches = t; strips = u; both = v }) (lossOf risk n most s)
+    _≡_ {A = Rest} (restFrom risk n t u v) (restOf risk n most s)
 losses-are risk n most s x y z t u v a b c p q r =
     let i : 0 * mostSlots + s ≡ s = omega arith in
     let j : 1 * mostSlots + s ≡ mostSlots + s = omega arith in
     rw (p, q, r, a, b, c, i, j) refl
 
-pub losses-is : (risk : Risk) (n : ℕ) (most : List ℕ) (s x y z t u v : ℕ) → x ≡ getD most s 0 → y ≡ getD most (mostSlots + s) 0 → z ≡ getD most (2 * mostSlots + s) 0 →
+pub losses-is : (risk : Risk) (n : ℕ) (most : List ℕ) (s x y z t u v : ℕ) → risk .touched ≤ 262144 → risk .stripped ≤ 262144 → x ≡ getD most s 0 → y ≡ getD most (mostSlots + s) 0 → z ≡ getD most (2 * mostSlots + s) 0 →
     (t ≡ risk .touched + n * x) × (t ≤ 262144) → (u ≡ risk .stripped + n * y) × (u ≤ 262144) →
     (v ≡ risk .touched + risk .stripped + n * z) × (v ≤ 262144) →
-    (_≡_ {A = Loss} (record { touches = t; strips = u; both = v }) (lossOf risk n most s)) × Fits (record { touches = t; strips = u; both = v })
-losses-is risk n most s x y z t u v a b c p q r =
-    (losses-are risk n most s x y z t u v a b c (p .0) (q .0) (r .0), record { touches = p .1; strips = q .1; both = r .1 })
+    (_≡_ {A = Rest} (restFrom risk n t u v) (restOf risk n most s)) × Fits (restFrom risk n t u v)
+losses-is risk n most s x y z t u v few also a b c p q r =
+    (losses-are risk n most s x y z t u v a b c (p .0) (q .0) (r .0), record { touched = few; stripped = also; touches = p .1; strips = q .1; both = r .1 })
 
-pub weighed-is : (rest : Loss) (weights : List ℕ) (s e x y z : ℕ) → x ≡ getD weights (s * mostLinks + e) 0 →
+-- with one last pair to come, and with more or none
+module _ (rest : Rest) (most : List ℕ) (need s touches strips : ℕ) where
+  pub strips-last : (w f : ℕ) → rest .pairs ≡ 1 → w ≡ need - (rest .touched + touches) → f ≡ frontIn most s w →
+      rest .stripped + strips + f ≡ stripsWith rest most need s touches strips
+  strips-last w f one a b = rw (eq-eqb (rest .pairs) 1 one, b, a) refl
+
+  pub strips-more : (rest .pairs ≡ 1 → ⊥) → rest .strips + strips ≡ stripsWith rest most need s touches strips
+  strips-more other = rw (ne-eqb (rest .pairs) 1 other) refl
+
+pub weighed-is : (rest : Rest) (weights most : List ℕ) (need s e x y z w : ℕ) → x ≡ getD weights (s * mostLinks + e) 0 →
     y ≡ getD weights (tableSize + (s * mostLinks + e)) 0 → z ≡ getD weights (2 * tableSize + (s * mostLinks + e)) 0 →
-    _≡_ {A = Loss} (record { touches = rest .touches + x; strips = rest .strips + y; both = rest .both + z }) (lossWith rest weights s e)
-weighed-is rest weights s e x y z a b c =
+    w ≡ stripsWith rest most need s x y →
+    _≡_ {A = Loss} (record { touches = rest .touches + x; strips = w; both = rest .both + z }) (lossWith rest weights most need s e)
+weighed-is rest weights most need s e x y z w a b c d =
     let i : 0 * tableSize + (s * mostLinks + e) ≡ s * mostLinks + e = omega arith in
     let j : 1 * tableSize + (s * mostLinks + e) ≡ tableSize + (s * mostLinks + e) = omega arith in
-    rw (a, b, c, i, j) refl
+    rw (d, a, b, c, i, j) refl
+
+-- pairs that are not in a slot before s, since the first is not
+pub not-before : (plan : Plan) → length (plan .links) ≤ mostLinks → (pre x : List ℕ) (d n s : ℕ) → length pre ≡ 2 * d → length x ≡ 2 * n →
+    isCutList plan (pre ++ x) ≡ true → s ≤ cutSlot x 0 → NotBefore s x n
+not-before plan links pre x d n s long rest good first j h =
+    let z : d + 0 ≡ d = omega arith in
+    let from = slots-from plan links (pre ++ x) good d j (omega (arith, pairs-both pre x d long n rest)) in
+    let here : cutSlot (pre ++ x) d ≡ cutSlot x 0 = rw z at (slot-right pre x d long 0) in
+    omega (arith, from, here, slot-right pre x d long j)
 
 module _ (plan : Plan) (Answers : List ℕ → Type 0) (need : ℕ) (marked : List ℕ → ℕ → ℕ) (weight : ℕ → ℕ → ℕ) (top : ℕ → ℕ)
     (bound : BoundOn plan Answers need marked weight top) (links : length (plan .links) ≤ mostLinks) where
-  -- pairs that are not in a slot before s
+  -- what later pairs weigh
   module _ (pre x : List ℕ) (d n s : ℕ) (long : length pre ≡ 2 * d) (rest : length x ≡ 2 * n) (good : isCutList plan (pre ++ x) ≡ true) where
-    not-before : s ≤ cutSlot x 0 → NotBefore s x n
-    not-before first j h =
-        let z : d + 0 ≡ d = omega arith in
-        let from = slots-from plan links (pre ++ x) good d j (omega (arith, pairs-both pre x d long n rest)) in
-        let here : cutSlot (pre ++ x) d ≡ cutSlot x 0 = rw z at (slot-right pre x d long 0) in
-        omega (arith, from, here, slot-right pre x d long j)
-
     one-pair : (j : ℕ) → j < n → s ≤ cutSlot x j → weight (cutSlot x j) (cutLink x j) ≤ top s
     one-pair j h low =
         let there : d + j < pairs (pre ++ x) = omega (arith, pairs-both pre x d long n rest) in
@@ -105,7 +121,7 @@ module _ (plan : Plan) (Answers : List ℕ → Type 0) (need : ℕ) (marked : Li
 
     then-later : (s : ℕ) → s ≤ a → need ≤ marked pre s + weight a b + k * top s
     then-later s h =
-        let later = not-before pre (a ∷ b ∷ x) d (suc k) s long size good h in
+        let later = not-before plan links pre (a ∷ b ∷ x) d (suc k) s long size good h in
         let enough = bound .enough pre (a ∷ b ∷ x) d (suc k) s (omega (arith, early)) long size later good it in
         omega (arith, enough, then-weigh pre (a ∷ b ∷ x) d (suc k) s long size good later k (omega arith))
 

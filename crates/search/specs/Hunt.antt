@@ -1,10 +1,10 @@
 -- The search in the code's own terms: what is asked, the pairs picked so far, and what was found.
 use Prim.Native.Nat.{ℕ, _+_, _-_, _*_, _≤_, _<_}
 use mathlib.Core.Path.{_≡_}
-use mathlib.Core.Bool.{Bool, true, false, not, _&&_, _||_}
+use mathlib.Core.Bool.{Bool, true, false, not, _&&_, _||_, cond}
 use mathlib.Core.List.{List, []}
 use lib.ListN.{length, getD, take, set, replicate}
-use lib.Dec.{ltb}
+use lib.Dec.{ltb, eqb}
 use Rattle.scope.specs.Limits.{mostCuts, mostSlots, mostLinks, mostEntries, weightsSize, topsSize, secondsSize}
 use Rattle.scope.specs.Plan.{planOf}
 use Rattle.scope.specs.Cuts.{isCut}
@@ -16,7 +16,7 @@ use Rattle.step.specs.declared.Standing.{Standing}
 use Rattle.step.specs.Stand.{Become}
 use Rattle.order.specs.Search.{code, Chosen, NoneOf, FirstOf, NoneIn, FirstFrom}
 use Rattle.bound.specs.Bound.{Fails}
-use Rattle.bound.specs.Bounds.{weightIn, topIn, harmedAndBared, Bounds}
+use Rattle.bound.specs.Bounds.{weightIn, topIn, frontIn, harmedAndBared, Bounds}
 use Rattle.bound.specs.Harmed.{isTouched, harmed}
 use Rattle.bound.specs.Strips.{strips, isStripped, bared}
 use Rattle.bound.specs.Marks.{stripHits}
@@ -25,6 +25,7 @@ use Rattle.search.specs.declared.Picked.{Picked}
 use Rattle.search.specs.declared.Hits.{Hits}
 use Rattle.search.specs.declared.Risk.{Risk}
 use Rattle.search.specs.declared.Loss.{Loss}
+use Rattle.search.specs.declared.Rest.{Rest}
 use Rattle.search.specs.declared.Found.{Found}
 use Rattle.search.specs.declared.Hunted.{Hunted}
 
@@ -48,36 +49,46 @@ abbrev pub noPair : Picked
 noPair = record { count = 0; slot = 0; link = 0; numbers = replicate (2 * mostCuts) 0; down = replicate mostLinks 0 }
 
 -- what can be lost where so many messages are at risk and n pairs more are to come, none before slot s
-abbrev pub lossOf : Risk → ℕ → List ℕ → ℕ → Loss
-lossOf risk n most s =
+abbrev pub restOf : Risk → ℕ → List ℕ → ℕ → Rest
+restOf risk n most s =
     record {
+      touched = risk .touched;
+      stripped = risk .stripped;
+      pairs = n;
       touches = risk .touched + n * topIn most 0 s;
       strips = risk .stripped + n * topIn most 1 s;
       both = risk .touched + risk .stripped + n * topIn most 2 s;
     }
 
--- and with the pair (s, e)
-abbrev pub lossWith : Loss → List ℕ → ℕ → ℕ → Loss
-lossWith rest weights s e =
+-- how many messages can be stripped with a pair of slot s that touches and strips so many: one last pair must touch what is then still wanting
+abbrev pub stripsWith : Rest → List ℕ → ℕ → ℕ → ℕ → ℕ → ℕ
+stripsWith rest most need s touches strips =
+    cond (eqb (rest .pairs) 1) (rest .stripped + strips + frontIn most s (need - (rest .touched + touches))) (rest .strips + strips)
+
+-- what can be lost with the pair (s, e)
+abbrev pub lossWith : Rest → List ℕ → List ℕ → ℕ → ℕ → ℕ → Loss
+lossWith rest weights most need s e =
     record {
       touches = rest .touches + weightIn weights 0 s e;
-      strips = rest .strips + weightIn weights 1 s e;
+      strips = stripsWith rest most need s (weightIn weights 0 s e) (weightIn weights 1 s e);
       both = rest .both + weightIn weights 2 s e;
     }
 
 -- what can be lost is no large number
-pub record Fits (loss : Loss) : Type 0 where
-  pub touches : loss .touches ≤ 262144
-  pub strips : loss .strips ≤ 262144
-  pub both : loss .both ≤ 262144
+pub record Fits (rest : Rest) : Type 0 where
+  pub touched : rest .touched ≤ 262144
+  pub stripped : rest .stripped ≤ 262144
+  pub touches : rest .touches ≤ 262144
+  pub strips : rest .strips ≤ 262144
+  pub both : rest .both ≤ 262144
 
 -- too few messages are touched, or stripped, or both together
 abbrev pub tooLight : ℕ → Loss → Bool
 tooLight need loss = ltb (loss .touches) need || ltb (loss .strips) need || ltb (loss .both) (2 * need)
 
 -- a link that is not cut already, and with which a list can answer where so much is lost besides
-abbrev pub passes : List ℕ → List ℕ → ℕ → Loss → ℕ → ℕ → Bool
-passes down weights need rest s e = not (isDown down e) && not (tooLight need (lossWith rest weights s e))
+abbrev pub passes : List ℕ → List ℕ → List ℕ → ℕ → Rest → ℕ → ℕ → Bool
+passes down weights most need rest s e = not (isDown down e) && not (tooLight need (lossWith rest weights most need s e))
 
 -- what is sought: of the search's words this alone knows the question
 abbrev pub Seeks : List ℕ → Asked → List ℕ → Type 0
@@ -103,7 +114,7 @@ pub record Playable (row table : List ℕ) (a : Asked) : Type 0 where
 pub record Strippable (row fragile seconds : List ℕ) : Type 0 where
   pub long : length seconds ≡ secondsSize
   pub is : (m s e : ℕ) → m < length (planOf row .messages) → e < length (planOf row .links) →
-      strips (planOf row) m s e ≤ stripHits fragile seconds m s e
+      strips (planOf row) m s e ≤ stripHits fragile seconds (planOf row .timeout) m s e
 
 -- and with the bounds
 pub record Ready (row table fragile seconds weights most : List ℕ) (a : Asked) : Type 0 where
@@ -145,7 +156,10 @@ pub record Covers (row cuts : List ℕ) (hits : Hits) : Type 0 where
   pub stripped : (m : ℕ) → m < length (planOf row .messages) → isStripped (planOf row) cuts m ≡ true → isMarked (hits .stripped) m ≡ true
 
 -- no less can be lost than the list marks and k pairs more weigh, none before slot s
-pub record Leaves (row cuts most : List ℕ) (s k : ℕ) (rest : Loss) : Type 0 where
+pub record Leaves (row cuts most : List ℕ) (s k : ℕ) (rest : Rest) : Type 0 where
+  pub touched : harmed (planOf row) cuts s ≤ rest .touched
+  pub stripped : bared (planOf row) cuts s ≤ rest .stripped
+  pub pairs : rest .pairs ≡ k
   pub touches : harmed (planOf row) cuts s + k * topIn most 0 s ≤ rest .touches
   pub strips : bared (planOf row) cuts s + k * topIn most 1 s ≤ rest .strips
   pub both : harmedAndBared (planOf row) cuts s + k * topIn most 2 s ≤ rest .both
@@ -177,7 +191,7 @@ pub record MaySeek (row table fragile seconds weights most : List ℕ) (a : Aske
   pub few : p .count + n ≤ mostCuts
 
 -- in one slot, from a link on, where so much can be lost besides the pair of that slot
-pub record MaySeekIn (row table fragile seconds weights most : List ℕ) (a : Asked) (hits : Hits) (ps : Standing) (p : Picked) (n s e : ℕ) (rest : Loss) :
+pub record MaySeekIn (row table fragile seconds weights most : List ℕ) (a : Asked) (hits : Hits) (ps : Standing) (p : Picked) (n s e : ℕ) (rest : Rest) :
     Type 0 where
   pub ready : Ready row table fragile seconds weights most a
   pub holding : Holding row a p

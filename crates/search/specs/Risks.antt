@@ -12,7 +12,7 @@ use Rattle.bound.specs.Sums.{sumOf, oneIf}
 use Rattle.bound.specs.Marks.{entryHits, stripHits, Marked}
 use Rattle.search.specs.declared.Hits.{Hits}
 use Rattle.search.specs.declared.Risk.{Risk}
-use Rattle.search.specs.declared.Loss.{Loss}
+use Rattle.search.specs.declared.Rest.{Rest}
 use Rattle.search.specs.Hunt.{isMarked, Fits}
 
 -- one for a message of a kind that is not at its target
@@ -53,16 +53,16 @@ pub record MayCountOn (risk : Risk) : Type 0 where
   pub lost : risk .lost ≤ mostMessages
 
 -- a pair may be marked, and was
-pub record MayHit (seconds : List ℕ) (hits : Hits) (s e : ℕ) : Type 0 where
+pub record MayHit (seconds : List ℕ) (t : ℕ) (hits : Hits) (s e : ℕ) : Type 0 where
   pub long : length seconds ≡ secondsSize
   pub touched : length (hits .touched) ≡ mostEntries
   pub stripped : length (hits .stripped) ≡ mostEntries
-  pub slot : s ≤ mostSlots
+  pub slot : s ≤ t
   pub link : e < mostLinks
 
-pub record IsHit (table fragile seconds : List ℕ) (old : Hits) (s e : ℕ) (new : Hits) : Type 0 where
-  pub touched : Marked (entryHits table) s e (old .touched) (new .touched)
-  pub stripped : Marked (stripHits fragile seconds) s e (old .stripped) (new .stripped)
+pub record IsHit (table fragile seconds : List ℕ) (t : ℕ) (old : Hits) (s e : ℕ) (new : Hits) : Type 0 where
+  pub touched : Marked (entryHits table t) s e (old .touched) (new .touched)
+  pub stripped : Marked (stripHits fragile seconds t) s e (old .stripped) (new .stripped)
 
 pub record MayWeigh (risk : Risk) (n : ℕ) (most : List ℕ) (s : ℕ) : Type 0 where
   pub touched : risk .touched ≤ mostMessages
@@ -71,8 +71,19 @@ pub record MayWeigh (risk : Risk) (n : ℕ) (most : List ℕ) (s : ℕ) : Type 0
   pub tops : length most ≡ topsSize
   pub early : s < mostSlots
 
+-- a pair of a slot that touches and strips so many may be counted
+pub record MayStrip (most : List ℕ) (need : ℕ) (rest : Rest) (s touches strips : ℕ) : Type 0 where
+  pub tops : length most ≡ topsSize
+  pub small : need ≤ 65536
+  pub fits : Fits rest
+  pub early : s < mostSlots
+  pub touched : touches < 65536
+  pub stripped : strips < 65536
+
 -- pairs of a slot may be weighed
-pub record MayTry (weights : List ℕ) (rest : Loss) (s : ℕ) : Type 0 where
+pub record MayTry (weights most : List ℕ) (need : ℕ) (rest : Rest) (s : ℕ) : Type 0 where
   pub heavy : length weights ≡ weightsSize
+  pub tops : length most ≡ topsSize
+  pub small : need ≤ 65536
   pub fits : Fits rest
   pub early : s < mostSlots

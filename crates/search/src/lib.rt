@@ -18,9 +18,9 @@ ghost use lib.Dec.{ltb};
 ghost use Rattle.scope.specs.Limits.{mostCuts, mostSlots, mostLinks};
 ghost use Rattle.scope.specs.Lowest.{seek};
 ghost use Rattle.bound.specs.Sums.{oneIf};
-ghost use Rattle.search.specs.Hunt.{cutsOf, withPair, noPair, noHits, lossOf, lossWith, tooLight, passes, Fits, noFound, noHunted, StandAt};
+ghost use Rattle.search.specs.Hunt.{cutsOf, withPair, noPair, noHits, restOf, stripsWith, lossWith, tooLight, passes, Fits, noFound, noHunted, StandAt};
 ghost use Rattle.search.specs.Hunt.{MayPlayOut, MayAdvance, MaySeek, MaySeekIn, Sought, SoughtIn, MayHunt, Hunts};
-ghost use Rattle.search.specs.Risks.{risksOf, withMessage, MayCount, MayCountOn, MayHit, IsHit, MayWeigh, MayTry};
+ghost use Rattle.search.specs.Risks.{risksOf, withMessage, MayCount, MayCountOn, MayHit, IsHit, MayWeigh, MayStrip, MayTry};
 
 // What is asked of a plan: its timeout, links and messages, the least number of arrivals, and what a list must weigh to leave fewer.
 pub struct Asked {
@@ -132,6 +132,16 @@ pub struct Loss {
     pub both: usize,
 }
 
+// The same without the next pair, after which so many pairs are still to come; and how many messages the pairs picked touch and strip.
+pub struct Rest {
+    pub touched: usize,
+    pub stripped: usize,
+    pub pairs: usize,
+    pub touches: usize,
+    pub strips: usize,
+    pub both: usize,
+}
+
 // A list cannot answer, if it loses no more messages than so many.
 fn too_few(need: usize, lost: usize) -> bool
     ensures { λ r. ⌜ r ≡ ltb lost need ⌝ }
@@ -170,63 +180,95 @@ fn heaviest(risk: usize, n: usize, top: usize) -> usize
 }
 
 // What can be lost where so many messages are at risk and n pairs more are to come, none before slot s.
-fn losses(risk: Risk, n: usize, most: &[u16], s: usize) -> Loss
+fn losses(risk: Risk, n: usize, most: &[u16], s: usize) -> Rest
     requires { ⌜ MayWeigh risk n (now most) s ⌝ }
-    ensures { λ r. ⌜ (r ≡ lossOf risk n (now (most .entry)) s) × Fits r ⌝ }
+    ensures { λ r. ⌜ (r ≡ restOf risk n (now (most .entry)) s) × Fits r ⌝ }
 {
     let touches = heaviest(risk.touched, n, at(most, s));
     let strips = heaviest(risk.stripped, n, at(most, SLOTS + s));
     let both = heaviest(risk.touched + risk.stripped, n, at(most, 2 * SLOTS + s));
-    Loss {
+    Rest {
+        touched: risk.touched,
+        stripped: risk.stripped,
+        pairs: n,
         touches,
         strips,
         both,
     }
 }
 
-// And with one pair more.
-fn weighed(weights: &[u16], rest: Loss, s: usize, e: usize) -> Loss
-    requires { ⌜ MayTry (now weights) rest s × (e < mostLinks) ⌝ }
-    ensures { λ r. ⌜ r ≡ lossWith rest (now (weights .entry)) s e ⌝ }
+// What is still wanting.
+fn wanting(need: usize, has: usize) -> usize
+    ensures { λ r. ⌜ r ≡ need - has ⌝ }
+{
+    if need < has { 0 } else { need - has }
+}
+
+// How many messages can be stripped with a pair that touches and strips so many: one last pair must touch what is then still wanting.
+fn stripped(most: &[u16], need: usize, rest: Rest, s: usize, touches: usize, strips: usize) -> usize
+    requires { ⌜ MayStrip (now most) need rest s touches strips ⌝ }
+    ensures { λ r. ⌜ r ≡ stripsWith rest (now (most .entry)) need s touches strips ⌝ }
+{
+    if rest.pairs == 1 {
+        let front = bound::front(most, s, wanting(need, rest.touched + touches));
+        return rest.stripped + strips + front;
+    }
+    rest.strips + strips
+}
+
+// What can be lost with one pair more.
+fn weighed(weights: &[u16], most: &[u16], need: usize, rest: Rest, s: usize, e: usize) -> Loss
+    requires { ⌜ MayTry (now weights) (now most) need rest s × (e < mostLinks) ⌝ }
+    ensures { λ r. ⌜ r ≡ lossWith rest (now (weights .entry)) (now (most .entry)) need s e ⌝ }
 {
     let k = s * LINKS + e;
     let touches = at(weights, k);
     let strips = at(weights, TABLE + k);
     let both = at(weights, 2 * TABLE + k);
+    let all = stripped(most, need, rest, s, touches, strips);
     Loss {
         touches: rest.touches + touches,
-        strips: rest.strips + strips,
+        strips: all,
         both: rest.both + both,
     }
 }
 
 // A link is not cut already, and a list that goes on with it can answer.
-fn may(down: &[u8], weights: &[u16], need: usize, rest: Loss, s: usize, e: usize) -> bool
-    requires { ⌜ MayTry (now weights) rest s × (e < mostLinks) × (need ≤ 65536) ⌝ }
-    ensures { λ r. ⌜ r ≡ passes (now (down .entry)) (now (weights .entry)) need rest s e ⌝ }
+fn may(
+    down: &[u8],
+    weights: &[u16],
+    most: &[u16],
+    need: usize,
+    rest: Rest,
+    s: usize,
+    e: usize,
+) -> bool
+    requires { ⌜ MayTry (now weights) (now most) need rest s × (e < mostLinks) ⌝ }
+    ensures { λ r. ⌜ r ≡ passes (now (down .entry)) (now (weights .entry)) (now (most .entry)) need rest s e ⌝ }
 {
     if cuts::is_down(down, e) {
         return false;
     }
-    !hopeless(need, weighed(weights, rest, s, e))
+    !hopeless(need, weighed(weights, most, need, rest, s, e))
 }
 
 // The first link from e on that may be tried, or how many links there are.
 fn next_link(
     down: &[u8],
     weights: &[u16],
+    most: &[u16],
     need: usize,
-    rest: Loss,
+    rest: Rest,
     s: usize,
     e: usize,
     links: usize,
 ) -> usize
-    requires { ⌜ MayTry (now weights) rest s × (e ≤ links) × (links ≤ mostLinks) × (need ≤ 65536) ⌝ }
-    ensures { λ r. ⌜ r ≡ seek (passes (now (down .entry)) (now (weights .entry)) need rest s) (links - e) e ⌝ }
+    requires { ⌜ MayTry (now weights) (now most) need rest s × (e ≤ links) × (links ≤ mostLinks) ⌝ }
+    ensures { λ r. ⌜ r ≡ seek (passes (now (down .entry)) (now (weights .entry)) (now (most .entry)) need rest s) (links - e) e ⌝ }
 {
     let mut i = e;
     while i < links {
-        if may(down, weights, need, rest, s, i) {
+        if may(down, weights, most, need, rest, s, i) {
             return i;
         }
         i += 1;
@@ -305,14 +347,22 @@ fn no_hits() -> Hits
 }
 
 // The marks with one pair more.
-fn hit(table: &[u8], fragile: &[u8], seconds: &[u8], hits: Hits, s: usize, e: usize) -> Hits
-    requires { ⌜ MayHit (now seconds) hits s e ⌝ }
-    ensures { λ r. ⌜ IsHit (now (table .entry)) (now (fragile .entry)) (now (seconds .entry)) hits s e r ⌝ }
+fn hit(
+    table: &[u8],
+    fragile: &[u8],
+    seconds: &[u8],
+    t: usize,
+    hits: Hits,
+    s: usize,
+    e: usize,
+) -> Hits
+    requires { ⌜ MayHit (now seconds) t hits s e ⌝ }
+    ensures { λ r. ⌜ IsHit (now (table .entry)) (now (fragile .entry)) (now (seconds .entry)) t hits s e r ⌝ }
 {
     let mut touched = hits.touched;
     let mut stripped = hits.stripped;
-    bound::mark(table, s, e, &mut touched);
-    bound::bare(fragile, seconds, s, e, &mut stripped);
+    bound::mark(table, t, s, e, &mut touched);
+    bound::bare(fragile, seconds, t, s, e, &mut stripped);
     Hits { touched, stripped }
 }
 
@@ -371,17 +421,17 @@ fn in_slot(
     n: usize,
     s: usize,
     e: usize,
-    rest: Loss,
+    rest: Rest,
 ) -> Found
     requires { ⌜ MaySeekIn (now row) (now table) (now fragile) (now seconds) (now weights) (now most) a hits ps p n s e rest ⌝ }
     ensures { λ r. ⌜ SoughtIn (now (row .entry)) a p n s e r ⌝ }
 {
     let down = p.down;
     let links = a.links;
-    let mut i = next_link(&down, weights, a.need, rest, s, e, links);
+    let mut i = next_link(&down, weights, most, a.need, rest, s, e, links);
     while i < links {
         let q = pick(p, s, i);
-        let more = hit(table, fragile, seconds, hits, s, i);
+        let more = hit(table, fragile, seconds, a.timeout, hits, s, i);
         let r = level(
             row,
             table,
@@ -398,7 +448,7 @@ fn in_slot(
         if r.found {
             return r;
         }
-        i = next_link(&down, weights, a.need, rest, s, i + 1, links);
+        i = next_link(&down, weights, most, a.need, rest, s, i + 1, links);
     }
     nothing()
 }
@@ -431,7 +481,7 @@ fn level(
     while s < a.timeout {
         let risk = at_risk(qs, a.messages, hits);
         let rest = losses(risk, n - 1, most, s);
-        if a.links <= next_link(&down, weights, a.need, rest, s, 0, a.links) {
+        if a.links <= next_link(&down, weights, most, a.need, rest, s, 0, a.links) {
             return nothing();
         }
         let r = in_slot(

@@ -25,7 +25,10 @@ cast-result : tie.Need-cast-result
 cast-result c = omega (arith, c .shared-slice-known2 .given (3 * mostSlots + c .before .front-of .result))
 
 returns : tie.Need-returns
-returns c = rw (c .before .front-of .ensures .0)
+returns c = (
+  rw (c .before .front-of .ensures .0),
+  omega (arith, c .shared-slice-known2 .given (3 * mostSlots + c .before .front-of .result)),
+)
 
 pub front-spec : {M : Type 1} → statement M
 front-spec =

@@ -78,7 +78,7 @@ level-calls t = (
 )
 
 abbrev in-inv : in-slot-lts.InvT-loop
-in-inv row table fragile seconds weights most a hits ps p n s e rest down links i₀ i = Looking row weights a p n s e i rest
+in-inv row table fragile seconds weights most a hits ps p n s e rest down links i₀ i = Looking row weights most a p n s e i rest
 
 abbrev in-less : in-slot-lts.MeasureT-loop
 in-less row table fragile seconds weights most a hits ps p n s e rest down links i₀ i = links - i
@@ -87,7 +87,7 @@ in-slot-slice-aggregate-next-link : (t : ℕ) → in-slot-lts.Need-slice-aggrega
 in-slot-slice-aggregate-next-link t c = search needs
 
 in-slot-next-link-requires : (t : ℕ) → in-slot-lts.Need-next-link-requires (in-calls t) (in-slot-at t) in-slot.Post in-inv in-less
-in-slot-next-link-requires t c κs = (may-try _ _ _ _ _ _ _ _ _ _ _ _ _ _ (c .before .before .before .before .before .before .before .before .pre .1), c .before .before .before .before .before .before .before .before .pre .1 .link, c .before .before .before .before .before .before .before .before .pre .1 .ready .play .few, c .before .before .before .before .before .before .before .before .pre .1 .ready .small)
+in-slot-next-link-requires t c κs = (may-try _ _ _ _ _ _ _ _ _ _ _ _ _ _ (c .before .before .before .before .before .before .before .before .pre .1), c .before .before .before .before .before .before .before .before .pre .1 .link, c .before .before .before .before .before .before .before .before .pre .1 .ready .play .few)
 
 in-slot-loop-holds : (t : ℕ) → in-slot-lts.Need-loop-holds (in-calls t) (in-slot-at t) in-slot.Post in-inv in-less
 in-slot-loop-holds t c = looks-first _ _ _ _ _ _ _ _ _ _ _ _ _ _ (c .before .before .before .before .before .before .before .before .before .pre .1) _ (c .next-link .ensures)
@@ -114,7 +114,7 @@ in-slot-add-next-link : (t : ℕ) → in-slot-lts.Need-add-next-link (in-calls t
 in-slot-add-next-link t c = omega (arith, c .before .before .before .before .before .loop-test .taken, c .before .before .before .before .before .before .before .before .before .before .before .before .before .before .before .before .pre .1 .ready .play .few)
 
 in-slot-next-link-requires-2 : (t : ℕ) → in-slot-lts.Need-next-link-requires-2 (in-calls t) (in-slot-at t) in-slot.Post in-inv in-less
-in-slot-next-link-requires-2 t c κs = (may-try _ _ _ _ _ _ _ _ _ _ _ _ _ _ (c .before .before .before .before .before .before .before .before .before .before .before .before .before .before .before .before .pre .1), omega (arith, c .before .before .before .before .before .loop-test .taken), c .before .before .before .before .before .before .before .before .before .before .before .before .before .before .before .before .pre .1 .ready .play .few, c .before .before .before .before .before .before .before .before .before .before .before .before .before .before .before .before .pre .1 .ready .small)
+in-slot-next-link-requires-2 t c κs = (may-try _ _ _ _ _ _ _ _ _ _ _ _ _ _ (c .before .before .before .before .before .before .before .before .before .before .before .before .before .before .before .before .pre .1), omega (arith, c .before .before .before .before .before .loop-test .taken), c .before .before .before .before .before .before .before .before .before .before .before .before .before .before .before .before .pre .1 .ready .play .few)
 
 in-slot-loop-less : (t : ℕ) → in-slot-lts.Need-loop-less (in-calls t) (in-slot-at t) in-slot.Post in-inv in-less
 in-slot-loop-less t c = omega (arith, c .before .before .before .before .before .before .loop-test .taken, goes-up _ _ _ _ (c .next-link2 .ensures))
@@ -156,7 +156,7 @@ level-slice-aggregate-next-link : (t : ℕ) → level-lts.Need-slice-aggregate-n
 level-slice-aggregate-next-link t c = sym (c .before .before .before .before .before .before .before .before .before .before .before .before .before .before .pre .1 .holding .size)
 
 level-next-link-requires : (t : ℕ) → level-lts.Need-next-link-requires (level-calls t) (level-at t) level.Post level-inv level-less
-level-next-link-requires t c κs = (may-try-all _ _ _ _ _ _ _ _ _ _ _ (c .before .before .before .before .before .before .before .before .before .before .before .before .before .before .pre .1) (c .before .before .before .before .before .before .before .if1 .left) _ _ _ (c .before .before .before .before .before .loop .inv) _ _ (c .before .before .at-risk .ensures) (c .before .losses .ensures) (c .before .before .before .if2 .taken), omega arith, c .before .before .before .before .before .before .before .before .before .before .before .before .before .before .pre .1 .ready .play .few, c .before .before .before .before .before .before .before .before .before .before .before .before .before .before .pre .1 .ready .small)
+level-next-link-requires t c κs = (may-try-all _ _ _ _ _ _ _ _ _ _ _ (c .before .before .before .before .before .before .before .before .before .before .before .before .before .before .pre .1) (c .before .before .before .before .before .before .before .if1 .left) _ _ _ (c .before .before .before .before .before .loop .inv) _ _ (c .before .before .at-risk .ensures) (c .before .losses .ensures) (c .before .before .before .if2 .taken), omega arith, c .before .before .before .before .before .before .before .before .before .before .before .before .before .before .pre .1 .ready .play .few)
 
 level-nothing-requires : (t : ℕ) → level-lts.Need-nothing-requires (level-calls t) (level-at t) level.Post level-inv level-less
 level-nothing-requires t c κs = search needs

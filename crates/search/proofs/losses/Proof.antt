@@ -1,5 +1,6 @@
 -- `search::losses` meets its contract.
 use Rattle.search.proofs.Weigh.{losses-is}
+use native.Mathlib.Omega.{arith}
 use borrow.Author.Needs.{needs}
 use Rattle.search.proofs.losses.Statement.{statement}
 use Rattle.search.proofs.losses.Tie as tie
@@ -36,7 +37,7 @@ heaviest-requires-3 c κs = search needs
 
 returns : tie.Need-returns
 returns c =
-    losses-is (c .before .before .before .before .before .before .before .before .args .risk) (c .before .before .before .before .before .before .before .before .args .n) (c .before .before .before .before .before .before .before .before .args .most .now) (c .before .before .before .before .before .before .before .before .args .s) _ _ _ _ _ _ (c .before .before .before .before .before .before .at .ensures .0) (c .before .before .before .before .at2 .ensures .0) (c .before .at3 .ensures .0) (c .before .before .before .before .before .heaviest .ensures) (c .before .before .before .heaviest2 .ensures)
+    losses-is (c .before .before .before .before .before .before .before .before .args .risk) (c .before .before .before .before .before .before .before .before .args .n) (c .before .before .before .before .before .before .before .before .args .most .now) (c .before .before .before .before .before .before .before .before .args .s) _ _ _ _ _ _ (omega (arith, c .before .before .before .before .before .before .before .before .pre .touched)) (omega (arith, c .before .before .before .before .before .before .before .before .pre .stripped)) (c .before .before .before .before .before .before .at .ensures .0) (c .before .before .before .before .at2 .ensures .0) (c .before .at3 .ensures .0) (c .before .before .before .before .before .heaviest .ensures) (c .before .before .before .heaviest2 .ensures)
     (c .heaviest3 .ensures)
 
 pub losses-spec : {M : Type 1} → statement M

@@ -23,7 +23,7 @@ returns-2 : tie.Need-returns-2
 returns-2 c =
     rw (sym (c .before .before .before .is-down .ensures) ∙ c .before .before .if1 .left)
     (ap not
-    (c .hopeless .ensures ∙ ap (λ (loss : Loss). tooLight (c .before .before .before .before .before .before .args .need) loss) (c .before .weighed .ensures)))
+    (c .hopeless .ensures ∙ ap (λ (loss : Loss). tooLight (c .before .before .before .before .before .before .before .args .need) loss) (c .before .weighed .ensures)))
 
 pub may-spec : {M : Type 1} → statement M
 may-spec =

@@ -28,17 +28,19 @@ add-at-2 c = search needs
 at-requires-3 : tie.Need-at-requires-3
 at-requires-3 c κs = search needs
 
-add-t9 : tie.Need-add-t9
-add-t9 c = search needs
+stripped-requires : tie.Need-stripped-requires
+stripped-requires c κs = search needs
 
-add-t10 : tie.Need-add-t10
-add-t10 c = search needs
+add-t12 : tie.Need-add-t12
+add-t12 c = search needs
 
-add-t11 : tie.Need-add-t11
-add-t11 c = search needs
+add-t13 : tie.Need-add-t13
+add-t13 c = search needs
 
 returns : tie.Need-returns
-returns c = weighed-is (c .before .before .before .before .before .before .before .args .rest) (c .before .before .before .before .before .before .before .args .weights .now) (c .before .before .before .before .before .before .before .args .s) (c .before .before .before .before .before .before .before .args .e) _ _ _ (c .before .before .before .before .before .at .ensures .0) (c .before .before .before .before .at2 .ensures .0) (c .before .before .before .at3 .ensures .0)
+returns c =
+    weighed-is (c .before .before .before .before .before .before .before .before .args .rest) (c .before .before .before .before .before .before .before .before .args .weights .now) (c .before .before .before .before .before .before .before .before .args .most .now) (c .before .before .before .before .before .before .before .before .args .need) (c .before .before .before .before .before .before .before .before .args .s) (c .before .before .before .before .before .before .before .before .args .e) _ _ _ _
+    (c .before .before .before .before .before .at .ensures .0) (c .before .before .before .before .at2 .ensures .0) (c .before .before .before .at3 .ensures .0) (c .before .before .stripped .ensures)
 
 pub weighed-spec : {M : Type 1} → statement M
 weighed-spec =
@@ -52,7 +54,7 @@ weighed-spec =
     mul-at
     add-at-2
     at-requires-3
-    add-t9
-    add-t10
-    add-t11
+    stripped-requires
+    add-t12
+    add-t13
     returns)
