@@ -87,6 +87,32 @@ module _ (table : List ℕ) (t s e : ℕ) (old : List ℕ) (may : MayMark t s ol
             getD old w 0 + (standing table w s e (i - s) + oneIf (eqb (entryAt table (s + (i - s)) e) w)) = omega (arith, none-more) in
             rw more (ap (ltb 0) (getD-set-other new v w 1 0 other) ∙ g .is w l ∙ ap (ltb 0) whole)
 
+    -- an entry that has no mark
+    pub marking-past : (v : ℕ) → i < t → mostEntries ≤ v → v ≡ entryAt table i e → Marking table t s e old new (i + 1)
+    unfolding sumOf
+    marking-past v h large here =
+        record {
+          from = omega (arith, g .from);
+          few = omega arith;
+          long = g .long;
+          is = λ w l. rw more (g .is w l ∙ ap (ltb 0) (whole w l));
+        }
+      where
+        more : i + 1 - s ≡ suc (i - s)
+        more = omega (arith, g .from)
+
+        at : s + (i - s) ≡ i
+        at = omega (arith, g .from)
+
+        none : (w : ℕ) → w < mostEntries → oneIf (eqb (entryAt table (s + (i - s)) e) w) ≡ 0
+        none w l =
+            ap (λ (j : ℕ). oneIf (eqb (entryAt table j e) w)) at ∙ ap (λ (y : ℕ). oneIf (eqb y w)) (sym here) ∙
+            ap oneIf (ne-eqb v w (λ same. omega arith))
+
+        whole : (w : ℕ) → w < mostEntries → getD old w 0 + standing table w s e (i - s) ≡
+            getD old w 0 + (standing table w s e (i - s) + oneIf (eqb (entryAt table (s + (i - s)) e) w))
+        whole w l = omega (arith, none w l)
+
     pub marking-done : t ≤ i → Marked (entryHits table t) s e old new
     marking-done h =
         let k : i - s ≡ t - s = omega (arith, g .few) in

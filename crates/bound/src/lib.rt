@@ -2,6 +2,7 @@
 // that it leaves without what would help them, and a list loses only messages that it both touches and strips (specs/Touch, specs/Strips). A
 // search needs no more of this than specs/Bounds says, so that a sharper bound can take its place. It leans on the table of `table` and on
 // the theorems of `laws`.
+use scope::limits::ENTRIES;
 use scope::limits::FRONT;
 use scope::limits::FRONTS;
 use scope::limits::LINKS;
@@ -246,8 +247,10 @@ pub fn mark(table: &[u8], t: usize, s: usize, e: usize, marks: &mut [u8])
     let mut i = s;
     while i < t {
         let w = table::entry(table, i, e) as usize;
-        marks[w] = 1;
         i += 1;
+        if w < ENTRIES {
+            marks[w] = 1;
+        }
     }
 }
 

@@ -26,9 +26,9 @@ tableSize = 4096
 abbrev pub secondsSize : ℕ
 secondsSize = 2048
 
--- an entry of the table is a byte, and each has a mark
+-- the marks of messages, each at its number plus one, in bytes that are copied at once
 abbrev pub mostEntries : ℕ
-mostEntries = 256
+mostEntries = 64
 
 -- three weights for each slot and link, one table after another
 abbrev pub weightsSize : ℕ

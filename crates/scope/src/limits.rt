@@ -15,10 +15,10 @@ pub const PLACES: usize = 16;
 // A number for each slot and link, slot by slot.
 pub const TABLE: usize = SLOTS * LINKS;
 
-// A byte for each link and message, link by link; a mark for each byte that an entry of the table may be.
+// A byte for each link and message, link by link; the marks of messages, each at its number plus one, in bytes that are copied at once.
 pub const SECONDS: usize = LINKS * MESSAGES;
 
-pub const ENTRIES: usize = 256;
+pub const ENTRIES: usize = 64;
 
 // Three weights for each slot and link.
 pub const WEIGHTS: usize = 3 * TABLE;

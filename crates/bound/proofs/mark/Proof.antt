@@ -1,7 +1,7 @@
 -- `bound::mark` meets its contract: the slots before slot i are marked.
 use Prim.Native.Nat.{_-_}
 use native.Mathlib.Omega.{arith}
-use Rattle.bound.proofs.Marking.{Marking, marking-none, marking-more, marking-done}
+use Rattle.bound.proofs.Marking.{Marking, marking-none, marking-more, marking-past, marking-done}
 use borrow.Author.Needs.{needs}
 use Rattle.bound.proofs.mark.Statement.{statement}
 use Rattle.bound.proofs.mark.Tie as tie
@@ -21,19 +21,27 @@ entry-requires c κs = search needs
 cast-w : tie.Need-cast-w Inv-loop μ-loop
 cast-w c = omega (arith, c .entry .ok)
 
-slice-write-marks : tie.Need-slice-write-marks Inv-loop μ-loop
-slice-write-marks c = omega (arith, c .entry .ok, c .before .before .loop .inv .long)
-
 add-i : tie.Need-add-i Inv-loop μ-loop
 add-i c = search needs
+
+slice-write-marks : tie.Need-slice-write-marks Inv-loop μ-loop
+slice-write-marks c = omega (arith, c .if1 .taken, c .before .before .before .loop .inv .long)
 
 loop-less : tie.Need-loop-less Inv-loop μ-loop
 loop-less c = search needs
 
 loop-again : tie.Need-loop-again Inv-loop μ-loop
 loop-again c =
-    marking-more _ _ _ _ _ (c .before .before .before .before .before .pre) _ _ (c .before .before .loop .inv) _
-    (c .before .loop-test .taken) (omega (arith, c .entry .ok)) (c .entry .ensures)
+    marking-more _ _ _ _ _ (c .before .before .before .before .before .before .pre) _ _ (c .before .before .before .loop .inv) _
+    (c .before .before .loop-test .taken) (c .if1 .taken) (c .before .entry .ensures)
+
+loop-less-2 : tie.Need-loop-less-2 Inv-loop μ-loop
+loop-less-2 c = search needs
+
+loop-again-2 : tie.Need-loop-again-2 Inv-loop μ-loop
+loop-again-2 c =
+    marking-past _ _ _ _ _ (c .before .before .before .before .before .before .pre) _ _ (c .before .before .before .loop .inv) _
+    (c .before .before .loop-test .taken) (c .if1 .left) (c .before .entry .ensures)
 
 same-length : tie.Need-same-length Inv-loop μ-loop
 same-length c = search needs
@@ -50,9 +58,11 @@ mark-spec =
     loop-holds
     entry-requires
     cast-w
-    slice-write-marks
     add-i
+    slice-write-marks
     loop-less
     loop-again
+    loop-less-2
+    loop-again-2
     same-length
     returns)
