@@ -18,7 +18,7 @@ use Rattle.scope.specs.Verdict.{Resistant, FirstFailing}
 use Rattle.search.specs.declared.Hunted.{Hunted}
 use Rattle.search.specs.Hunt.{Hunts}
 use Rattle.order.specs.Search.{NoneOf}
-use Rattle.bound.specs.Bound.{Fails}
+use Rattle.bound.specs.Bounds.{Fails}
 use Rattle.search.proofs.Answer.{all-leave}
 use Rattle.verdicts.specs.declared.Opening.{Opening}
 use Rattle.verdicts.specs.Lent.{MayAskOn}

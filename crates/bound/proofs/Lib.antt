@@ -11,5 +11,4 @@ pub mod OneLink
 pub mod Weights
 pub mod Planes
 pub mod Fronting
-pub mod Bounds
 pub mod Marking

@@ -3,7 +3,6 @@ pub mod Touch
 pub mod Harmed
 pub mod Strips
 pub mod Sharper
-pub mod Bound
 pub mod Bounds
 pub mod Seconds
 pub mod Weights

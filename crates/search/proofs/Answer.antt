@@ -13,7 +13,7 @@ use Rattle.scope.specs.Cycle.{arrivals}
 use Rattle.scope.specs.Verdict.{earlier, goesBefore, Resistant, FirstFailing}
 use Rattle.scope.proofs.Cuts.{even}
 use Rattle.order.specs.Search.{NoneOf, FirstOf}
-use Rattle.bound.specs.Bound.{Fails}
+use Rattle.bound.specs.Bounds.{Fails}
 
 pub all-leave : (plan : Plan) (k l : ℕ) → ((i : ℕ) → i < k + 1 → NoneOf plan (Fails plan l) [] i) → Resistant plan k l
 unfolding Resistant

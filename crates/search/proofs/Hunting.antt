@@ -19,7 +19,7 @@ use Rattle.search.specs.declared.Hits.{Hits}
 use Rattle.search.specs.declared.Found.{Found}
 use Rattle.search.specs.declared.Hunted.{Hunted}
 use Rattle.order.specs.Search.{NoneOf}
-use Rattle.bound.specs.Bound.{Fails}
+use Rattle.bound.specs.Bounds.{Fails}
 use Rattle.search.specs.Hunt.{noPair, noHits, Seeks, noHunted, Holding, MaySeek, Sought, MayHunt, Hunts}
 use Rattle.order.proofs.Pairs.{is-cut-list}
 use Rattle.search.proofs.Answer.{first-failing}

@@ -15,7 +15,7 @@ use Rattle.table.specs.Table.{entryAt}
 use Rattle.step.specs.declared.Standing.{Standing}
 use Rattle.step.specs.Stand.{Become}
 use Rattle.order.specs.Search.{code, Chosen, NoneOf, FirstOf, NoneIn, FirstFrom}
-use Rattle.bound.specs.Bound.{Fails}
+use Rattle.bound.specs.Bounds.{Fails, weightIn, topIn, frontIn, harmedAndBared, Bounds}
 use Rattle.bound.specs.Bounds.{weightIn, topIn, frontIn, harmedAndBared, Bounds}
 use Rattle.bound.specs.Harmed.{isTouched, harmed}
 use Rattle.bound.specs.Strips.{strips, isStripped, bared}

@@ -19,7 +19,7 @@ use Rattle.bound.specs.Strips.{fragilePlan, throughRobust, strips, bares}
 use Rattle.bound.specs.Seconds.{secondIn, onLink}
 use Rattle.bound.specs.Weights.{entriesFrom, WeighsAll, TopsAll}
 use Rattle.bound.specs.Marks.{entryHits, stripHits}
-use Rattle.bound.specs.Bound.{Fails}
+use Rattle.bound.specs.Bounds.{Fails, weightIn, Bounds}
 use Rattle.bound.specs.Bounds.{weightIn, Bounds}
 use Rattle.bound.proofs.Sums.{sum-same, sum-fewer}
 use Rattle.bound.proofs.OneLink.{hers-most, touches-most}

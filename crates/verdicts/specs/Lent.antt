@@ -6,7 +6,7 @@ use lib.ListN.{length, getD}
 use Rattle.scope.specs.Limits.{mostMessages, mostCuts, tableSize, secondsSize, weightsSize, topsSize}
 use Rattle.scope.specs.Plan.{planOf}
 use Rattle.order.specs.Search.{NoneOf}
-use Rattle.bound.specs.Bound.{Fails}
+use Rattle.bound.specs.Bounds.{Fails, Bounds}
 use Rattle.bound.specs.Bounds.{Bounds}
 use Rattle.plan.specs.Answers.{GoodRow}
 use Rattle.search.specs.Hunt.{Playable, Strippable, StandAt}
