@@ -300,7 +300,17 @@ static int finish(const position *ps, int s, harm by) { /* the list picked, play
     return best < least;
 }
 
-/* The first list of n more pairs, from slot s and link e on, that leaves fewer than `least`. */
+static int next_link(int s, int e, const int *floor) { /* the first link from e on that is whole and weighs enough, or E */
+    for (; e < E; e++) {
+        int here = s * 64 + e;
+        if (weight[BOTH][here] < floor[BOTH] || weight[TOUCHED][here] < floor[TOUCHED] || weight[STRIPPED][here] < floor[STRIPPED]) continue;
+        if (cut_from[e] == 65535) break;
+    }
+    return e;
+}
+
+/* The first list of n more pairs, from slot s and link e on, that leaves fewer than `least`. Once no link of a slot weighs enough, none of a
+   later one does: a pair weighs no more than the same link in an earlier slot. */
 static int level(const position *ps, int n, int at, int s, int e, harm by) {
     position now[32];
     copy(now, ps);
@@ -310,17 +320,13 @@ static int level(const position *ps, int n, int at, int s, int e, harm by) {
         risk[TOUCHED] = __builtin_popcount(by.touched & left);
         risk[STRIPPED] = __builtin_popcount(by.stripped & left);
         risk[BOTH] = risk[TOUCHED] + risk[STRIPPED];
-        for (int b = 0; b < BOUNDS; b++) {
-            if (risk[b] + n * top[b][s] < need[b]) return 0;
-            floor[b] = need[b] - risk[b] - (n - 1) * top[b][s];
-        }
-        for (; e < E; e++) {
-            int here = s * 64 + e;
-            if (weight[BOTH][here] < floor[BOTH] || weight[TOUCHED][here] < floor[TOUCHED] || weight[STRIPPED][here] < floor[STRIPPED]) continue;
-            if (cut_from[e] != 65535) continue;
+        for (int b = 0; b < BOUNDS; b++) floor[b] = need[b] - risk[b] - (n - 1) * top[b][s];
+        int f = next_link(s, 0, floor);
+        if (f == E) return 0;
+        for (e = next_link(s, e > f ? e : f, floor); e < E; e = next_link(s, e + 1, floor)) {
+            harm all = {by.touched | touches[s * 64 + e], by.stripped | strips[s * 64 + e]};
             cut_from[e] = pairs[at] = s;
             pairs[at + 1] = e;
-            harm all = {by.touched | touches[here], by.stripped | strips[here]};
             int found = n == 1 ? finish(now, s, all) : level(now, n - 1, at + 2, s, e + 1, all);
             cut_from[e] = 65535;
             if (found) return 1;
