@@ -273,8 +273,9 @@ static int replay(void) {
 static unsigned touches[65 * 64], strips[65 * 64];
 enum { TOUCHED, STRIPPED, BOTH, BOUNDS };
 static u8 weight[BOUNDS][65 * 64], top[BOUNDS][64]; /* BOTH: of touches and strips together */
+static u8 front[64][33]; /* the most that a pair from a slot on strips which touches at least so many */
 static u16 pairs[6];
-static int need[BOUNDS], least, best, counting;
+static int need, least, best, counting;
 static long lists, slots;
 
 typedef struct {
@@ -291,7 +292,7 @@ static int finish(const position *ps, int s, harm by) { /* the list picked, play
     position play[32];
     copy(play, ps);
     for (int i = s; i < T; i++) {
-        if (__builtin_popcount(by.touched & by.stripped & away(play)) < need[TOUCHED]) return 0;
+        if (__builtin_popcount(by.touched & by.stripped & away(play)) < need) return 0;
         lists += i == s;
         slot(play, i);
         slots++;
@@ -300,11 +301,17 @@ static int finish(const position *ps, int s, harm by) { /* the list picked, play
     return best < least;
 }
 
-static int next_link(int s, int e, const int *floor) { /* the first link from e on that is whole and weighs enough, or E */
+/* Whether n pairs from slot s on can touch x messages more and strip y more, for all that the weights say. */
+static int reach(int n, int s, int x, int y) {
+    if (n == 1) return x <= top[TOUCHED][s] && y <= front[s][x > 0 ? x : 0];
+    return x <= n * top[TOUCHED][s] && y <= n * top[STRIPPED][s] && x + y <= n * top[BOTH][s];
+}
+
+/* The first link from e on that is whole and with which n pairs from slot s on can touch x and strip y, or E. */
+static int next_link(int n, int s, int e, int x, int y) {
     for (; e < E; e++) {
         int here = s * 64 + e;
-        if (weight[BOTH][here] < floor[BOTH] || weight[TOUCHED][here] < floor[TOUCHED] || weight[STRIPPED][here] < floor[STRIPPED]) continue;
-        if (cut_from[e] == 65535) break;
+        if (reach(n - 1, s, x - weight[TOUCHED][here], y - weight[STRIPPED][here]) && cut_from[e] == 65535) break;
     }
     return e;
 }
@@ -316,14 +323,10 @@ static int level(const position *ps, int n, int at, int s, int e, harm by) {
     copy(now, ps);
     for (; s < T; s++, e = 0) {
         unsigned left = away(now);
-        int risk[BOUNDS], floor[BOUNDS];
-        risk[TOUCHED] = __builtin_popcount(by.touched & left);
-        risk[STRIPPED] = __builtin_popcount(by.stripped & left);
-        risk[BOTH] = risk[TOUCHED] + risk[STRIPPED];
-        for (int b = 0; b < BOUNDS; b++) floor[b] = need[b] - risk[b] - (n - 1) * top[b][s];
-        int f = next_link(s, 0, floor);
+        int x = need - __builtin_popcount(by.touched & left), y = need - __builtin_popcount(by.stripped & left);
+        int f = next_link(n, s, 0, x, y);
         if (f == E) return 0;
-        for (e = next_link(s, e > f ? e : f, floor); e < E; e = next_link(s, e + 1, floor)) {
+        for (e = next_link(n, s, e > f ? e : f, x, y); e < E; e = next_link(n, s, e + 1, x, y)) {
             harm all = {by.touched | touches[s * 64 + e], by.stripped | strips[s * 64 + e]};
             cut_from[e] = pairs[at] = s;
             pairs[at + 1] = e;
@@ -340,8 +343,7 @@ static int level(const position *ps, int n, int at, int s, int e, harm by) {
 static int hunt(int n) { /* one walk: the lists of n pairs */
     lists = slots = 0;
     harm none = {0, 0};
-    need[TOUCHED] = need[STRIPPED] = M + 1 - least;
-    need[BOTH] = 2 * need[TOUCHED];
+    need = M + 1 - least;
     int found = n ? level(start, n, 0, 0, 0, none) : finish(start, 0, none);
     if (counting) {
         printf("%d %d %ld %ld ", least, n, lists, slots);
@@ -406,6 +408,11 @@ static int prepare(void) { /* what the search is lent; 0, or a refusal */
             for (int b = 0; b < BOUNDS; b++)
                 if (weight[b][at] > top[b][s]) top[b][s] = weight[b][at];
         }
+        for (int x = 0; x < 33; x++) front[s][x] = 0;
+        for (int e = 0, at = s * 64; e < E; e++, at++)
+            if (weight[STRIPPED][at] > front[s][weight[TOUCHED][at]]) front[s][weight[TOUCHED][at]] = weight[STRIPPED][at];
+        for (int x = 31; x >= 0; x--)
+            if (front[s][x + 1] > front[s][x]) front[s][x] = front[s][x + 1];
     }
     return 0;
 }
