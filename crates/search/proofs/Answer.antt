@@ -19,7 +19,8 @@ pub all-leave : (plan : Plan) (k l : ℕ) → ((i : ℕ) → i < k + 1 → NoneO
 unfolding Resistant
 all-leave plan k l all cuts good few = omega (arith, all (pairs cuts) (omega arith) cuts (even plan cuts good) good)
 
-pub first-failing : (plan : Plan) (k l n : ℕ) (r : List ℕ) → n ≤ k → ((i : ℕ) → i < n → NoneOf plan (Fails plan l) [] i) → FirstOf plan (Fails plan l) [] n r → FirstFailing plan k l r
+pub first-failing : (plan : Plan) (k l n : ℕ) (r : List ℕ) → n ≤ k → ((i : ℕ) → i < n → NoneOf plan (Fails plan l) [] i) →
+    FirstOf plan (Fails plan l) [] n r → FirstFailing plan k l r
 unfolding goesBefore
 first-failing plan k l n r h fewer f =
     record { good = f .good; few = omega (arith, count); fails = f .answers; first = λ others good fails. by others good fails }
@@ -27,7 +28,8 @@ first-failing plan k l n r h fewer f =
     count : pairs r ≡ n
     count = omega (arith, ap length (f .is), f .long)
 
-    not-earlier : (others : List ℕ) → isCutList plan others ≡ true → arrivals plan others < l → pairs others ≡ n → (b : Bool) → earlier others r ≡ b → b ≡ false
+    not-earlier : (others : List ℕ) → isCutList plan others ≡ true → arrivals plan others < l → pairs others ≡ n → (b : Bool) →
+        earlier others r ≡ b → b ≡ false
     not-earlier others good fails same false e = refl
     not-earlier others good fails same true e =
         absurd (f .first others (omega (arith, even plan others good)) e good fails)

@@ -44,8 +44,8 @@ holding-none row a =
     }
 
 -- nothing is found
-pub hunts-none : (row : List ℕ) (l k : ℕ) (h : Hunted) → h ≡ noHunted → ((i : ℕ) → i < k + 1 → NoneOf (planOf row) (Fails (planOf row) l) [] i) →
-    Hunts row l k h
+pub hunts-none : (row : List ℕ) (l k : ℕ) (h : Hunted) → h ≡ noHunted →
+    ((i : ℕ) → i < k + 1 → NoneOf (planOf row) (Fails (planOf row) l) [] i) → Hunts row l k h
 hunts-none row l k h is all =
     let t : h .found ≡ false = ap (λ (x : Hunted). x .found) is in
     let none : h .pairs ≡ 0 = ap (λ (x : Hunted). x .pairs) is in
@@ -69,7 +69,8 @@ module _ (row table fragile seconds weights most : List ℕ) (a : Asked) (ps : S
   pub hunt-first : Hunting row a low k low
   hunt-first = record { within = m .within; leave = m .before }
 
-  pub may-seek : (n : ℕ) (p : Picked) (hits : Hits) → n ≤ k → p ≡ noPair → hits ≡ noHits → MaySeek row table fragile seconds weights most a hits ps p n
+  pub may-seek : (n : ℕ) (p : Picked) (hits : Hits) → n ≤ k → p ≡ noPair → hits ≡ noHits →
+      MaySeek row table fragile seconds weights most a hits ps p n
   may-seek n p hits h is none =
       record {
         ready = m .ready;
@@ -86,8 +87,8 @@ module _ (row table fragile seconds weights most : List ℕ) (a : Asked) (ps : S
     same : 2 * (0 + n) ≡ 2 * n
     same = omega arith
 
-    pub hunt-some : (h : Hunted) → n ≤ k → r .found ≡ true → h .found ≡ true → h .pairs ≡ n → h .arrivals ≡ r .arrivals → h .numbers ≡ r .numbers →
-        Hunts row (a .least) k h
+    pub hunt-some : (h : Hunted) → n ≤ k → r .found ≡ true → h .found ≡ true → h .pairs ≡ n → h .arrivals ≡ r .arrivals →
+        h .numbers ≡ r .numbers → Hunts row (a .least) k h
     hunt-some h few t u q v w =
         record {
           long = ap length w ∙ found .long;

@@ -23,9 +23,11 @@ use Rattle.search.specs.declared.Risk.{Risk}
 use Rattle.search.specs.declared.Rest.{Rest}
 use Rattle.search.specs.declared.Found.{Found}
 use Rattle.order.specs.Search.{code, Not, NoneOf, NoneIn}
-use Rattle.search.specs.Hunt.{cutsOf, withPair, restOf, stripsWith, lossWith, tooLight, passes, Seeks, Fits, noFound, Ready, Holding, StandAt, Leaves}
+use Rattle.search.specs.Hunt.{cutsOf, withPair, restOf, lossWith, tooLight, passes, Seeks, Fits, noFound, Ready, Holding}
+use Rattle.search.specs.Hunt.{StandAt, Leaves}
 use Rattle.search.specs.Hunt.{MayPlayOut, MayAdvance, MaySeek, MaySeekIn, Sought, SoughtIn}
-use Rattle.order.proofs.Steps.{after, no-more, none-before, passed, cut-already, no-list-here, first-here, slot-over, joined, first-in-slot, all-over, first-of-all}
+use Rattle.order.proofs.Steps.{after, no-more, none-before, passed, cut-already, no-list-here, first-here, slot-over, joined, first-in-slot}
+use Rattle.order.proofs.Steps.{all-over, first-of-all}
 use Rattle.search.proofs.Weigh.{which, not-before, too-light}
 use Rattle.search.proofs.Telling.{tells-none, tells-more}
 use Rattle.search.specs.Risks.{risksOf, MayCount, MayHit, IsHit, MayWeigh, MayTry}
@@ -55,18 +57,21 @@ module _ (row table fragile seconds weights most : List ℕ) (a : Asked) (p : Pi
 
   -- where too little is lost with a pair of slot s, it is with one of a later slot
   all-light : (s i b : ℕ) (rest : Rest) → Leaves row (cutsOf p) most s (n - 1) rest → s ≤ i → b < a .links →
-      tooLight (a .need) (lossWith rest weights most (a .need) s b) ≡ true → (x : List ℕ) → length x ≡ 2 * (n - 1) → Not (planOf row) (Seeks row a) (cutsOf p ++ i ∷ b ∷ x)
+      tooLight (a .need) (lossWith rest weights most (a .need) s b) ≡ true → (x : List ℕ) → length x ≡ 2 * (n - 1) →
+      Not (planOf row) (Seeks row a) (cutsOf p ++ i ∷ b ∷ x)
   all-light s i b rest v later there light x long =
       let plan = planOf row in
       let Answers = Seeks row a in
       let start = code (p .slot) (p .link) in
       which (Not plan Answers (cutsOf p ++ i ∷ b ∷ x)) (a .need) (lossWith rest weights most (a .need) s b) light
       (λ less.
-      too-light plan Answers (a .need) (harmed plan) (weightIn weights 0) (topIn most 0) (y .bounds .touches) few (cutsOf p) (p .count) start (h .chosen)
+      too-light plan Answers (a .need) (harmed plan) (weightIn weights 0) (topIn most 0) (y .bounds .touches) few (cutsOf p) (p .count) start
+      (h .chosen)
       (n - 1) s i b later known (omega (arith, less, v .touches)) x long)
       (λ less. strips-light (eqb (rest .pairs) 1) refl less)
       (λ less.
-      too-light plan Answers (2 * a .need) (harmedAndBared plan) (weightIn weights 2) (topIn most 2) (y .bounds .both) few (cutsOf p) (p .count) start
+      too-light plan Answers (2 * a .need) (harmedAndBared plan) (weightIn weights 2) (topIn most 2) (y .bounds .both) few (cutsOf p)
+      (p .count) start
       (h .chosen) (n - 1) s i b later known (omega (arith, less, v .both)) x long)
     where
       known : b < length (planOf row .links)
@@ -89,7 +94,8 @@ module _ (row table fragile seconds weights most : List ℕ) (a : Asked) (p : Pi
                 (v .stripped),
           )
       strips-light false one less =
-          too-light (planOf row) (Seeks row a) (a .need) (bared (planOf row)) (weightIn weights 1) (topIn most 1) (y .bounds .strips) few (cutsOf p)
+          too-light (planOf row) (Seeks row a) (a .need) (bared (planOf row)) (weightIn weights 1) (topIn most 1) (y .bounds .strips) few
+          (cutsOf p)
           (p .count) (code (p .slot) (p .link)) (h .chosen) (n - 1) s i b later known (omega (arith, less, v .strips)) x long
 
   -- a link that may not be tried in slot s is not to be tried in a later one
@@ -115,7 +121,8 @@ module _ (row table fragile seconds weights most : List ℕ) (a : Asked) (p : Pi
       let most′ = seek-most test (a .links - i) i in
       record {
         leave =
-            passed (planOf row) (Seeks row a) few (cutsOf p) (p .count) (code (p .slot) (p .link)) (h .chosen) (n - 1) (code s e) s i r (omega (arith, y .play .few)) leave
+            passed (planOf row) (Seeks row a) few (cutsOf p) (p .count) (code (p .slot) (p .link)) (h .chosen) (n - 1) (code s e) s i r
+            (omega (arith, y .play .few)) leave
             (λ b u w. not-tried s s b rest v (omega arith) (omega arith) (seek-low test (a .links - i) i b u (omega arith)));
         start = omega arith;
         within = omega arith;
@@ -194,7 +201,8 @@ module _ (row table fragile seconds weights most : List ℕ) (a : Asked) (p : Pi
     climb-over r is over =
         tells-none row _ _ (p .count + n) r is
         (rw whole at
-        (all-over (planOf row) (Seeks row a) few (cutsOf p) (p .count) (code (p .slot) (p .link)) (h .chosen) (n - 1) s e (omega (arith, y .play .timeout))
+        (all-over (planOf row) (Seeks row a) few (cutsOf p) (p .count) (code (p .slot) (p .link)) (h .chosen) (n - 1) s e
+        (omega (arith, y .play .timeout))
         (g .leave)))
 
     module _ (r : Found) (f : SoughtIn row a p n s e r) where
@@ -208,11 +216,13 @@ module _ (row table fragile seconds weights most : List ℕ) (a : Asked) (p : Pi
           (first-in-slot (planOf row) (Seeks row a) few (cutsOf p) (p .count) (code (p .slot) (p .link)) (h .chosen) (n - 1) 0 (code s e)
           (take (2 * (p .count + n)) (r .numbers)) (g .leave) first)))
 
-      pub climb-on : (rs : Standing) → r .found ≡ false → s < a .timeout → StandAt row (a .messages) (cutsOf p) (s + 1) rs → Climbing row a p n (s + 1) 0 rs
+      pub climb-on : (rs : Standing) → r .found ≡ false → s < a .timeout → StandAt row (a .messages) (cutsOf p) (s + 1) rs →
+          Climbing row a p n (s + 1) 0 rs
       climb-on rs t early stand =
           record {
             leave =
-                joined (planOf row) (Seeks row a) few (cutsOf p) (p .count) (code (p .slot) (p .link)) (h .chosen) (n - 1) 0 (code s e) (code (s + 1) 0)
+                joined (planOf row) (Seeks row a) few (cutsOf p) (p .count) (code (p .slot) (p .link)) (h .chosen) (n - 1) 0 (code s e)
+                (code (s + 1) 0)
                 (g .leave) (f .none t .1);
             stand = stand;
             from = omega (arith, g .from);
@@ -230,14 +240,22 @@ module _ (row table fragile seconds weights most : List ℕ) (a : Asked) (hits :
     (m : MaySeekIn row table fragile seconds weights most a hits ps p n s e rest) where
   next-holds : (i : ℕ) → Looking row weights most a p n s e i rest → i < a .links → Holding row a (withPair p s i)
   next-holds i g l =
-      holding-more row table a p (m .ready .play) (m .holding) s i (omega (arith, m .few, m .some)) (omega (arith, m .later, g .start)) (m .early) l
+      holding-more row table a p (m .ready .play) (m .holding) s i (omega (arith, m .few, m .some)) (omega (arith, m .later, g .start))
+      (m .early) l
       (not-cut-yet row table fragile seconds weights most a p n (m .ready) (m .holding) (m .some) (m .few) s e i rest g l)
 
   count-messages : length (planOf row .messages) ≤ mostMessages
   count-messages = omega (arith, m .ready .play .messages, m .stand .next .stand .few)
 
   pub may-try : MayTry weights most (a .need) rest s
-  may-try = record { heavy = m .ready .heavy; tops = m .ready .tops; small = m .ready .small; fits = m .leaves .fits; early = omega (arith, m .early, m .ready .play .short) }
+  may-try = record {
+    heavy = m .ready .heavy;
+    tops = m .ready .tops;
+    small = m .ready .small;
+    fits = m .leaves .fits;
+    early =
+        omega (arith, m .early, m .ready .play .short);
+  }
 
   pub may-hit : (i : ℕ) → i < a .links → MayHit seconds (a .timeout) hits s i
   may-hit i l =
@@ -312,18 +330,29 @@ module _ (row table fragile seconds weights most : List ℕ) (a : Asked) (hits :
 
     pub may-weigh-rest : (risk : Risk) → s < a .timeout → risk ≡ risksOf hits (qs .positions) (a .messages) → MayWeigh risk (n - 1) most s
     may-weigh-rest risk early is =
-        may-weigh row (a .messages) (cutsOf p) s qs (g .stand) (m .ready .play .messages) hits (m .covers) most (n - 1) risk is (omega (arith, m .few))
+        may-weigh row (a .messages) (cutsOf p) s qs (g .stand) (m .ready .play .messages) hits (m .covers) most (n - 1) risk is
+        (omega (arith, m .few))
         (m .ready .tops) (omega (arith, m .ready .play .short))
 
-    module _ (risk : Risk) (rest : Rest) (is : risk ≡ risksOf hits (qs .positions) (a .messages)) (so : (rest ≡ restOf risk (n - 1) most s) × Fits rest) where
+    module _ (risk : Risk) (rest : Rest) (is : risk ≡ risksOf hits (qs .positions) (a .messages))
+        (so : (rest ≡ restOf risk (n - 1) most s) × Fits rest) where
       leaves : Leaves row (cutsOf p) most s (n - 1) rest
-      leaves = counted row (a .messages) (cutsOf p) s qs (g .stand) (m .ready .play .messages) hits (m .covers) most (n - 1) risk rest is (so .0) (so .1)
+      leaves = counted row (a .messages) (cutsOf p) s qs (g .stand) (m .ready .play .messages) hits (m .covers) most (n - 1) risk rest is
+          (so .0) (so .1)
 
       pub may-try-all : s < a .timeout → MayTry weights most (a .need) rest s
-      may-try-all early = record { heavy = m .ready .heavy; tops = m .ready .tops; small = m .ready .small; fits = so .1; early = omega (arith, m .ready .play .short) }
+      may-try-all early =
+          record {
+            heavy = m .ready .heavy;
+            tops = m .ready .tops;
+            small = m .ready .small;
+            fits = so .1;
+            early =
+                omega (arith, m .ready .play .short);
+          }
 
-      pub climbs-stop : (r : Found) (f : ℕ) → r ≡ noFound → f ≡ seek (passes (p .down) weights most (a .need) rest s) (a .links - 0) 0 → a .links ≤ f →
-          Sought row a p n r
+      pub climbs-stop : (r : Found) (f : ℕ) → r ≡ noFound → f ≡ seek (passes (p .down) weights most (a .need) rest s) (a .links - 0) 0 →
+          a .links ≤ f → Sought row a p n r
       climbs-stop r f none =
           climb-stop row table fragile seconds weights most a p n (m .ready) (m .holding) positive (m .few) s e qs g r rest f none leaves
 
@@ -361,4 +390,5 @@ module _ (row table fragile seconds weights most : List ℕ) (a : Asked) (hits :
     pub climbs-on : (r : Found) → SoughtIn row a p n s e r → (rs : Standing) → r .found ≡ false → s < a .timeout →
         StandAt row (a .messages) (cutsOf p) (qs .time .0 + 1) rs → Climbing row a p n (s + 1) 0 rs
     climbs-on r f rs t early stand =
-        climb-on row table fragile seconds weights most a p n (m .ready) (m .holding) positive (m .few) s e qs g r f rs t early (rw (g .stand .time) at stand)
+        climb-on row table fragile seconds weights most a p n (m .ready) (m .holding) positive (m .few) s e qs g r f rs t early
+        (rw (g .stand .time) at stand)

@@ -23,7 +23,8 @@ use Rattle.search.specs.declared.Picked.{Picked}
 use Rattle.search.specs.Hunt.{cutsOf, withPair, Playable, Holding, StandAt}
 
 -- two numbers more at the front of a list
-take-two : (l : List ℕ) (d s e : ℕ) → 2 * d + 1 < length l → take (2 * (d + 1)) (set (set l (2 * d) s) (2 * d + 1) e) ≡ take (2 * d) l ++ s ∷ e ∷ []
+take-two : (l : List ℕ) (d s e : ℕ) → 2 * d + 1 < length l →
+    take (2 * (d + 1)) (set (set l (2 * d) s) (2 * d + 1) e) ≡ take (2 * d) l ++ s ∷ e ∷ []
 take-two l d s e h =
     let a : 2 * (d + 1) ≡ suc (2 * d + 1) = omega arith in
     let b : 2 * d + 1 ≡ suc (2 * d) = omega arith in
@@ -52,8 +53,8 @@ module _ (row : List ℕ) (a : Asked) (p : Picked) (h : Holding row a p) (e : �
       (c .0, c .1, eqb-true (cutLink (cutsOf p) (c .0)) e (c .2))
 
 -- what is down with one pair more
-down-more : (plan : Plan) (pre down : List ℕ) (d s e i x : ℕ) → length pre ≡ 2 * d → e < length down → s ≤ i → isDown down x ≡ isCut plan pre i x →
-    isDown (set down e 1) x ≡ isCut plan (pre ++ s ∷ e ∷ []) i x
+down-more : (plan : Plan) (pre down : List ℕ) (d s e i x : ℕ) → length pre ≡ 2 * d → e < length down → s ≤ i →
+    isDown down x ≡ isCut plan pre i x → isDown (set down e 1) x ≡ isCut plan (pre ++ s ∷ e ∷ []) i x
 down-more plan pre down d s e i x long there early is = by (eqb e x) refl
   where
     by : (b : Bool) → eqb e x ≡ b → isDown (set down e 1) x ≡ isCut plan (pre ++ s ∷ e ∷ []) i x
@@ -65,11 +66,13 @@ down-more plan pre down d s e i x long there early is = by (eqb e x) refl
         let other : x ≡ e → ⊥ = λ r. eqb-false e x q (sym r) in
         ap (ltb 0) (getD-set-other down e x 1 0 other) ∙ is ∙ sym (cut-more plan pre d s e long i x ∙ rw (q, or-false (isCut plan pre i x)))
 
-module _ (row table : List ℕ) (a : Asked) (p : Picked) (y : Playable row table a) (h : Holding row a p) (s e : ℕ) (room : p .count < mostCuts) where
+module _ (row table : List ℕ) (a : Asked) (p : Picked) (y : Playable row table a) (h : Holding row a p) (s e : ℕ)
+    (room : p .count < mostCuts) where
   pub cuts-more : cutsOf (withPair p s e) ≡ cutsOf p ++ s ∷ e ∷ []
   cuts-more = take-two (p .numbers) (p .count) s e (omega (arith, h .long))
 
-  pub holding-more : code (p .slot) (p .link) ≤ code s e → s < a .timeout → e < a .links → isDown (p .down) e ≡ false → Holding row a (withPair p s e)
+  pub holding-more : code (p .slot) (p .link) ≤ code s e → s < a .timeout → e < a .links → isDown (p .down) e ≡ false →
+      Holding row a (withPair p s e)
   holding-more later hs he whole =
       record {
         long = length-set (set (p .numbers) (2 * p .count) s) (2 * p .count + 1) e ∙ length-set (p .numbers) (2 * p .count) s ∙ h .long;

@@ -37,7 +37,8 @@ module _ (row table : List ℕ) (a : Asked) (p : Picked) (y : Playable row table
   advanced s ps qs low early stand g =
       let plan = planOf row in
       let b = g .moves .next in
-      let same = slot-same (orderOf plan) (downNow (p .down)) (isCut plan (cutsOf p)) (entryAt table) (tableOf plan) s (positionsOf row (a .messages) (ps .positions))
+      let same = slot-same (orderOf plan) (downNow (p .down)) (isCut plan (cutsOf p)) (entryAt table) (tableOf plan) s
+      (positionsOf row (a .messages) (ps .positions))
       (fun-ext (λ e. h .down s e low)) (y .owner s (omega (arith, y .short))) in
       record {
         time = g .time;
@@ -58,17 +59,19 @@ module _ (row table : List ℕ) (a : Asked) (p : Picked) (y : Playable row table
     pub may-step : MayGo row (a .messages) ps (i .0)
     may-step = record { stand = m .stand .next .stand; at = sym at; early = omega (arith, at, m .early, m .play .short) }
 
-    pub stepped : (qs : Standing) → GoesOn row table (p .down) (a .messages) (i .0) ps qs → StandAt row (a .messages) (cutsOf p) (ps .time .0 + 1) qs
+    pub stepped : (qs : Standing) → GoesOn row table (p .down) (a .messages) (i .0) ps qs →
+        StandAt row (a .messages) (cutsOf p) (ps .time .0 + 1) qs
     stepped qs g =
         advanced (ps .time .0) ps qs (m .from) (m .early) (m .stand) (subst (λ (j : ℕ). GoesOn row table (p .down) (a .messages) j ps qs) at g)
 
-  pub settled-none : (r : Found) (n : ℕ) (b : Bool) → r ≡ noFound → n ≡ arrivals (planOf row) (cutsOf p) → b ≡ ltb n (a .least) → b ≡ false → Sought row a p 0 r
+  pub settled-none : (r : Found) (n : ℕ) (b : Bool) → r ≡ noFound → n ≡ arrivals (planOf row) (cutsOf p) → b ≡ ltb n (a .least) → b ≡ false →
+      Sought row a p 0 r
   settled-none r n b is e t so =
       tells-none row _ _ (p .count + 0) r is
       (nothing-more (planOf row) (Seeks row a) (cutsOf p) (λ it. omega (arith, it, ltb-false n (a .least) (sym t ∙ so))))
 
-  pub settled-some : (r : Found) (n : ℕ) (b : Bool) → r .arrivals ≡ n → r .numbers ≡ p .numbers → r .found ≡ true → n ≡ arrivals (planOf row) (cutsOf p) →
-      b ≡ ltb n (a .least) → b ≡ true → Sought row a p 0 r
+  pub settled-some : (r : Found) (n : ℕ) (b : Bool) → r .arrivals ≡ n → r .numbers ≡ p .numbers → r .found ≡ true →
+      n ≡ arrivals (planOf row) (cutsOf p) → b ≡ ltb n (a .least) → b ≡ true → Sought row a p 0 r
   settled-some r n b i m f e t so =
       let z : p .count + 0 ≡ p .count = omega arith in
       let same : take (2 * (p .count + 0)) (r .numbers) ≡ cutsOf p = ap₂ (λ (k : ℕ) (l : List ℕ). take (2 * k) l) z m in
@@ -104,20 +107,29 @@ module _ (row table : List ℕ) (a : Asked) (hits : Hits) (ps : Standing) (p : P
     ends-count = record { few = g .stand .next .stand .few; touched = m .covers .touches; stripped = m .covers .strips }
 
     -- too few can be lost
-    pub ends-light : (r : Found) (risk : Risk) (b : Bool) → r ≡ noFound → risk ≡ risksOf hits (qs .positions) (a .messages) → b ≡ ltb (risk .lost) (a .need) →
-        b ≡ true → Sought row a p 0 r
+    pub ends-light : (r : Found) (risk : Risk) (b : Bool) → r ≡ noFound → risk ≡ risksOf hits (qs .positions) (a .messages) →
+        b ≡ ltb (risk .lost) (a .need) → b ≡ true → Sought row a p 0 r
     ends-light r risk b is count t so =
         let few = lost-counted row (a .messages) (cutsOf p) i qs (g .stand) (m .play .messages) hits (m .covers) in
         let light = ltb-true (risk .lost) (a .need) (sym t ∙ so) in
         tells-none row _ _ (p .count + 0) r is
         (nothing-more (planOf row) (Seeks row a) (cutsOf p)
         (λ it.
-        omega
-        (arith, m .bounds .whole (cutsOf p) (p .count) i (omega (arith, g .early, m .play .timeout)) (m .holding .chosen .long) (m .holding .chosen .good) it, few, ap (λ (x : Risk). x .lost) count, light)))
+        omega (
+          arith,
+          m .bounds .whole (cutsOf p) (p .count) i (omega (arith, g .early, m .play .timeout)) (m .holding .chosen .long)
+              (m .holding .chosen .good) it,
+          few,
+          ap (λ (x : Risk). x .lost) count,
+          light,
+        )))
 
     -- the end
-    pub ends-over : (n : ℕ) → a .timeout ≤ i → n ≡ arrived (positionsOf row (a .messages) (qs .positions)) → n ≡ arrivals (planOf row) (cutsOf p)
+    pub ends-over : (n : ℕ) → a .timeout ≤ i → n ≡ arrived (positionsOf row (a .messages) (qs .positions)) →
+        n ≡ arrivals (planOf row) (cutsOf p)
     unfolding arrivals
     ends-over n l e =
         let t : i ≡ planOf row .timeout = omega (arith, g .early, m .play .timeout) in
-        e ∙ ap arrived (g .stand .next .is) ∙ ap (λ (k : ℕ). arrived (positions (orderOf (planOf row)) (isCut (planOf row) (cutsOf p)) (tableOf (planOf row)) 0 k (start (planOf row)))) t
+        e ∙ ap arrived (g .stand .next .is) ∙
+        ap (λ (k : ℕ). arrived
+        (positions (orderOf (planOf row)) (isCut (planOf row) (cutsOf p)) (tableOf (planOf row)) 0 k (start (planOf row)))) t

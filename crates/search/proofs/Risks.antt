@@ -63,7 +63,8 @@ marked-more weight cuts d s e hit old new long less before is some = is ∙ by (
 
     by : (b : Bool) → ltb 0 (harm weight cuts (pairs cuts)) ≡ b → ltb 0 (old + hit) ≡ true
     by true q = lt-ltb 0 (old + hit) (omega (arith, ltb-true 0 old (before q)))
-    by false q = lt-ltb 0 (old + hit) (omega (arith, ltb-true 0 (harm weight (cuts ++ s ∷ e ∷ []) (pairs (cuts ++ s ∷ e ∷ []))) some, both, none))
+    by false q = lt-ltb 0 (old + hit)
+        (omega (arith, ltb-true 0 (harm weight (cuts ++ s ∷ e ∷ []) (pairs (cuts ++ s ∷ e ∷ []))) some, both, none))
       where
         none : harm weight cuts (pairs cuts) ≡ 0
         none = omega (arith, ltb-false 0 (harm weight cuts (pairs cuts)) q)
@@ -96,7 +97,8 @@ module _ (row table : List ℕ) (a : Asked) (y : Playable row table a) where
       )
 
   -- one pair more
-  pub covers-more : (fragile seconds cuts : List ℕ) (d s e : ℕ) (old new : Hits) → Strippable row fragile seconds → length (planOf row .messages) ≤ mostMessages →
+  pub covers-more : (fragile seconds cuts : List ℕ) (d s e : ℕ) (old new : Hits) → Strippable row fragile seconds →
+      length (planOf row .messages) ≤ mostMessages →
       length cuts ≡ 2 * d → e < length (planOf row .links) → Covers row cuts old → IsHit table fragile seconds (a .timeout) old s e new →
       Covers row (cuts ++ s ∷ e ∷ []) new
   covers-more fragile seconds cuts d s e old new z many long there c h =
@@ -104,10 +106,12 @@ module _ (row table : List ℕ) (a : Asked) (y : Playable row table a) where
         touches = h .touched .long;
         strips = h .stripped .long;
         touched = λ m l.
-            marked-more (hers (planOf row) m) cuts d s e (entryHits table (a .timeout) m s e) (getD (old .touched) (m + 1) 0) (getD (new .touched) (m + 1) 0) long
+            marked-more (hers (planOf row) m) cuts d s e (entryHits table (a .timeout) m s e) (getD (old .touched) (m + 1) 0)
+            (getD (new .touched) (m + 1) 0) long
             (touched-is m s e) (c .touched m l) (h .touched .is m (omega arith));
         stripped = λ m l.
-            marked-more (strips (planOf row) m) cuts d s e (stripHits fragile seconds (a .timeout) m s e) (getD (old .stripped) (m + 1) 0) (getD (new .stripped) (m + 1) 0) long
+            marked-more (strips (planOf row) m) cuts d s e (stripHits fragile seconds (a .timeout) m s e) (getD (old .stripped) (m + 1) 0)
+            (getD (new .stripped) (m + 1) 0) long
             (rw (y .timeout) (z .is m s e l there)) (c .stripped m l) (h .stripped .is m (omega arith));
       }
 
@@ -126,13 +130,15 @@ more-away : (a b c : Bool) → (a ≡ true → b ≡ true) → oneIf (a && not c
 more-away true b c h = rw (h refl) (omega arith)
 more-away false b c h = omega arith
 
-module _ (row : List ℕ) (n : ℕ) (cuts : List ℕ) (s : ℕ) (st : Standing) (stand : StandAt row n cuts s st) (count : n ≡ length (planOf row .messages)) where
+module _ (row : List ℕ) (n : ℕ) (cuts : List ℕ) (s : ℕ) (st : Standing) (stand : StandAt row n cuts s st)
+    (count : n ≡ length (planOf row .messages)) where
   stands-at : (m : ℕ) → m < n →
       L.positionOf m (positions (orderOf (planOf row)) (isCut (planOf row) cuts) (tableOf (planOf row)) 0 s (start (planOf row))) ≡
       positionOf row (getD (st .positions) m home)
   unfolding placesAt
   stands-at m l =
-      ap (λ (qs : List S.Position). L.positionOf m qs) (sym (stand .next .is)) ∙ List·getD-map (positionOf row) (take n (st .positions)) m home ∙
+      ap (λ (qs : List S.Position). L.positionOf m qs) (sym (stand .next .is)) ∙
+      List·getD-map (positionOf row) (take n (st .positions)) m home ∙
       ap (positionOf row) (getD-take n (st .positions) m home l)
 
   -- so those of a kind are among those counted
@@ -152,13 +158,14 @@ module _ (row : List ℕ) (n : ℕ) (cuts : List ℕ) (s : ℕ) (st : Standing) 
   module _ (hits : Hits) (c : Covers row cuts hits) where
     pub lost-counted : lost (planOf row) cuts s ≤ risksOf hits (st .positions) n .lost
     lost-counted =
-        away-counted (λ m. isTouched (planOf row) cuts m && isStripped (planOf row) cuts m) (λ m. isMarked (hits .touched) m && isMarked (hits .stripped) m)
+        away-counted (λ m. isTouched (planOf row) cuts m && isStripped (planOf row) cuts m)
+        (λ m. isMarked (hits .touched) m && isMarked (hits .stripped) m)
         (λ m l z.
         let two = and-eq-true-iff (isTouched (planOf row) cuts m) (isStripped (planOf row) cuts m) .0 z in
         rw (c .touched m l (two .0), c .stripped m l (two .1)))
 
-    pub counted : (most : List ℕ) (k : ℕ) (risk : Risk) (rest : Rest) → risk ≡ risksOf hits (st .positions) n → rest ≡ restOf risk k most s → Fits rest →
-        Leaves row cuts most s k rest
+    pub counted : (most : List ℕ) (k : ℕ) (risk : Risk) (rest : Rest) → risk ≡ risksOf hits (st .positions) n → rest ≡ restOf risk k most s →
+        Fits rest → Leaves row cuts most s k rest
     counted most k risk rest is so fits =
         let touched = away-counted (isTouched (planOf row) cuts) (isMarked (hits .touched)) (c .touched) in
         let stripped = away-counted (isStripped (planOf row) cuts) (isMarked (hits .stripped)) (c .stripped) in
@@ -174,12 +181,22 @@ module _ (row : List ℕ) (n : ℕ) (cuts : List ℕ) (s : ℕ) (st : Standing) 
           fits = fits;
         }
 
-    pub may-weigh : (most : List ℕ) (k : ℕ) (risk : Risk) → risk ≡ risksOf hits (st .positions) n → k ≤ mostCuts → length most ≡ topsSize → s < mostSlots →
-        MayWeigh risk k most s
+    pub may-weigh : (most : List ℕ) (k : ℕ) (risk : Risk) → risk ≡ risksOf hits (st .positions) n → k ≤ mostCuts → length most ≡ topsSize →
+        s < mostSlots → MayWeigh risk k most s
     may-weigh most k risk is few tops early =
         record {
-          touched = omega (arith, ap (λ (r : Risk). r .touched) is, count-few (isMarked (hits .touched)) (st .positions) n, stand .next .stand .few);
-          stripped = omega (arith, ap (λ (r : Risk). r .stripped) is, count-few (isMarked (hits .stripped)) (st .positions) n, stand .next .stand .few);
+          touched = omega (
+            arith,
+            ap (λ (r : Risk). r .touched) is,
+            count-few (isMarked (hits .touched)) (st .positions) n,
+            stand .next .stand .few,
+          );
+          stripped = omega (
+            arith,
+            ap (λ (r : Risk). r .stripped) is,
+            count-few (isMarked (hits .stripped)) (st .positions) n,
+            stand .next .stand .few,
+          );
           few = few;
           tops = tops;
           early = early;
@@ -206,8 +223,8 @@ module _ (hits : Hits) (ps : List Position) (n k : ℕ) (risk : Risk) (g : Count
         lost = omega (arith, count-few (λ m. isMarked (hits .touched) m && isMarked (hits .stripped) m) ps k, g .few);
       })
 
-  pub counting-more : (r : Risk) → k < n → r ≡ withMessage risk (getD ps k home) (getD (hits .touched) (k + 1) 0) (getD (hits .stripped) (k + 1) 0) →
-      Counting hits ps n (k + 1) r
+  pub counting-more : (r : Risk) → k < n →
+      r ≡ withMessage risk (getD ps k home) (getD (hits .touched) (k + 1) 0) (getD (hits .stripped) (k + 1) 0) → Counting hits ps n (k + 1) r
   unfolding sumOf
   counting-more r h e =
       let s : k + 1 ≡ suc k = omega arith in
@@ -251,9 +268,10 @@ with-home risk p touched stripped h =
         let c : l + 0 ≡ l = omega arith in
         rw (a, b, c) refl
 
-pub with-away : (risk : Risk) (p : Position) (touched stripped t s b : ℕ) → (p .left ≡ 0 → ⊥) → t ≡ oneIf (ltb 0 touched) → s ≡ oneIf (ltb 0 stripped) →
-    b ≡ oneIf (ltb 0 touched && ltb 0 stripped) →
-    _≡_ {A = Risk} (record { touched = risk .touched + t; stripped = risk .stripped + s; lost = risk .lost + b }) (withMessage risk p touched stripped)
+pub with-away : (risk : Risk) (p : Position) (touched stripped t s b : ℕ) → (p .left ≡ 0 → ⊥) → t ≡ oneIf (ltb 0 touched) →
+    s ≡ oneIf (ltb 0 stripped) → b ≡ oneIf (ltb 0 touched && ltb 0 stripped) →
+    _≡_ {A = Risk} (record { touched = risk .touched + t; stripped = risk .stripped + s; lost = risk .lost + b })
+    (withMessage risk p touched stripped)
 with-away risk p touched stripped t s b h et es eb =
     rw (ne-eqb (p .left) 0 h, et, es, eb, and-true (ltb 0 touched), and-true (ltb 0 stripped), and-true (ltb 0 touched && ltb 0 stripped)) refl
   where

@@ -22,7 +22,8 @@ tells-none row None First c r is all =
     }
 
 module _ (row : List ℕ) (None : Type 0) (First : List ℕ → Type 0) (c : ℕ) (r : Found) (t : r .found ≡ true) where
-  pub tells-some : length (r .numbers) ≡ 2 * mostCuts → First (take (2 * c) (r .numbers)) → r .arrivals ≡ arrivals (planOf row) (take (2 * c) (r .numbers)) →
+  pub tells-some : length (r .numbers) ≡ 2 * mostCuts → First (take (2 * c) (r .numbers)) →
+      r .arrivals ≡ arrivals (planOf row) (take (2 * c) (r .numbers)) →
       ((i : ℕ) → 2 * c ≤ i → getD (r .numbers) i 0 ≡ 0) → Tells row None First c r
   tells-some long first left past =
       record { long = long; none = λ u. absurd (true≢false (sym t ∙ u)); some = λ u. first; left = λ u. left; past = λ u. past }

@@ -29,7 +29,8 @@ pub which : (X : Type 0) (need : ℕ) (loss : Loss) → tooLight need loss ≡ t
     (loss .both < 2 * need → X) → X
 which X need loss light one two three = by (ltb (loss .touches) need) refl (ltb (loss .strips) need) refl light
   where
-    by : (a : Bool) → ltb (loss .touches) need ≡ a → (b : Bool) → ltb (loss .strips) need ≡ b → (a || b || ltb (loss .both) (2 * need)) ≡ true → X
+    by : (a : Bool) → ltb (loss .touches) need ≡ a → (b : Bool) → ltb (loss .strips) need ≡ b → (a || b || ltb (loss .both) (2 * need)) ≡ true →
+        X
     by true e b f t = one (ltb-true (loss .touches) need e)
     by false e true f t = two (ltb-true (loss .strips) need f)
     by false e false f t = three (ltb-true (loss .both) (2 * need) t)
@@ -48,20 +49,23 @@ light-both need loss g h = rw (le-ltb (loss .touches) need g, le-ltb (loss .stri
 abbrev restFrom : Risk → ℕ → ℕ → ℕ → ℕ → Rest
 restFrom risk n t u v = record { touched = risk .touched; stripped = risk .stripped; pairs = n; touches = t; strips = u; both = v }
 
-losses-are : (risk : Risk) (n : ℕ) (most : List ℕ) (s x y z t u v : ℕ) → x ≡ getD most s 0 → y ≡ getD most (mostSlots + s) 0 → z ≡ getD most (2 * mostSlots + s) 0 →
-    t ≡ risk .touched + n * x → u ≡ risk .stripped + n * y → v ≡ risk .touched + risk .stripped + n * z →
+losses-are : (risk : Risk) (n : ℕ) (most : List ℕ) (s x y z t u v : ℕ) → x ≡ getD most s 0 → y ≡ getD most (mostSlots + s) 0 →
+    z ≡ getD most (2 * mostSlots + s) 0 → t ≡ risk .touched + n * x → u ≡ risk .stripped + n * y → v ≡ risk .touched + risk .stripped + n * z →
     _≡_ {A = Rest} (restFrom risk n t u v) (restOf risk n most s)
 losses-are risk n most s x y z t u v a b c p q r =
     let i : 0 * mostSlots + s ≡ s = omega arith in
     let j : 1 * mostSlots + s ≡ mostSlots + s = omega arith in
     rw (p, q, r, a, b, c, i, j) refl
 
-pub losses-is : (risk : Risk) (n : ℕ) (most : List ℕ) (s x y z t u v : ℕ) → risk .touched ≤ 262144 → risk .stripped ≤ 262144 → x ≡ getD most s 0 → y ≡ getD most (mostSlots + s) 0 → z ≡ getD most (2 * mostSlots + s) 0 →
+pub losses-is : (risk : Risk) (n : ℕ) (most : List ℕ) (s x y z t u v : ℕ) → risk .touched ≤ 262144 → risk .stripped ≤ 262144 →
+    x ≡ getD most s 0 → y ≡ getD most (mostSlots + s) 0 → z ≡ getD most (2 * mostSlots + s) 0 →
     (t ≡ risk .touched + n * x) × (t ≤ 262144) → (u ≡ risk .stripped + n * y) × (u ≤ 262144) →
     (v ≡ risk .touched + risk .stripped + n * z) × (v ≤ 262144) →
     (_≡_ {A = Rest} (restFrom risk n t u v) (restOf risk n most s)) × Fits (restFrom risk n t u v)
-losses-is risk n most s x y z t u v few also a b c p q r =
-    (losses-are risk n most s x y z t u v a b c (p .0) (q .0) (r .0), record { touched = few; stripped = also; touches = p .1; strips = q .1; both = r .1 })
+losses-is risk n most s x y z t u v few also a b c p q r = (
+  losses-are risk n most s x y z t u v a b c (p .0) (q .0) (r .0),
+  record { touched = few; stripped = also; touches = p .1; strips = q .1; both = r .1 },
+)
 
 -- with one last pair to come, and with more or none
 module _ (rest : Rest) (most : List ℕ) (need s touches strips : ℕ) where
@@ -108,7 +112,8 @@ module _ (plan : Plan) (Answers : List ℕ → Type 0) (need : ℕ) (marked : Li
         omega (arith, then-weigh later k (omega arith), one-pair (suc k) h (later (suc k) h), suc-mul k (top s))
 
   -- a list with k + 1 pairs more that answers has enough weight
-  module _ (pre : List ℕ) (d k a b : ℕ) (x : List ℕ) (long : length pre ≡ 2 * d) (rest : length x ≡ 2 * k) (good : isCutList plan (pre ++ a ∷ b ∷ x) ≡ true)
+  module _ (pre : List ℕ) (d k a b : ℕ) (x : List ℕ) (long : length pre ≡ 2 * d) (rest : length x ≡ 2 * k)
+      (good : isCutList plan (pre ++ a ∷ b ∷ x) ≡ true)
       (it : Answers (pre ++ a ∷ b ∷ x)) where
     size : length {A = ℕ} (a ∷ b ∷ x) ≡ 2 * suc k
     size = omega arith

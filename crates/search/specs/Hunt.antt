@@ -138,7 +138,8 @@ pub record Holding (row : List ℕ) (a : Asked) (p : Picked) : Type 0 where
 -- the messages stand where they do at time s under a cut list
 pub record StandAt (row : List ℕ) (n : ℕ) (cuts : List ℕ) (s : ℕ) (ps : Standing) : Type 0 where
   pub time : ps .time .0 ≡ s
-  pub next : Become row n (positions (orderOf (planOf row)) (isCut (planOf row) cuts) (tableOf (planOf row)) 0 s (start (planOf row))) (ps .positions)
+  pub next : Become row n (positions (orderOf (planOf row)) (isCut (planOf row) cuts) (tableOf (planOf row)) 0 s (start (planOf row)))
+      (ps .positions)
 
 -- message m is marked
 abbrev pub isMarked : List ℕ → ℕ → Bool
@@ -183,7 +184,8 @@ pub record MayAdvance (row table : List ℕ) (a : Asked) (ps : Standing) (p : Pi
   pub early : ps .time .0 < a .timeout
 
 -- n pairs more may be sought
-pub record MaySeek (row table fragile seconds weights most : List ℕ) (a : Asked) (hits : Hits) (ps : Standing) (p : Picked) (n : ℕ) : Type 0 where
+pub record MaySeek (row table fragile seconds weights most : List ℕ) (a : Asked) (hits : Hits) (ps : Standing) (p : Picked)
+    (n : ℕ) : Type 0 where
   pub ready : Ready row table fragile seconds weights most a
   pub holding : Holding row a p
   pub covers : Covers row (cutsOf p) hits
@@ -191,7 +193,8 @@ pub record MaySeek (row table fragile seconds weights most : List ℕ) (a : Aske
   pub few : p .count + n ≤ mostCuts
 
 -- in one slot, from a link on, where so much can be lost besides the pair of that slot
-pub record MaySeekIn (row table fragile seconds weights most : List ℕ) (a : Asked) (hits : Hits) (ps : Standing) (p : Picked) (n s e : ℕ) (rest : Rest) :
+pub record MaySeekIn (row table fragile seconds weights most : List ℕ) (a : Asked) (hits : Hits) (ps : Standing) (p : Picked) (n s e : ℕ)
+    (rest : Rest) :
     Type 0 where
   pub ready : Ready row table fragile seconds weights most a
   pub holding : Holding row a p
@@ -214,7 +217,8 @@ pub record Tells (row : List ℕ) (None : Type 0) (First : List ℕ → Type 0) 
 
 -- what was found of all lists with n pairs more
 abbrev pub Sought : List ℕ → Asked → Picked → ℕ → Found → Type 0
-Sought row a p n r = Tells row (NoneOf (planOf row) (Seeks row a) (cutsOf p) n) (FirstOf (planOf row) (Seeks row a) (cutsOf p) n) (p .count + n) r
+Sought row a p n r =
+    Tells row (NoneOf (planOf row) (Seeks row a) (cutsOf p) n) (FirstOf (planOf row) (Seeks row a) (cutsOf p) n) (p .count + n) r
 
 -- and of those whose next pair is in one slot
 abbrev pub SoughtIn : List ℕ → Asked → Picked → ℕ → ℕ → ℕ → Found → Type 0

@@ -39,7 +39,8 @@ pub fn lend(
     most: &mut [u16],
 ) -> Opening
     requires { ⌜ MayLend (now row) (now table) (now fragile) (now seconds) (now weights) (now most) ⌝ }
-    ensures { λ r. ⌜ Lent (now (row .entry)) (now (table .exit)) (now (fragile .exit)) (now (seconds .exit)) (now (weights .exit)) (now (most .exit)) r ⌝ }
+    ensures { λ r. ⌜ Lent (now (row .entry)) (now (table .exit)) (now (fragile .exit)) (now (seconds .exit)) (now (weights .exit))
+        (now (most .exit)) r ⌝ }
 {
     table::fill_table(row, table);
     strips::fill(row, fragile, seconds);

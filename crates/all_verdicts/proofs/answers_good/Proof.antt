@@ -5,23 +5,8 @@ use borrow.Author.Needs.{needs}
 use Rattle.all_verdicts.proofs.answers_good.Statement.{statement}
 use Rattle.all_verdicts.proofs.answers_good.Tie as tie
 
-refuse-requires : tie.Need-refuse-requires
-refuse-requires c κs = search needs
-
 returns : tie.Need-returns
 returns c = k-too-large _ _ _ (c .before .before .before .before .pre) _ (c .before .if1 .taken) (c .refuse .ensures)
-
-messages-requires : tie.Need-messages-requires
-messages-requires c κs = search needs
-
-add-needed : tie.Need-add-needed
-add-needed c = search needs
-
-mul-needed : tie.Need-mul-needed
-mul-needed c = search needs
-
-refuse-requires-2 : tie.Need-refuse-requires-2
-refuse-requires-2 c κs = search needs
 
 returns-2 : tie.Need-returns-2
 returns-2 c =
@@ -34,9 +19,6 @@ fill-requires c κs =
     (c .before .before .before .before .before .before .pre) (c .before .before .before .if1 .left) _ _
     (c .before .before .messages .ensures .is) refl (c .before .if2 .left)
 
-same-length : tie.Need-same-length
-same-length c = search needs
-
 returns-3 : tie.Need-returns-3
 returns-3 c =
     answered _ _ _ (c .before .before .before .before .before .before .before .before .before .pre)
@@ -46,14 +28,5 @@ returns-3 c =
 pub answers-good-spec : {M : Type 1} → statement M
 answers-good-spec =
     tie.close
-    (tie.spec
-    refuse-requires
-    returns
-    messages-requires
-    add-needed
-    mul-needed
-    refuse-requires-2
-    returns-2
-    fill-requires
-    same-length
-    returns-3)
+    (tie.spec (λ c κs. search needs) returns (λ c κs. search needs) (λ c. search needs) (λ c. search needs) (λ c κs. search needs) returns-2
+    fill-requires (λ c. search needs) returns-3)

@@ -72,16 +72,5 @@ returns c =
 pub descend-spec : {M : Type 1} → statement M
 descend-spec =
     tie.close
-    (tie.spec
-    Inv-loop
-    μ-loop
-    ask-requires
-    loop-holds
-    put-failing-requires
-    ask-requires-2
-    loop-less
-    loop-again
-    add-put-answers
-    put-answers-requires
-    same-length
-    returns)
+    (tie.spec Inv-loop μ-loop ask-requires loop-holds put-failing-requires ask-requires-2 loop-less loop-again add-put-answers
+    put-answers-requires same-length returns)

@@ -8,20 +8,11 @@ use borrow.Author.Needs.{needs}
 use Rattle.all_verdicts.proofs.put_answer.Statement.{statement}
 use Rattle.all_verdicts.proofs.put_answer.Tie as tie
 
-slice-write-out : tie.Need-slice-write-out
-slice-write-out c = search needs
-
-slice-aggregate-copy : tie.Need-slice-aggregate-copy
-slice-aggregate-copy c = search needs
-
 sub-copy : tie.Need-sub-copy
 sub-copy c = simp length-set (omega (arith, c .before .before .pre))
 
 part-copy-start : tie.Need-part-copy-start
 part-copy-start c = simp length-set (omega (arith, c .before .before .pre))
-
-part-copy-end : tie.Need-part-copy-end
-part-copy-end c = search needs
 
 copy-requires : tie.Need-copy-requires
 copy-requires c κs =
@@ -47,13 +38,4 @@ returns c =
 
 pub put-answer-spec : {M : Type 1} → statement M
 put-answer-spec =
-    tie.close
-    (tie.spec
-    slice-write-out
-    slice-aggregate-copy
-    sub-copy
-    part-copy-start
-    part-copy-end
-    copy-requires
-    same-length
-    returns)
+    tie.close (tie.spec (λ c. search needs) (λ c. search needs) sub-copy part-copy-start (λ c. search needs) copy-requires same-length returns)

@@ -19,17 +19,11 @@ loop-holds c = putting-none _ _ _ _ _ (c .before .pre .0)
 mul-at : tie.Need-mul-at Inv-loop μ-loop
 mul-at c = omega (arith, c .loop-test .taken, c .before .before .before .pre .1)
 
-mul-put-answer : tie.Need-mul-put-answer Inv-loop μ-loop
-mul-put-answer c = search needs
-
 sub-put-answer : tie.Need-sub-put-answer Inv-loop μ-loop
 sub-put-answer c = omega (arith, c .loop-test .taken, c .before .before .before .pre .2, c .before .loop .inv .same)
 
 part-put-answer-start : tie.Need-part-put-answer-start Inv-loop μ-loop
 part-put-answer-start c = omega (arith, c .loop-test .taken, c .before .before .before .pre .2, c .before .loop .inv .same)
-
-part-put-answer-end : tie.Need-part-put-answer-end Inv-loop μ-loop
-part-put-answer-end c = search needs
 
 put-answer-requires : tie.Need-put-answer-requires Inv-loop μ-loop
 put-answer-requires c κs =
@@ -57,18 +51,5 @@ returns c = putting-done _ _ _ _ _ _ _ (c .before .loop .inv) (c .loop-test .lef
 pub put-answers-spec : {M : Type 1} → statement M
 put-answers-spec =
     tie.close
-    (tie.spec
-    Inv-loop
-    μ-loop
-    loop-holds
-    mul-at
-    mul-put-answer
-    sub-put-answer
-    part-put-answer-start
-    part-put-answer-end
-    put-answer-requires
-    add-l
-    loop-less
-    loop-again
-    same-length
-    returns)
+    (tie.spec Inv-loop μ-loop loop-holds mul-at (λ c. search needs) sub-put-answer part-put-answer-start (λ c. search needs) put-answer-requires
+    add-l loop-less loop-again same-length returns)

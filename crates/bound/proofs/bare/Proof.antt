@@ -16,9 +16,6 @@ mark-seconds-requires c κs =
       long = c .before .before .before .mark .ensures .long;
     }
 
-same-length : tie.Need-same-length
-same-length c = search needs
-
 returns : tie.Need-returns
 returns c =
     bared-by-both (c .before .before .before .before .before .before .before .before .before .before .before .args .fragile .now)
@@ -26,4 +23,5 @@ returns c =
     (c .before .before .before .before .before .before .mark .ensures) (c .before .before .mark-seconds .ensures)
 
 pub bare-spec : {M : Type 1} → statement M
-bare-spec = tie.close (tie.spec mark-requires mark-seconds-requires same-length returns)
+bare-spec =
+    tie.close (tie.spec mark-requires mark-seconds-requires (λ c. search needs) returns)

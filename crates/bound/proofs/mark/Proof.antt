@@ -15,36 +15,21 @@ abbrev μ-loop : tie.MeasureT-loop
 loop-holds : tie.Need-loop-holds Inv-loop μ-loop
 loop-holds c = marking-none _ _ _ _ _ (c .before .before .pre)
 
-entry-requires : tie.Need-entry-requires Inv-loop μ-loop
-entry-requires c κs = search needs
-
 cast-w : tie.Need-cast-w Inv-loop μ-loop
 cast-w c = omega (arith, c .entry .ok)
 
-add-i : tie.Need-add-i Inv-loop μ-loop
-add-i c = search needs
-
 slice-write-marks : tie.Need-slice-write-marks Inv-loop μ-loop
 slice-write-marks c = omega (arith, c .if1 .taken, c .before .before .before .loop .inv .long)
-
-loop-less : tie.Need-loop-less Inv-loop μ-loop
-loop-less c = search needs
 
 loop-again : tie.Need-loop-again Inv-loop μ-loop
 loop-again c =
     marking-more _ _ _ _ _ (c .before .before .before .before .before .before .pre) _ _ (c .before .before .before .loop .inv) _
     (c .before .before .loop-test .taken) (c .if1 .taken) (c .before .entry .ensures)
 
-loop-less-2 : tie.Need-loop-less-2 Inv-loop μ-loop
-loop-less-2 c = search needs
-
 loop-again-2 : tie.Need-loop-again-2 Inv-loop μ-loop
 loop-again-2 c =
     marking-past _ _ _ _ _ (c .before .before .before .before .before .before .pre) _ _ (c .before .before .before .loop .inv) _
     (c .before .before .loop-test .taken) (c .if1 .left) (c .before .entry .ensures)
-
-same-length : tie.Need-same-length Inv-loop μ-loop
-same-length c = search needs
 
 returns : tie.Need-returns Inv-loop μ-loop
 returns c = marking-done _ _ _ _ _ (c .before .before .before .before .pre) _ _ (c .before .loop .inv) (c .loop-test .left)
@@ -52,17 +37,5 @@ returns c = marking-done _ _ _ _ _ (c .before .before .before .before .pre) _ _ 
 pub mark-spec : {M : Type 1} → statement M
 mark-spec =
     tie.close
-    (tie.spec
-    Inv-loop
-    μ-loop
-    loop-holds
-    entry-requires
-    cast-w
-    add-i
-    slice-write-marks
-    loop-less
-    loop-again
-    loop-less-2
-    loop-again-2
-    same-length
-    returns)
+    (tie.spec Inv-loop μ-loop loop-holds (λ c κs. search needs) cast-w (λ c. search needs) slice-write-marks (λ c. search needs) loop-again
+    (λ c. search needs) loop-again-2 (λ c. search needs) returns)

@@ -16,35 +16,14 @@ abbrev μ-loop : tie.MeasureT-loop
 loop-holds : tie.Need-loop-holds Inv-loop μ-loop
 loop-holds c = baring-none _ _ _ (c .pre .long)
 
-mul-there : tie.Need-mul-there Inv-loop μ-loop
-mul-there c = search needs
-
-add-there : tie.Need-add-there Inv-loop μ-loop
-add-there c = search needs
-
-shared-slice-read-there : tie.Need-shared-slice-read-there Inv-loop μ-loop
-shared-slice-read-there c = search needs
-
-add-m : tie.Need-add-m Inv-loop μ-loop
-add-m c = search needs
-
 slice-write-marks : tie.Need-slice-write-marks Inv-loop μ-loop
 slice-write-marks c = omega (arith, c .before .before .before .loop .inv .long, c .before .before .loop-test .taken)
-
-loop-less : tie.Need-loop-less Inv-loop μ-loop
-loop-less c = search needs
 
 loop-again : tie.Need-loop-again Inv-loop μ-loop
 loop-again c = baring-mark _ _ _ _ _ (c .before .before .before .loop .inv) (c .before .before .loop-test .taken) (c .if1 .taken)
 
-loop-less-2 : tie.Need-loop-less-2 Inv-loop μ-loop
-loop-less-2 c = search needs
-
 loop-again-2 : tie.Need-loop-again-2 Inv-loop μ-loop
 loop-again-2 c = baring-skip _ _ _ _ _ (c .before .before .before .loop .inv) (c .if1 .left)
-
-same-length : tie.Need-same-length Inv-loop μ-loop
-same-length c = search needs
 
 returns : tie.Need-returns Inv-loop μ-loop
 returns c = baring-done _ _ _ _ _ (c .before .loop .inv) (c .loop-test .left)
@@ -52,18 +31,5 @@ returns c = baring-done _ _ _ _ _ (c .before .loop .inv) (c .loop-test .left)
 pub mark-seconds-spec : {M : Type 1} → statement M
 mark-seconds-spec =
     tie.close
-    (tie.spec
-    Inv-loop
-    μ-loop
-    loop-holds
-    mul-there
-    add-there
-    shared-slice-read-there
-    add-m
-    slice-write-marks
-    loop-less
-    loop-again
-    loop-less-2
-    loop-again-2
-    same-length
-    returns)
+    (tie.spec Inv-loop μ-loop loop-holds (λ c. search needs) (λ c. search needs) (λ c. search needs) (λ c. search needs) slice-write-marks
+    (λ c. search needs) loop-again (λ c. search needs) loop-again-2 (λ c. search needs) returns)

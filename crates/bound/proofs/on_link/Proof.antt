@@ -18,15 +18,6 @@ abbrev μ-loop : tie.MeasureT-loop
 loop-holds : tie.Need-loop-holds Inv-loop μ-loop
 loop-holds c = summing-none _ _
 
-mul-sum : tie.Need-mul-sum Inv-loop μ-loop
-mul-sum c = search needs
-
-add-sum : tie.Need-add-sum Inv-loop μ-loop
-add-sum c = search needs
-
-shared-slice-read-sum : tie.Need-shared-slice-read-sum Inv-loop μ-loop
-shared-slice-read-sum c = search needs
-
 cast-sum : tie.Need-cast-sum Inv-loop μ-loop
 cast-sum c = omega (arith, c .shared-slice-known .given (c .before .before .before .args .e * mostMessages + c .before .before .loop .m))
 
@@ -39,12 +30,6 @@ add-sum-2 c =
           (c .before .before .before .args .e * mostMessages + c .before .before .loop .m),
     )
 
-add-m : tie.Need-add-m Inv-loop μ-loop
-add-m c = search needs
-
-loop-less : tie.Need-loop-less Inv-loop μ-loop
-loop-less c = search needs
-
 loop-again : tie.Need-loop-again Inv-loop μ-loop
 loop-again c =
     summing-more _ _ _ _ (c .before .before .loop .inv) _ (c .before .loop-test .taken)
@@ -56,16 +41,5 @@ returns c = summing-done _ _ _ _ (c .before .loop .inv) (c .loop-test .left)
 pub on-link-spec : {M : Type 1} → statement M
 on-link-spec =
     tie.close
-    (tie.spec
-    Inv-loop
-    μ-loop
-    loop-holds
-    mul-sum
-    add-sum
-    shared-slice-read-sum
-    cast-sum
-    add-sum-2
-    add-m
-    loop-less
-    loop-again
-    returns)
+    (tie.spec Inv-loop μ-loop loop-holds (λ c. search needs) (λ c. search needs) (λ c. search needs) cast-sum add-sum-2 (λ c. search needs)
+    (λ c. search needs) loop-again returns)

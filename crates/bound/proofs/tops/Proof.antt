@@ -15,32 +15,11 @@ abbrev μ-loop : tie.MeasureT-loop
 loop-holds : tie.Need-loop-holds Inv-loop μ-loop
 loop-holds c = topping-none _ _ (c .pre .0) (c .pre .1)
 
-sub-k : tie.Need-sub-k Inv-loop μ-loop
-sub-k c = search needs
-
-mul-w : tie.Need-mul-w Inv-loop μ-loop
-mul-w c = search needs
-
-shared-slice-read-w : tie.Need-shared-slice-read-w Inv-loop μ-loop
-shared-slice-read-w c = search needs
-
-mul-most : tie.Need-mul-most Inv-loop μ-loop
-mul-most c = search needs
-
-slice-write-most : tie.Need-slice-write-most Inv-loop μ-loop
-slice-write-most c = search needs
-
-loop-less : tie.Need-loop-less Inv-loop μ-loop
-loop-less c = search needs
-
 loop-again : tie.Need-loop-again Inv-loop μ-loop
 loop-again c =
     ⊎-elim (λ w. topping-more _ _ _ _ (c .before .before .before .loop .inv) _ (c .before .before .loop-test .taken) (omega arith)
     (omega arith)) (λ w. topping-more _ _ _ _ (c .before .before .before .loop .inv) _ (c .before .before .loop-test .taken) (omega arith)
     (omega arith)) (c .if1 .came)
-
-same-length : tie.Need-same-length Inv-loop μ-loop
-same-length c = search needs
 
 returns : tie.Need-returns Inv-loop μ-loop
 returns c = topping-done _ _ _ _ (c .before .loop .inv) (c .loop-test .left)
@@ -48,16 +27,5 @@ returns c = topping-done _ _ _ _ (c .before .loop .inv) (c .loop-test .left)
 pub tops-spec : {M : Type 1} → statement M
 tops-spec =
     tie.close
-    (tie.spec
-    Inv-loop
-    μ-loop
-    loop-holds
-    sub-k
-    mul-w
-    shared-slice-read-w
-    mul-most
-    slice-write-most
-    loop-less
-    loop-again
-    same-length
-    returns)
+    (tie.spec Inv-loop μ-loop loop-holds (λ c. search needs) (λ c. search needs) (λ c. search needs) (λ c. search needs) (λ c. search needs)
+    (λ c. search needs) loop-again (λ c. search needs) returns)

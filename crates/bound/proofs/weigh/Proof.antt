@@ -5,18 +5,12 @@ use borrow.Author.Needs.{needs}
 use Rattle.bound.proofs.weigh.Statement.{statement}
 use Rattle.bound.proofs.weigh.Tie as tie
 
-slice-aggregate-weigh-from : tie.Need-slice-aggregate-weigh-from
-slice-aggregate-weigh-from c = search needs
-
 weigh-from-requires : tie.Need-weigh-from-requires
 weigh-from-requires c κs = (c .before .before .before .before .pre, no-links _ refl)
-
-same-length : tie.Need-same-length
-same-length c = search needs
 
 returns : tie.Need-returns
 returns c = weighs-alone _ _ _ refl (c .before .before .weigh-from .ensures)
 
 pub weigh-spec : {M : Type 1} → statement M
 weigh-spec =
-    tie.close (tie.spec slice-aggregate-weigh-from weigh-from-requires same-length returns)
+    tie.close (tie.spec (λ c. search needs) weigh-from-requires (λ c. search needs) returns)

@@ -5,21 +5,12 @@ use Rattle.bound.proofs.Weights.{no-links, weighs-strips}
 use Rattle.bound.proofs.weigh_strips.Statement.{statement}
 use Rattle.bound.proofs.weigh_strips.Tie as tie
 
-slice-aggregate-on-links : tie.Need-slice-aggregate-on-links
-slice-aggregate-on-links c = search needs
-
 on-links-requires : tie.Need-on-links-requires
 on-links-requires c κs = (c .before .before .before .before .pre .0, no-links _ refl)
-
-slice-aggregate-weigh-from : tie.Need-slice-aggregate-weigh-from
-slice-aggregate-weigh-from c = search needs
 
 weigh-from-requires : tie.Need-weigh-from-requires
 weigh-from-requires c κs =
     (c .before .before .before .before .before .before .before .before .pre .1, c .before .before .before .on-links .ensures .numbers)
-
-same-length : tie.Need-same-length
-same-length c = search needs
 
 returns : tie.Need-returns
 returns c =
@@ -27,11 +18,4 @@ returns c =
 
 pub weigh-strips-spec : {M : Type 1} → statement M
 weigh-strips-spec =
-    tie.close
-    (tie.spec
-    slice-aggregate-on-links
-    on-links-requires
-    slice-aggregate-weigh-from
-    weigh-from-requires
-    same-length
-    returns)
+    tie.close (tie.spec (λ c. search needs) on-links-requires (λ c. search needs) weigh-from-requires (λ c. search needs) returns)

@@ -87,46 +87,104 @@ in-slot-slice-aggregate-next-link : (t : ℕ) → in-slot-lts.Need-slice-aggrega
 in-slot-slice-aggregate-next-link t c = search needs
 
 in-slot-next-link-requires : (t : ℕ) → in-slot-lts.Need-next-link-requires (in-calls t) (in-slot-at t) in-slot.Post in-inv in-less
-in-slot-next-link-requires t c κs = (may-try _ _ _ _ _ _ _ _ _ _ _ _ _ _ (c .before .before .before .before .before .before .before .before .pre .1), c .before .before .before .before .before .before .before .before .pre .1 .link, c .before .before .before .before .before .before .before .before .pre .1 .ready .play .few)
+in-slot-next-link-requires t c κs = (
+  may-try _ _ _ _ _ _ _ _ _ _ _ _ _ _ (c .before .before .before .before .before .before .before .before .pre .1),
+  c .before .before .before .before .before .before .before .before .pre .1 .link,
+  c .before .before .before .before .before .before .before .before .pre .1 .ready .play .few,
+)
 
 in-slot-loop-holds : (t : ℕ) → in-slot-lts.Need-loop-holds (in-calls t) (in-slot-at t) in-slot.Post in-inv in-less
-in-slot-loop-holds t c = looks-first _ _ _ _ _ _ _ _ _ _ _ _ _ _ (c .before .before .before .before .before .before .before .before .before .pre .1) _ (c .next-link .ensures)
+in-slot-loop-holds t c =
+    looks-first _ _ _ _ _ _ _ _ _ _ _ _ _ _ (c .before .before .before .before .before .before .before .before .before .pre .1) _
+    (c .next-link .ensures)
 
 in-slot-pick-requires : (t : ℕ) → in-slot-lts.Need-pick-requires (in-calls t) (in-slot-at t) in-slot.Post in-inv in-less
-in-slot-pick-requires t c κs = omega (arith, c .loop-test .taken, c .before .before .before .before .before .before .before .before .before .before .before .pre .1 .early, c .before .before .before .before .before .before .before .before .before .before .before .pre .1 .few, c .before .before .before .before .before .before .before .before .before .before .before .pre .1 .some, c .before .before .before .before .before .before .before .before .before .before .before .pre .1 .ready .play .few, c .before .before .before .before .before .before .before .before .before .before .before .pre .1 .ready .play .short)
+in-slot-pick-requires t c κs =
+    omega (
+      arith,
+      c .loop-test .taken,
+      c .before .before .before .before .before .before .before .before .before .before .before .pre .1 .early,
+      c .before .before .before .before .before .before .before .before .before .before .before .pre .1 .few,
+      c .before .before .before .before .before .before .before .before .before .before .before .pre .1 .some,
+      c .before .before .before .before .before .before .before .before .before .before .before .pre .1 .ready .play .few,
+      c .before .before .before .before .before .before .before .before .before .before .before .pre .1 .ready .play .short,
+    )
 
 in-slot-hit-requires : (t : ℕ) → in-slot-lts.Need-hit-requires (in-calls t) (in-slot-at t) in-slot.Post in-inv in-less
-in-slot-hit-requires t c κs = may-hit _ _ _ _ _ _ _ _ _ _ _ _ _ _ (c .before .before .before .before .before .before .before .before .before .before .before .before .pre .1) _ (c .before .loop-test .taken)
+in-slot-hit-requires t c κs =
+    may-hit _ _ _ _ _ _ _ _ _ _ _ _ _ _
+    (c .before .before .before .before .before .before .before .before .before .before .before .before .pre .1) _ (c .before .loop-test .taken)
 
 in-slot-sub-level : (t : ℕ) → in-slot-lts.Need-sub-level (in-calls t) (in-slot-at t) in-slot.Post in-inv in-less
-in-slot-sub-level t c = omega (arith, c .before .before .before .before .before .before .before .before .before .before .before .before .before .pre .1 .some)
+in-slot-sub-level t c =
+    omega (arith, c .before .before .before .before .before .before .before .before .before .before .before .before .before .pre .1 .some)
 
 in-slot-level-requires : (t : ℕ) → in-slot-lts.Need-level-requires (in-calls t) (in-slot-at t) in-slot.Post in-inv in-less
-in-slot-level-requires t c κs = (omega (arith, c .before .before .before .before .before .before .before .before .before .before .before .before .before .pre .0, c .before .before .before .before .before .before .before .before .before .before .before .before .before .pre .1 .some), may-go-on _ _ _ _ _ _ _ _ _ _ _ _ _ _ (c .before .before .before .before .before .before .before .before .before .before .before .before .before .pre .1) _ _ _ (c .before .before .before .loop .inv) (c .before .before .loop-test .taken) (c .before .pick .ensures) (c .hit .ensures))
+in-slot-level-requires t c κs = (
+  omega (
+    arith,
+    c .before .before .before .before .before .before .before .before .before .before .before .before .before .pre .0,
+    c .before .before .before .before .before .before .before .before .before .before .before .before .before .pre .1 .some,
+  ),
+  may-go-on _ _ _ _ _ _ _ _ _ _ _ _ _ _
+      (c .before .before .before .before .before .before .before .before .before .before .before .before .before .pre .1) _ _ _
+      (c .before .before .before .loop .inv) (c .before .before .loop-test .taken) (c .before .pick .ensures) (c .hit .ensures),
+)
 
 in-slot-returns : (t : ℕ) → in-slot-lts.Need-returns (in-calls t) (in-slot-at t) in-slot.Post in-inv in-less
-in-slot-returns t c = looks-some _ _ _ _ _ _ _ _ _ _ _ _ _ _ (c .before .before .before .before .before .before .before .before .before .before .before .before .before .before .before .pre .1) _ _ _ (c .before .before .before .before .before .loop .inv) (c .before .before .before .before .loop-test .taken) (c .before .before .before .pick .ensures) (c .before .level .ensures) (c .if1 .taken)
+in-slot-returns t c =
+    looks-some _ _ _ _ _ _ _ _ _ _ _ _ _ _
+    (c .before .before .before .before .before .before .before .before .before .before .before .before .before .before .before .pre .1) _ _ _
+    (c .before .before .before .before .before .loop .inv) (c .before .before .before .before .loop-test .taken)
+    (c .before .before .before .pick .ensures) (c .before .level .ensures) (c .if1 .taken)
 
-in-slot-slice-aggregate-next-link-2 : (t : ℕ) → in-slot-lts.Need-slice-aggregate-next-link-2 (in-calls t) (in-slot-at t) in-slot.Post in-inv in-less
-in-slot-slice-aggregate-next-link-2 t c = sym (c .before .before .before .before .before .before .before .before .before .before .before .before .before .before .before .before .pre .1 .holding .size)
+in-slot-slice-aggregate-next-link-2 : (t : ℕ) →
+    in-slot-lts.Need-slice-aggregate-next-link-2 (in-calls t) (in-slot-at t) in-slot.Post in-inv in-less
+in-slot-slice-aggregate-next-link-2 t c =
+    sym (c .before .before .before .before .before .before .before .before .before .before .before .before .before .before .before .before .pre
+    .1 .holding .size)
 
 in-slot-add-next-link : (t : ℕ) → in-slot-lts.Need-add-next-link (in-calls t) (in-slot-at t) in-slot.Post in-inv in-less
-in-slot-add-next-link t c = omega (arith, c .before .before .before .before .before .loop-test .taken, c .before .before .before .before .before .before .before .before .before .before .before .before .before .before .before .before .pre .1 .ready .play .few)
+in-slot-add-next-link t c =
+    omega (
+      arith,
+      c .before .before .before .before .before .loop-test .taken,
+      c .before .before .before .before .before .before .before .before .before .before .before .before .before .before .before .before .pre .1
+          .ready .play .few,
+    )
 
 in-slot-next-link-requires-2 : (t : ℕ) → in-slot-lts.Need-next-link-requires-2 (in-calls t) (in-slot-at t) in-slot.Post in-inv in-less
-in-slot-next-link-requires-2 t c κs = (may-try _ _ _ _ _ _ _ _ _ _ _ _ _ _ (c .before .before .before .before .before .before .before .before .before .before .before .before .before .before .before .before .pre .1), omega (arith, c .before .before .before .before .before .loop-test .taken), c .before .before .before .before .before .before .before .before .before .before .before .before .before .before .before .before .pre .1 .ready .play .few)
+in-slot-next-link-requires-2 t c κs = (
+  may-try _ _ _ _ _ _ _ _ _ _ _ _ _ _
+      (c .before .before .before .before .before .before .before .before .before .before .before .before .before .before .before .before .pre .1),
+  omega (arith, c .before .before .before .before .before .loop-test .taken),
+  c .before .before .before .before .before .before .before .before .before .before .before .before .before .before .before .before .pre .1
+      .ready .play .few,
+)
 
 in-slot-loop-less : (t : ℕ) → in-slot-lts.Need-loop-less (in-calls t) (in-slot-at t) in-slot.Post in-inv in-less
-in-slot-loop-less t c = omega (arith, c .before .before .before .before .before .before .loop-test .taken, goes-up _ _ _ _ (c .next-link2 .ensures))
+in-slot-loop-less t c =
+    omega (arith, c .before .before .before .before .before .before .loop-test .taken, goes-up _ _ _ _ (c .next-link2 .ensures))
 
 in-slot-loop-again : (t : ℕ) → in-slot-lts.Need-loop-again (in-calls t) (in-slot-at t) in-slot.Post in-inv in-less
-in-slot-loop-again t c = looks-on _ _ _ _ _ _ _ _ _ _ _ _ _ _ (c .before .before .before .before .before .before .before .before .before .before .before .before .before .before .before .before .before .pre .1) _ _ _ (c .before .before .before .before .before .before .before .loop .inv) (c .before .before .before .before .before .before .loop-test .taken) (c .before .before .before .before .before .pick .ensures) (c .before .before .before .level .ensures) _ (c .before .before .if1 .left) (c .next-link2 .ensures)
+in-slot-loop-again t c =
+    looks-on _ _ _ _ _ _ _ _ _ _ _ _ _ _
+    (c .before .before .before .before .before .before .before .before .before .before .before .before .before .before .before .before .before
+    .pre .1) _ _ _ (c .before .before .before .before .before .before .before .loop .inv)
+    (c .before .before .before .before .before .before .loop-test .taken) (c .before .before .before .before .before .pick .ensures)
+    (c .before .before .before .level .ensures) _ (c .before .before .if1 .left) (c .next-link2 .ensures)
 
 in-slot-nothing-requires : (t : ℕ) → in-slot-lts.Need-nothing-requires (in-calls t) (in-slot-at t) in-slot.Post in-inv in-less
 in-slot-nothing-requires t c κs = search needs
 
 in-slot-returns-2 : (t : ℕ) → in-slot-lts.Need-returns-2 (in-calls t) (in-slot-at t) in-slot.Post in-inv in-less
-in-slot-returns-2 t c = look-done _ _ _ _ _ _ _ _ _ (c .before .before .before .before .before .before .before .before .before .before .before .before .pre .1 .ready) (c .before .before .before .before .before .before .before .before .before .before .before .before .pre .1 .holding) (c .before .before .before .before .before .before .before .before .before .before .before .before .pre .1 .some) (c .before .before .before .before .before .before .before .before .before .before .before .before .pre .1 .few) _ _ _ _ (c .before .before .loop .inv) _ (c .before .loop-test .left) (c .nothing .ensures)
+in-slot-returns-2 t c =
+    look-done _ _ _ _ _ _ _ _ _
+    (c .before .before .before .before .before .before .before .before .before .before .before .before .pre .1 .ready)
+    (c .before .before .before .before .before .before .before .before .before .before .before .before .pre .1 .holding)
+    (c .before .before .before .before .before .before .before .before .before .before .before .before .pre .1 .some)
+    (c .before .before .before .before .before .before .before .before .before .before .before .before .pre .1 .few) _ _ _ _
+    (c .before .before .loop .inv) _ (c .before .loop-test .left) (c .nothing .ensures)
 
 abbrev level-inv : level-lts.InvT-loop
 level-inv row table fragile seconds weights most a hits p n down qs₀ s₀ e₀ qs s e = Climbing row a p n s e qs
@@ -141,52 +199,114 @@ level-returns : (t : ℕ) → level-lts.Need-returns (level-calls t) (level-at t
 level-returns t c = rw (c .before .if1 .taken) (c .play-out .ensures)
 
 level-loop-holds : (t : ℕ) → level-lts.Need-loop-holds (level-calls t) (level-at t) level.Post level-inv level-less
-level-loop-holds t c = climbs-first _ _ _ _ _ _ _ _ _ _ _ (c .before .before .before .before .before .before .before .before .pre .1) (c .before .if1 .left)
+level-loop-holds t c =
+    climbs-first _ _ _ _ _ _ _ _ _ _ _ (c .before .before .before .before .before .before .before .before .pre .1) (c .before .if1 .left)
 
 level-at-risk-requires : (t : ℕ) → level-lts.Need-at-risk-requires (level-calls t) (level-at t) level.Post level-inv level-less
-level-at-risk-requires t c κs = may-count _ _ _ _ _ _ _ _ _ _ _ (c .before .before .before .before .before .before .before .before .before .before .before .pre .1) (c .before .before .before .before .if1 .left) _ _ _ (c .before .before .loop .inv)
+level-at-risk-requires t c κs =
+    may-count _ _ _ _ _ _ _ _ _ _ _ (c .before .before .before .before .before .before .before .before .before .before .before .pre .1)
+    (c .before .before .before .before .if1 .left) _ _ _ (c .before .before .loop .inv)
 
 level-sub-losses : (t : ℕ) → level-lts.Need-sub-losses (level-calls t) (level-at t) level.Post level-inv level-less
 level-sub-losses t c = omega (arith, c .before .before .before .before .before .if1 .left)
 
 level-losses-requires : (t : ℕ) → level-lts.Need-losses-requires (level-calls t) (level-at t) level.Post level-inv level-less
-level-losses-requires t c κs = may-weigh-rest _ _ _ _ _ _ _ _ _ _ _ (c .before .before .before .before .before .before .before .before .before .before .before .before .pre .1) (c .before .before .before .before .before .if1 .left) _ _ _ (c .before .before .before .loop .inv) _ (c .before .if2 .taken) (c .at-risk .ensures)
+level-losses-requires t c κs =
+    may-weigh-rest _ _ _ _ _ _ _ _ _ _ _
+    (c .before .before .before .before .before .before .before .before .before .before .before .before .pre .1)
+    (c .before .before .before .before .before .if1 .left) _ _ _ (c .before .before .before .loop .inv) _ (c .before .if2 .taken)
+    (c .at-risk .ensures)
 
-level-slice-aggregate-next-link : (t : ℕ) → level-lts.Need-slice-aggregate-next-link (level-calls t) (level-at t) level.Post level-inv level-less
-level-slice-aggregate-next-link t c = sym (c .before .before .before .before .before .before .before .before .before .before .before .before .before .before .pre .1 .holding .size)
+level-slice-aggregate-next-link : (t : ℕ) →
+    level-lts.Need-slice-aggregate-next-link (level-calls t) (level-at t) level.Post level-inv level-less
+level-slice-aggregate-next-link t c =
+    sym (c .before .before .before .before .before .before .before .before .before .before .before .before .before .before .pre .1 .holding
+    .size)
 
 level-next-link-requires : (t : ℕ) → level-lts.Need-next-link-requires (level-calls t) (level-at t) level.Post level-inv level-less
-level-next-link-requires t c κs = (may-try-all _ _ _ _ _ _ _ _ _ _ _ (c .before .before .before .before .before .before .before .before .before .before .before .before .before .before .pre .1) (c .before .before .before .before .before .before .before .if1 .left) _ _ _ (c .before .before .before .before .before .loop .inv) _ _ (c .before .before .at-risk .ensures) (c .before .losses .ensures) (c .before .before .before .if2 .taken), omega arith, c .before .before .before .before .before .before .before .before .before .before .before .before .before .before .pre .1 .ready .play .few)
+level-next-link-requires t c κs = (
+  may-try-all _ _ _ _ _ _ _ _ _ _ _
+      (c .before .before .before .before .before .before .before .before .before .before .before .before .before .before .pre .1)
+      (c .before .before .before .before .before .before .before .if1 .left) _ _ _ (c .before .before .before .before .before .loop .inv) _ _
+      (c .before .before .at-risk .ensures) (c .before .losses .ensures) (c .before .before .before .if2 .taken),
+  omega arith,
+  c .before .before .before .before .before .before .before .before .before .before .before .before .before .before .pre .1 .ready .play .few,
+)
 
 level-nothing-requires : (t : ℕ) → level-lts.Need-nothing-requires (level-calls t) (level-at t) level.Post level-inv level-less
 level-nothing-requires t c κs = search needs
 
 level-returns-2 : (t : ℕ) → level-lts.Need-returns-2 (level-calls t) (level-at t) level.Post level-inv level-less
-level-returns-2 t c = climbs-stop _ _ _ _ _ _ _ _ _ _ _ (c .before .before .before .before .before .before .before .before .before .before .before .before .before .before .before .before .before .before .pre .1) (c .before .before .before .before .before .before .before .before .before .before .before .if1 .left) _ _ _ (c .before .before .before .before .before .before .before .before .before .loop .inv) _ _ (c .before .before .before .before .before .before .at-risk .ensures) (c .before .before .before .before .before .losses .ensures) _ _ (c .nothing .ensures) (c .before .before .before .next-link .ensures) (c .before .if3 .taken)
+level-returns-2 t c =
+    climbs-stop _ _ _ _ _ _ _ _ _ _ _
+    (c .before .before .before .before .before .before .before .before .before .before .before .before .before .before .before .before .before
+    .before .pre .1) (c .before .before .before .before .before .before .before .before .before .before .before .if1 .left) _ _ _
+    (c .before .before .before .before .before .before .before .before .before .loop .inv) _ _
+    (c .before .before .before .before .before .before .at-risk .ensures) (c .before .before .before .before .before .losses .ensures) _ _
+    (c .nothing .ensures) (c .before .before .before .next-link .ensures) (c .before .if3 .taken)
 
 level-in-slot-requires : (t : ℕ) → level-lts.Need-in-slot-requires (level-calls t) (level-at t) level.Post level-inv level-less
-level-in-slot-requires t c κs = (omega (arith, c .before .before .before .before .before .before .before .before .before .before .before .before .before .before .before .before .before .pre .0), may-look _ _ _ _ _ _ _ _ _ _ _ (c .before .before .before .before .before .before .before .before .before .before .before .before .before .before .before .before .before .pre .1) (c .before .before .before .before .before .before .before .before .before .before .if1 .left) _ _ _ (c .before .before .before .before .before .before .before .before .loop .inv) _ _ (c .before .before .before .before .before .at-risk .ensures) (c .before .before .before .before .losses .ensures) (c .before .before .before .before .before .before .if2 .taken))
+level-in-slot-requires t c κs = (
+  omega (
+    arith,
+    c .before .before .before .before .before .before .before .before .before .before .before .before .before .before .before
+        .before .before .pre .0,
+  ),
+  may-look _ _ _ _ _ _ _ _ _ _ _
+      (c .before .before .before .before .before .before .before .before .before .before .before .before .before .before .before .before .before
+      .pre .1) (c .before .before .before .before .before .before .before .before .before .before .if1 .left) _ _ _
+      (c .before .before .before .before .before .before .before .before .loop .inv) _ _
+      (c .before .before .before .before .before .at-risk .ensures) (c .before .before .before .before .losses .ensures)
+      (c .before .before .before .before .before .before .if2 .taken),
+)
 
 level-returns-3 : (t : ℕ) → level-lts.Need-returns-3 (level-calls t) (level-at t) level.Post level-inv level-less
-level-returns-3 t c = climbs-some _ _ _ _ _ _ _ _ _ _ _ (c .before .before .before .before .before .before .before .before .before .before .before .before .before .before .before .before .before .before .before .pre .1) (c .before .before .before .before .before .before .before .before .before .before .before .before .if1 .left) _ _ _ (c .before .before .before .before .before .before .before .before .before .before .loop .inv) _ (c .before .in-slot .ensures) (c .if4 .taken)
+level-returns-3 t c =
+    climbs-some _ _ _ _ _ _ _ _ _ _ _
+    (c .before .before .before .before .before .before .before .before .before .before .before .before .before .before .before .before .before
+    .before .before .pre .1) (c .before .before .before .before .before .before .before .before .before .before .before .before .if1 .left) _ _
+    _ (c .before .before .before .before .before .before .before .before .before .before .loop .inv) _ (c .before .in-slot .ensures)
+    (c .if4 .taken)
 
 level-advance-requires : (t : ℕ) → level-lts.Need-advance-requires (level-calls t) (level-at t) level.Post level-inv level-less
-level-advance-requires t c κs = may-advance _ _ _ _ _ _ _ _ _ _ _ (c .before .before .before .before .before .before .before .before .before .before .before .before .before .before .before .before .before .before .before .pre .1) (c .before .before .before .before .before .before .before .before .before .before .before .before .if1 .left) _ _ _ (c .before .before .before .before .before .before .before .before .before .before .loop .inv) (c .before .before .before .before .before .before .before .before .if2 .taken)
+level-advance-requires t c κs =
+    may-advance _ _ _ _ _ _ _ _ _ _ _
+    (c .before .before .before .before .before .before .before .before .before .before .before .before .before .before .before .before .before
+    .before .before .pre .1) (c .before .before .before .before .before .before .before .before .before .before .before .before .if1 .left) _ _
+    _ (c .before .before .before .before .before .before .before .before .before .before .loop .inv)
+    (c .before .before .before .before .before .before .before .before .if2 .taken)
 
 level-add-s : (t : ℕ) → level-lts.Need-add-s (level-calls t) (level-at t) level.Post level-inv level-less
-level-add-s t c = omega (arith, c .before .before .before .before .before .before .before .before .before .if2 .taken, c .before .before .before .before .before .before .before .before .before .before .before .before .before .before .before .before .before .before .before .before .pre .1 .ready .play .short)
+level-add-s t c =
+    omega (
+      arith,
+      c .before .before .before .before .before .before .before .before .before .if2 .taken,
+      c .before .before .before .before .before .before .before .before .before .before .before .before .before .before .before .before .before
+          .before .before .before .pre .1 .ready .play .short,
+    )
 
 level-loop-less : (t : ℕ) → level-lts.Need-loop-less (level-calls t) (level-at t) level.Post level-inv level-less
 level-loop-less t c = omega (arith, c .before .before .before .before .before .before .before .before .before .if2 .taken)
 
 level-loop-again : (t : ℕ) → level-lts.Need-loop-again (level-calls t) (level-at t) level.Post level-inv level-less
-level-loop-again t c = climbs-on _ _ _ _ _ _ _ _ _ _ _ (c .before .before .before .before .before .before .before .before .before .before .before .before .before .before .before .before .before .before .before .before .pre .1) (c .before .before .before .before .before .before .before .before .before .before .before .before .before .if1 .left) _ _ _ (c .before .before .before .before .before .before .before .before .before .before .before .loop .inv) _ (c .before .before .in-slot .ensures) _ (c .before .if4 .left) (c .before .before .before .before .before .before .before .before .before .if2 .taken) (c .advance .ensures)
+level-loop-again t c =
+    climbs-on _ _ _ _ _ _ _ _ _ _ _
+    (c .before .before .before .before .before .before .before .before .before .before .before .before .before .before .before .before .before
+    .before .before .before .pre .1)
+    (c .before .before .before .before .before .before .before .before .before .before .before .before .before .if1 .left) _ _ _
+    (c .before .before .before .before .before .before .before .before .before .before .before .loop .inv) _
+    (c .before .before .in-slot .ensures) _ (c .before .if4 .left)
+    (c .before .before .before .before .before .before .before .before .before .if2 .taken) (c .advance .ensures)
 
 level-nothing-requires-2 : (t : ℕ) → level-lts.Need-nothing-requires-2 (level-calls t) (level-at t) level.Post level-inv level-less
 level-nothing-requires-2 t c κs = search needs
 
 level-returns-4 : (t : ℕ) → level-lts.Need-returns-4 (level-calls t) (level-at t) level.Post level-inv level-less
-level-returns-4 t c = climbs-over _ _ _ _ _ _ _ _ _ _ _ (c .before .before .before .before .before .before .before .before .before .before .before .before .pre .1) (c .before .before .before .before .before .if1 .left) _ _ _ (c .before .before .before .loop .inv) _ (c .nothing2 .ensures) (c .before .if2 .left)
+level-returns-4 t c =
+    climbs-over _ _ _ _ _ _ _ _ _ _ _
+    (c .before .before .before .before .before .before .before .before .before .before .before .before .pre .1)
+    (c .before .before .before .before .before .if1 .left) _ _ _ (c .before .before .before .loop .inv) _ (c .nothing2 .ensures)
+    (c .before .if2 .left)
 
 pub +in-slot+level-spec : {M : Type 1} → statement M
 +in-slot+level-spec = close μ-in-slot μ-level (λ t. in-slot-lts.spec (in-calls t)

@@ -7,14 +7,8 @@ use borrow.Author.Needs.{needs}
 use Rattle.search.proofs.advance.Statement.{statement}
 use Rattle.search.proofs.advance.Tie as tie
 
-time-requires : tie.Need-time-requires
-time-requires c κs = search needs
-
 begins-requires : tie.Need-begins-requires
 begins-requires c κs = omega (arith, c .before .before .before .before .pre .early, ap (λ (t : Time). t .0) (c .time .ensures))
-
-slice-aggregate-after : tie.Need-slice-aggregate-after
-slice-aggregate-after c = search needs
 
 after-requires : tie.Need-after-requires
 after-requires c κs =
@@ -31,4 +25,4 @@ returns c =
 
 pub advance-spec : {M : Type 1} → statement M
 advance-spec =
-    tie.close (tie.spec time-requires begins-requires slice-aggregate-after after-requires returns)
+    tie.close (tie.spec (λ c κs. search needs) begins-requires (λ c. search needs) after-requires returns)

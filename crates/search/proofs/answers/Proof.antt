@@ -7,4 +7,5 @@ returns : tie.Need-returns
 returns c = refl
 
 pub answers-spec : {M : Type 1} → statement M
-answers-spec = tie.close (tie.spec returns)
+answers-spec =
+    tie.close (tie.spec returns)

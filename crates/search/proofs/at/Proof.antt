@@ -5,12 +5,6 @@ use borrow.Author.Needs.{needs}
 use Rattle.search.proofs.at.Statement.{statement}
 use Rattle.search.proofs.at.Tie as tie
 
-mul-result : tie.Need-mul-result
-mul-result c = search needs
-
-shared-slice-read-result : tie.Need-shared-slice-read-result
-shared-slice-read-result c = search needs
-
 cast-result : tie.Need-cast-result
 cast-result c = omega (arith, c .shared-slice-known .given (c .before .args .k))
 
@@ -18,4 +12,5 @@ returns : tie.Need-returns
 returns c = (refl, omega (arith, c .shared-slice-known .given (c .before .args .k)))
 
 pub at-spec : {M : Type 1} → statement M
-at-spec = tie.close (tie.spec mul-result shared-slice-read-result cast-result returns)
+at-spec =
+    tie.close (tie.spec (λ c. search needs) (λ c. search needs) cast-result returns)

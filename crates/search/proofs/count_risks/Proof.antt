@@ -14,32 +14,8 @@ abbrev μ-loop : tie.MeasureT-loop
 loop-holds : tie.Need-loop-holds Inv-loop μ-loop
 loop-holds c = counting-none _ _ _ (search needs)
 
-mul-p : tie.Need-mul-p Inv-loop μ-loop
-mul-p c = search needs
-
-array-copy-out-p : tie.Need-array-copy-out-p Inv-loop μ-loop
-array-copy-out-p c = search needs
-
-add-with-message : tie.Need-add-with-message Inv-loop μ-loop
-add-with-message c = search needs
-
-element-copy-out-with-message : tie.Need-element-copy-out-with-message Inv-loop μ-loop
-element-copy-out-with-message c = search needs
-
-add-with-message-2 : tie.Need-add-with-message-2 Inv-loop μ-loop
-add-with-message-2 c = search needs
-
-element-copy-out-with-message-2 : tie.Need-element-copy-out-with-message-2 Inv-loop μ-loop
-element-copy-out-with-message-2 c = search needs
-
 with-message-requires : tie.Need-with-message-requires Inv-loop μ-loop
 with-message-requires c κs = may-count-on _ _ _ _ _ (c .before .before .before .before .loop .inv) (search needs)
-
-add-m : tie.Need-add-m Inv-loop μ-loop
-add-m c = search needs
-
-loop-less : tie.Need-loop-less Inv-loop μ-loop
-loop-less c = search needs
 
 loop-again : tie.Need-loop-again Inv-loop μ-loop
 loop-again c =
@@ -52,18 +28,5 @@ returns c = counting-done _ _ _ _ _ (c .before .loop .inv) (c .loop-test .left)
 pub count-risks-spec : {M : Type 1} → statement M
 count-risks-spec =
     tie.close
-    (tie.spec
-    Inv-loop
-    μ-loop
-    loop-holds
-    mul-p
-    array-copy-out-p
-    add-with-message
-    element-copy-out-with-message
-    add-with-message-2
-    element-copy-out-with-message-2
-    with-message-requires
-    add-m
-    loop-less
-    loop-again
-    returns)
+    (tie.spec Inv-loop μ-loop loop-holds (λ c. search needs) (λ c. search needs) (λ c. search needs) (λ c. search needs) (λ c. search needs)
+    (λ c. search needs) with-message-requires (λ c. search needs) (λ c. search needs) loop-again returns)

@@ -13,29 +13,29 @@ Inv-loop row table fragile seconds weights most a ps low k p hits n₀ n = Hunti
 abbrev μ-loop : tie.MeasureT-loop
 μ-loop row table fragile seconds weights most a ps low k p hits n₀ n = k + 1 - n
 
-no-pair-requires : tie.Need-no-pair-requires Inv-loop μ-loop
-no-pair-requires c κs = search needs
-
-no-hits-requires : tie.Need-no-hits-requires Inv-loop μ-loop
-no-hits-requires c κs = search needs
-
 loop-holds : tie.Need-loop-holds Inv-loop μ-loop
 loop-holds c = hunt-first _ _ _ _ _ _ _ _ _ _ (c .before .before .before .before .before .before .before .before .pre)
 
 level-requires : tie.Need-level-requires Inv-loop μ-loop
-level-requires c κs = may-seek _ _ _ _ _ _ _ _ _ _ (c .before .before .before .before .before .before .before .before .before .before .pre) _ _ _ (c .loop-test .taken) (c .before .before .before .no-pair .ensures) (c .before .before .no-hits .ensures)
+level-requires c κs =
+    may-seek _ _ _ _ _ _ _ _ _ _ (c .before .before .before .before .before .before .before .before .before .before .pre) _ _ _
+    (c .loop-test .taken) (c .before .before .before .no-pair .ensures) (c .before .before .no-hits .ensures)
 
 returns : tie.Need-returns Inv-loop μ-loop
 returns c =
-    hunt-some _ _ _ _ _ _ _ _ _ _ (c .before .before .before .before .before .before .before .before .before .before .before .before .before .pre) _
+    hunt-some _ _ _ _ _ _ _ _ _ _
+    (c .before .before .before .before .before .before .before .before .before .before .before .before .before .pre) _
     (c .before .before .before .before .loop .inv) _ _
     (c .before .before .before .before .before .before .no-pair .ensures) (c .before .before .level .ensures) _
     (c .before .before .before .loop-test .taken) (c .before .if1 .taken) refl refl refl refl
 
 add-n : tie.Need-add-n Inv-loop μ-loop
 add-n c =
-    omega
-    (arith, c .before .before .loop-test .taken, c .before .before .before .before .before .before .before .before .before .before .before .before .pre .few)
+    omega (
+      arith,
+      c .before .before .loop-test .taken,
+      c .before .before .before .before .before .before .before .before .before .before .before .before .pre .few,
+    )
 
 loop-less : tie.Need-loop-less Inv-loop μ-loop
 loop-less c = omega (arith, c .before .before .loop-test .taken)
@@ -46,9 +46,6 @@ loop-again c =
     (c .before .before .before .loop .inv) _ _ (c .before .before .before .before .before .no-pair .ensures)
     (c .before .level .ensures) (c .before .before .loop-test .taken) (c .if1 .left)
 
-no-list-requires : tie.Need-no-list-requires Inv-loop μ-loop
-no-list-requires c κs = search needs
-
 returns-2 : tie.Need-returns-2 Inv-loop μ-loop
 returns-2 c =
     hunt-over _ _ _ _ _ _ _ _ _ _ (c .before .before .before .before .before .before .before .before .before .before .before .pre) _ _
@@ -57,16 +54,5 @@ returns-2 c =
 pub first-list-spec : {M : Type 1} → statement M
 first-list-spec =
     tie.close
-    (tie.spec
-    Inv-loop
-    μ-loop
-    no-pair-requires
-    no-hits-requires
-    loop-holds
-    level-requires
-    returns
-    add-n
-    loop-less
-    loop-again
-    no-list-requires
-    returns-2)
+    (tie.spec Inv-loop μ-loop (λ c κs. search needs) (λ c κs. search needs) loop-holds level-requires returns add-n loop-less loop-again
+    (λ c κs. search needs) returns-2)

@@ -17,4 +17,5 @@ returns c =
     (refl, omega (arith, most, c .pre .2))
 
 pub heaviest-spec : {M : Type 1} → statement M
-heaviest-spec = tie.close (tie.spec mul-result add-result returns)
+heaviest-spec =
+    tie.close (tie.spec mul-result add-result returns)

@@ -10,11 +10,9 @@ returns c = light-touches _ _ (c .if1 .taken)
 returns-2 : tie.Need-returns-2
 returns-2 c = light-strips _ _ (c .before .before .if1 .left) (c .if2 .taken)
 
-mul-result : tie.Need-mul-result
-mul-result c = search needs
-
 returns-3 : tie.Need-returns-3
 returns-3 c = light-both _ _ (c .before .before .before .if1 .left) (c .before .if2 .left)
 
 pub hopeless-spec : {M : Type 1} → statement M
-hopeless-spec = tie.close (tie.spec returns returns-2 mul-result returns-3)
+hopeless-spec =
+    tie.close (tie.spec returns returns-2 (λ c. search needs) returns-3)

@@ -7,24 +7,16 @@ use borrow.Author.Needs.{needs}
 use Rattle.search.proofs.may.Statement.{statement}
 use Rattle.search.proofs.may.Tie as tie
 
-is-down-requires : tie.Need-is-down-requires
-is-down-requires c κs = search needs
-
 returns : tie.Need-returns
 returns c = rw (sym (c .before .is-down .ensures) ∙ c .if1 .taken)
-
-weighed-requires : tie.Need-weighed-requires
-weighed-requires c κs = search needs
-
-hopeless-requires : tie.Need-hopeless-requires
-hopeless-requires c κs = search needs
 
 returns-2 : tie.Need-returns-2
 returns-2 c =
     rw (sym (c .before .before .before .is-down .ensures) ∙ c .before .before .if1 .left)
     (ap not
-    (c .hopeless .ensures ∙ ap (λ (loss : Loss). tooLight (c .before .before .before .before .before .before .before .args .need) loss) (c .before .weighed .ensures)))
+    (c .hopeless .ensures ∙ ap (λ (loss : Loss). tooLight (c .before .before .before .before .before .before .before .args .need) loss)
+    (c .before .weighed .ensures)))
 
 pub may-spec : {M : Type 1} → statement M
 may-spec =
-    tie.close (tie.spec is-down-requires returns weighed-requires hopeless-requires returns-2)
+    tie.close (tie.spec (λ c κs. search needs) returns (λ c κs. search needs) (λ c κs. search needs) returns-2)

@@ -18,28 +18,21 @@ abbrev μ-loop : tie.MeasureT-loop
 loop-holds : tie.Need-loop-holds Inv-loop μ-loop
 loop-holds c = (c .before .before .before .pre .1, refl)
 
-may-requires : tie.Need-may-requires Inv-loop μ-loop
-may-requires c κs = search needs
-
 returns : tie.Need-returns Inv-loop μ-loop
 returns c =
     sym (seek-found _ _ _ (c .before .before .loop-test .taken) (sym (c .before .may .ensures) ∙ c .if1 .taken)) ∙
     c .before .before .before .loop .inv .1
 
-add-i : tie.Need-add-i Inv-loop μ-loop
-add-i c = search needs
-
-loop-less : tie.Need-loop-less Inv-loop μ-loop
-loop-less c = search needs
-
 loop-again : tie.Need-loop-again Inv-loop μ-loop
-loop-again c =
-    (search needs, sym (seek-next _ _ _ (c .before .before .loop-test .taken) (sym (c .before .may .ensures) ∙ c .if1 .left)) ∙ c .before .before .before .loop .inv .1)
+loop-again c = (
+  search needs,
+  sym (seek-next _ _ _ (c .before .before .loop-test .taken) (sym (c .before .may .ensures) ∙ c .if1 .left)) ∙
+      c .before .before .before .loop .inv .1,
+)
 
 returns-2 : tie.Need-returns-2 Inv-loop μ-loop
 returns-2 c = sym (seek-done _ _ _ (c .loop-test .left)) ∙ c .before .loop .inv .1
 
 pub next-link-spec : {M : Type 1} → statement M
 next-link-spec =
-    tie.close
-    (tie.spec Inv-loop μ-loop loop-holds may-requires returns add-i loop-less loop-again returns-2)
+    tie.close (tie.spec Inv-loop μ-loop loop-holds (λ c κs. search needs) returns (λ c. search needs) (λ c. search needs) loop-again returns-2)

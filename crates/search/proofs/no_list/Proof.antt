@@ -7,4 +7,5 @@ returns : tie.Need-returns
 returns c = refl
 
 pub no-list-spec : {M : Type 1} → statement M
-no-list-spec = tie.close (tie.spec returns)
+no-list-spec =
+    tie.close (tie.spec returns)

@@ -10,4 +10,5 @@ returns-2 : tie.Need-returns-2
 returns-2 c = mark-some _ (c .if1 .left)
 
 pub one-if-spec : {M : Type 1} → statement M
-one-if-spec = tie.close (tie.spec returns returns-2)
+one-if-spec =
+    tie.close (tie.spec returns returns-2)

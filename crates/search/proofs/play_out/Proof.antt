@@ -19,12 +19,6 @@ loop-holds c = ends-first _ _ _ _ _ _ (c .before .before .pre)
 at-risk-requires : tie.Need-at-risk-requires Inv-loop μ-loop
 at-risk-requires c κs = ends-count _ _ _ _ _ _ (c .before .before .before .before .before .pre) _ _ (c .before .before .loop .inv)
 
-too-few-requires : tie.Need-too-few-requires Inv-loop μ-loop
-too-few-requires c κs = search needs
-
-nothing-requires : tie.Need-nothing-requires Inv-loop μ-loop
-nothing-requires c κs = search needs
-
 returns : tie.Need-returns Inv-loop μ-loop
 returns c =
     ends-light _ _ _ _ _ _ (c .before .before .before .before .before .before .before .before .before .pre) _ _
@@ -38,8 +32,11 @@ advance-requires c κs =
 
 add-i : tie.Need-add-i Inv-loop μ-loop
 add-i c =
-    omega
-    (arith, c .before .before .before .before .if1 .taken, c .before .before .before .before .before .before .before .before .before .pre .play .short)
+    omega (
+      arith,
+      c .before .before .before .before .if1 .taken,
+      c .before .before .before .before .before .before .before .before .before .pre .play .short,
+    )
 
 loop-less : tie.Need-loop-less Inv-loop μ-loop
 loop-less c = omega (arith, c .before .before .before .before .if1 .taken)
@@ -52,43 +49,26 @@ loop-again c =
 count-home-requires : tie.Need-count-home-requires Inv-loop μ-loop
 count-home-requires c κs = c .before .before .loop .inv .stand .next .stand .few
 
-answers-requires : tie.Need-answers-requires Inv-loop μ-loop
-answers-requires c κs = search needs
-
-nothing-requires-2 : tie.Need-nothing-requires-2 Inv-loop μ-loop
-nothing-requires-2 c κs = search needs
-
 returns-2 : tie.Need-returns-2 Inv-loop μ-loop
 returns-2 c =
     settled-some _ _ _ _ (c .before .before .before .before .before .before .before .before .before .pre .play)
     (c .before .before .before .before .before .before .before .before .before .pre .holding) _ _ _ refl refl refl
-    (ends-over _ _ _ _ _ _ (c .before .before .before .before .before .before .before .before .before .pre) _ _ (c .before .before .before .before .before .before .loop .inv) _ (c .before .before .before .before .if1 .left) (c .before .before .before .count-home .ensures _))
+    (ends-over _ _ _ _ _ _ (c .before .before .before .before .before .before .before .before .before .pre) _ _
+    (c .before .before .before .before .before .before .loop .inv) _ (c .before .before .before .before .if1 .left)
+    (c .before .before .before .count-home .ensures _))
     (c .before .before .answers .ensures) (c .before .if3 .taken)
 
 returns-3 : tie.Need-returns-3 Inv-loop μ-loop
 returns-3 c =
     settled-none _ _ _ _ (c .before .before .before .before .before .before .before .before .before .pre .play)
     (c .before .before .before .before .before .before .before .before .before .pre .holding) _ _ _ (c .nothing2 .ensures)
-    (ends-over _ _ _ _ _ _ (c .before .before .before .before .before .before .before .before .before .pre) _ _ (c .before .before .before .before .before .before .loop .inv) _ (c .before .before .before .before .if1 .left) (c .before .before .before .count-home .ensures _))
+    (ends-over _ _ _ _ _ _ (c .before .before .before .before .before .before .before .before .before .pre) _ _
+    (c .before .before .before .before .before .before .loop .inv) _ (c .before .before .before .before .if1 .left)
+    (c .before .before .before .count-home .ensures _))
     (c .before .before .answers .ensures) (c .before .if3 .left)
 
 pub play-out-spec : {M : Type 1} → statement M
 play-out-spec =
     tie.close
-    (tie.spec
-    Inv-loop
-    μ-loop
-    loop-holds
-    at-risk-requires
-    too-few-requires
-    nothing-requires
-    returns
-    advance-requires
-    add-i
-    loop-less
-    loop-again
-    count-home-requires
-    answers-requires
-    nothing-requires-2
-    returns-2
-    returns-3)
+    (tie.spec Inv-loop μ-loop loop-holds at-risk-requires (λ c κs. search needs) (λ c κs. search needs) returns advance-requires add-i loop-less
+    loop-again count-home-requires (λ c κs. search needs) (λ c κs. search needs) returns-2 returns-3)

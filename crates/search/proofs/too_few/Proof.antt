@@ -7,4 +7,5 @@ returns : tie.Need-returns
 returns c = refl
 
 pub too-few-spec : {M : Type 1} → statement M
-too-few-spec = tie.close (tie.spec returns)
+too-few-spec =
+    tie.close (tie.spec returns)

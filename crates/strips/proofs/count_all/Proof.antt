@@ -11,12 +11,6 @@ Inv-loop row counts₀ ways₀ n at₀ m₀ counts ways at m = CountingAll row n
 abbrev μ-loop : tie.MeasureT-loop
 μ-loop row counts₀ ways₀ n at₀ m₀ counts ways at m = n - m
 
-messages-requires : tie.Need-messages-requires Inv-loop μ-loop
-messages-requires c κs = search needs
-
-message-index-requires : tie.Need-message-index-requires Inv-loop μ-loop
-message-index-requires c κs = search needs
-
 loop-holds : tie.Need-loop-holds Inv-loop μ-loop
 loop-holds c =
     counting-all-none _ (c .before .before .before .before .before .pre .good) _ (c .before .messages .ensures .is) _ _ _
@@ -28,12 +22,6 @@ count-message-requires c κs =
     (c .before .before .before .before .before .messages .ensures .is) _ _ _ _ (c .before .before .before .loop .inv)
     (c .before .before .loop-test .taken)
 
-add-m : tie.Need-add-m Inv-loop μ-loop
-add-m c = search needs
-
-loop-less : tie.Need-loop-less Inv-loop μ-loop
-loop-less c = search needs
-
 loop-again : tie.Need-loop-again Inv-loop μ-loop
 loop-again c =
     let l = c .before .before .before .before .before .before .before .before in
@@ -41,12 +29,6 @@ loop-again c =
     counting-all-more _ (s .pre .good) _ (l .before .before .messages .ensures .is) _ _ _ _ (l .loop .inv)
     (c .before .before .before .before .before .before .before .loop-test .taken) _ _ _
     (c .before .before .before .before .count-message .ensures)
-
-same-length : tie.Need-same-length Inv-loop μ-loop
-same-length c = search needs
-
-same-length-2 : tie.Need-same-length-2 Inv-loop μ-loop
-same-length-2 c = search needs
 
 returns : tie.Need-returns Inv-loop μ-loop
 returns c =
@@ -56,16 +38,5 @@ returns c =
 pub count-all-spec : {M : Type 1} → statement M
 count-all-spec =
     tie.close
-    (tie.spec
-    Inv-loop
-    μ-loop
-    messages-requires
-    message-index-requires
-    loop-holds
-    count-message-requires
-    add-m
-    loop-less
-    loop-again
-    same-length
-    same-length-2
-    returns)
+    (tie.spec Inv-loop μ-loop (λ c κs. search needs) (λ c κs. search needs) loop-holds count-message-requires (λ c. search needs)
+    (λ c. search needs) loop-again (λ c. search needs) (λ c. search needs) returns)

@@ -12,12 +12,6 @@ Inv-loop row i m counts₀ ways₀ n at₀ k₀ counts ways at k = Counting row 
 abbrev μ-loop : tie.MeasureT-loop
 μ-loop row i m counts₀ ways₀ n at₀ k₀ counts ways at k = n - k
 
-place-count-requires : tie.Need-place-count-requires Inv-loop μ-loop
-place-count-requires c κs = search needs
-
-add-at : tie.Need-add-at Inv-loop μ-loop
-add-at c = search needs
-
 loop-holds : tie.Need-loop-holds Inv-loop μ-loop
 loop-holds c = counting-none _ _ _ _ _ (c .before .before .before .before .pre) _ (c .place-count .ensures .is)
 
@@ -51,12 +45,6 @@ mark-path-requires c κs = (
   c .before .before .before .before .before .before .before .loop .inv .bytes,
 )
 
-add-k : tie.Need-add-k Inv-loop μ-loop
-add-k c = search needs
-
-loop-less : tie.Need-loop-less Inv-loop μ-loop
-loop-less c = search needs
-
 loop-again : tie.Need-loop-again Inv-loop μ-loop
 loop-again c =
     counting-more _ _ _ _ _
@@ -66,12 +54,6 @@ loop-again c =
     (c .before .before .before .before .before .before .before .before .place-at .ensures) _ _
     (c .before .before .before .before .before .before .count .ensures) (c .before .before .mark-path .ensures)
 
-same-length : tie.Need-same-length Inv-loop μ-loop
-same-length c = search needs
-
-same-length-2 : tie.Need-same-length-2 Inv-loop μ-loop
-same-length-2 c = search needs
-
 returns : tie.Need-returns Inv-loop μ-loop
 returns c =
     counting-done _ _ _ _ _ (c .before .before .before .before .before .before .pre) _ _ _ _ _ (c .before .loop .inv) (c .loop-test .left)
@@ -80,18 +62,5 @@ returns c =
 pub count-message-spec : {M : Type 1} → statement M
 count-message-spec =
     tie.close
-    (tie.spec
-    Inv-loop
-    μ-loop
-    place-count-requires
-    add-at
-    loop-holds
-    place-at-requires
-    count-requires
-    mark-path-requires
-    add-k
-    loop-less
-    loop-again
-    same-length
-    same-length-2
-    returns)
+    (tie.spec Inv-loop μ-loop (λ c κs. search needs) (λ c. search needs) loop-holds place-at-requires count-requires mark-path-requires
+    (λ c. search needs) (λ c. search needs) loop-again (λ c. search needs) (λ c. search needs) returns)

@@ -18,15 +18,6 @@ loop-holds c = delaying-none _ _ _ _
 add-sum : tie.Need-add-sum Inv-loop μ-loop
 add-sum c = omega (arith, c .before .loop .inv .few, c .before .loop .inv .most, c .before .before .before .before .pre .1)
 
-add-number : tie.Need-add-number Inv-loop μ-loop
-add-number c = search needs
-
-number-requires : tie.Need-number-requires Inv-loop μ-loop
-number-requires c κs = search needs
-
-number-requires-2 : tie.Need-number-requires-2 Inv-loop μ-loop
-number-requires-2 c κs = search needs
-
 add-sum-2 : tie.Need-add-sum-2 Inv-loop μ-loop
 add-sum-2 c =
     omega (
@@ -36,12 +27,6 @@ add-sum-2 c =
       c .number2 .ensures .small,
       c .before .before .before .before .before .before .pre .1,
     )
-
-add-k : tie.Need-add-k Inv-loop μ-loop
-add-k c = search needs
-
-loop-less : tie.Need-loop-less Inv-loop μ-loop
-loop-less c = search needs
 
 loop-again : tie.Need-loop-again Inv-loop μ-loop
 loop-again c =
@@ -54,16 +39,5 @@ returns c = delaying-done _ _ _ _ _ _ (c .before .loop .inv) (c .loop-test .left
 pub delay-spec : {M : Type 1} → statement M
 delay-spec =
     tie.close
-    (tie.spec
-    Inv-loop
-    μ-loop
-    loop-holds
-    add-sum
-    add-number
-    number-requires
-    number-requires-2
-    add-sum-2
-    add-k
-    loop-less
-    loop-again
-    returns)
+    (tie.spec Inv-loop μ-loop loop-holds add-sum (λ c. search needs) (λ c κs. search needs) (λ c κs. search needs) add-sum-2 (λ c. search needs)
+    (λ c. search needs) loop-again returns)

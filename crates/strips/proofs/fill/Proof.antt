@@ -7,12 +7,6 @@ use Rattle.strips.proofs.Puts.{zeros}
 use Rattle.strips.proofs.fill.Statement.{statement}
 use Rattle.strips.proofs.fill.Tie as tie
 
-slice-aggregate-count-all : tie.Need-slice-aggregate-count-all
-slice-aggregate-count-all c = search needs
-
-slice-aggregate-count-all-2 : tie.Need-slice-aggregate-count-all-2
-slice-aggregate-count-all-2 c = search needs
-
 count-all-requires : tie.Need-count-all-requires
 count-all-requires c κs =
     record {
@@ -26,12 +20,6 @@ count-all-requires c κs =
 clear-requires : tie.Need-clear-requires
 clear-requires c κs = c .before .before .before .before .before .before .before .before .before .pre .long
 
-slice-aggregate-strip-all : tie.Need-slice-aggregate-strip-all
-slice-aggregate-strip-all c = search needs
-
-slice-aggregate-strip-all-2 : tie.Need-slice-aggregate-strip-all-2
-slice-aggregate-strip-all-2 c = search needs
-
 strip-all-requires : tie.Need-strip-all-requires
 strip-all-requires c κs =
     let d = c .before .before .before .before .before .before .before .before .before .before in
@@ -44,26 +32,11 @@ strip-all-requires c κs =
       none = s .pre .none;
     }
 
-same-length : tie.Need-same-length
-same-length c = search needs
-
-same-length-2 : tie.Need-same-length-2
-same-length-2 c = search needs
-
 returns : tie.Need-returns
 returns c = c .before .before .before .before .before .strip-all .ensures
 
 pub fill-spec : {M : Type 1} → statement M
 fill-spec =
     tie.close
-    (tie.spec
-    slice-aggregate-count-all
-    slice-aggregate-count-all-2
-    count-all-requires
-    clear-requires
-    slice-aggregate-strip-all
-    slice-aggregate-strip-all-2
-    strip-all-requires
-    same-length
-    same-length-2
-    returns)
+    (tie.spec (λ c. search needs) (λ c. search needs) count-all-requires clear-requires (λ c. search needs) (λ c. search needs)
+    strip-all-requires (λ c. search needs) (λ c. search needs) returns)

@@ -16,15 +16,6 @@ abbrev μ-loop : tie.MeasureT-loop
 loop-holds : tie.Need-loop-holds Inv-loop μ-loop
 loop-holds c = marking-none _ _ _ _ _ (c .before .before .pre .3)
 
-add-number : tie.Need-add-number Inv-loop μ-loop
-add-number c = search needs
-
-number-requires : tie.Need-number-requires Inv-loop μ-loop
-number-requires c κs = search needs
-
-add-k : tie.Need-add-k Inv-loop μ-loop
-add-k c = search needs
-
 mul-ways : tie.Need-mul-ways Inv-loop μ-loop
 mul-ways c = omega (arith, c .if1 .taken)
 
@@ -35,24 +26,15 @@ slice-write-ways : tie.Need-slice-write-ways Inv-loop μ-loop
 slice-write-ways c =
     omega (arith, c .if1 .taken, c .before .before .before .before .before .before .pre .2, c .before .before .before .loop .inv .long)
 
-loop-less : tie.Need-loop-less Inv-loop μ-loop
-loop-less c = search needs
-
 loop-again : tie.Need-loop-again Inv-loop μ-loop
 loop-again c =
     marking-more _ _ _ _ _ _ _ (c .before .before .before .loop .inv) _ _ (c .before .before .loop-test .taken) (c .before .number .ensures .is)
     (put-one _ _ _ (c .if1 .taken) (c .before .before .before .before .before .before .pre .2) (c .before .before .before .loop .inv .long))
 
-loop-less-2 : tie.Need-loop-less-2 Inv-loop μ-loop
-loop-less-2 c = search needs
-
 loop-again-2 : tie.Need-loop-again-2 Inv-loop μ-loop
 loop-again-2 c =
     marking-more _ _ _ _ _ _ _ (c .before .before .before .loop .inv) _ _ (c .before .before .loop-test .taken) (c .before .number .ensures .is)
     (put-past _ _ _ (c .if1 .left) (c .before .before .before .loop .inv .long))
-
-same-length : tie.Need-same-length Inv-loop μ-loop
-same-length c = search needs
 
 returns : tie.Need-returns Inv-loop μ-loop
 returns c = marking-done _ _ _ _ _ _ _ (c .before .loop .inv) (c .loop-test .left)
@@ -60,19 +42,5 @@ returns c = marking-done _ _ _ _ _ _ _ (c .before .loop .inv) (c .loop-test .lef
 pub mark-path-spec : {M : Type 1} → statement M
 mark-path-spec =
     tie.close
-    (tie.spec
-    Inv-loop
-    μ-loop
-    loop-holds
-    add-number
-    number-requires
-    add-k
-    mul-ways
-    add-ways
-    slice-write-ways
-    loop-less
-    loop-again
-    loop-less-2
-    loop-again-2
-    same-length
-    returns)
+    (tie.spec Inv-loop μ-loop loop-holds (λ c. search needs) (λ c κs. search needs) (λ c. search needs) mul-ways add-ways slice-write-ways
+    (λ c. search needs) loop-again (λ c. search needs) loop-again-2 (λ c. search needs) returns)

@@ -18,20 +18,8 @@ abbrev μ-loop : tie.MeasureT-loop
 loop-holds : tie.Need-loop-holds Inv-loop μ-loop
 loop-holds c = passing-none _ _ (c .pre .2)
 
-mul-counts : tie.Need-mul-counts Inv-loop μ-loop
-mul-counts c = search needs
-
 slice-read-counts : tie.Need-slice-read-counts Inv-loop μ-loop
 slice-read-counts c = omega (arith, c .before .before .loop .inv .long, c .before .loop-test .taken)
-
-mul-counts-2 : tie.Need-mul-counts-2 Inv-loop μ-loop
-mul-counts-2 c = search needs
-
-add-counts : tie.Need-add-counts Inv-loop μ-loop
-add-counts c = search needs
-
-shared-slice-read-counts : tie.Need-shared-slice-read-counts Inv-loop μ-loop
-shared-slice-read-counts c = search needs
 
 cast-counts : tie.Need-cast-counts Inv-loop μ-loop
 cast-counts c =
@@ -45,25 +33,13 @@ add-counts-2 c =
           (c .before .before .loop-test .taken),
     )
 
-mul-counts-3 : tie.Need-mul-counts-3 Inv-loop μ-loop
-mul-counts-3 c = search needs
-
 slice-write-counts : tie.Need-slice-write-counts Inv-loop μ-loop
 slice-write-counts c = omega (arith, c .before .before .before .loop .inv .long, c .before .before .loop-test .taken)
-
-add-e : tie.Need-add-e Inv-loop μ-loop
-add-e c = search needs
-
-loop-less : tie.Need-loop-less Inv-loop μ-loop
-loop-less c = search needs
 
 loop-again : tie.Need-loop-again Inv-loop μ-loop
 loop-again c =
     passing-more _ _ (c .before .before .before .before .pre .2) _ _ (c .before .before .before .loop .inv) _
     (c .before .before .loop-test .taken) refl
-
-same-length : tie.Need-same-length Inv-loop μ-loop
-same-length c = search needs
 
 returns : tie.Need-returns Inv-loop μ-loop
 returns c = passing-done _ _ (c .before .before .pre .2) _ _ (c .before .loop .inv) (c .loop-test .left)
@@ -71,21 +47,6 @@ returns c = passing-done _ _ (c .before .before .pre .2) _ _ (c .before .loop .i
 pub pass-spec : {M : Type 1} → statement M
 pass-spec =
     tie.close
-    (tie.spec
-    Inv-loop
-    μ-loop
-    loop-holds
-    mul-counts
-    slice-read-counts
-    mul-counts-2
-    add-counts
-    shared-slice-read-counts
-    cast-counts
-    add-counts-2
-    mul-counts-3
-    slice-write-counts
-    add-e
-    loop-less
-    loop-again
-    same-length
+    (tie.spec Inv-loop μ-loop loop-holds (λ c. search needs) slice-read-counts (λ c. search needs) (λ c. search needs) (λ c. search needs)
+    cast-counts add-counts-2 (λ c. search needs) slice-write-counts (λ c. search needs) (λ c. search needs) loop-again (λ c. search needs)
     returns)

@@ -7,9 +7,6 @@ use Rattle.strips.proofs.Costs.{robust-none, robust-some}
 use Rattle.strips.proofs.robust.Statement.{statement}
 use Rattle.strips.proofs.robust.Tie as tie
 
-place-at-requires : tie.Need-place-at-requires
-place-at-requires c κs = search needs
-
 returns : tie.Need-returns
 returns c = sym (robust-none _ _ _ _ _ (c .before .before .place-at .ensures) (c .if1 .taken))
 
@@ -28,9 +25,6 @@ add-used c =
       second-few _ _ _ (c .before .before .before .before .place-at .ensures),
     )
 
-timeout-requires : tie.Need-timeout-requires
-timeout-requires c κs = search needs
-
 returns-2 : tie.Need-returns-2
 returns-2 c =
     rw (c .timeout .ensures .is)
@@ -39,11 +33,4 @@ returns-2 c =
 
 pub robust-spec : {M : Type 1} → statement M
 robust-spec =
-    tie.close
-    (tie.spec
-    place-at-requires
-    returns
-    delay-requires
-    add-used
-    timeout-requires
-    returns-2)
+    tie.close (tie.spec (λ c κs. search needs) returns delay-requires add-used (λ c κs. search needs) returns-2)

@@ -11,12 +11,6 @@ Inv-loop row ways counts₀ fragile₀ seconds₀ n at₀ m₀ counts fragile se
 abbrev μ-loop : tie.MeasureT-loop
 μ-loop row ways counts₀ fragile₀ seconds₀ n at₀ m₀ counts fragile seconds at m = n - m
 
-messages-requires : tie.Need-messages-requires Inv-loop μ-loop
-messages-requires c κs = search needs
-
-message-index-requires : tie.Need-message-index-requires Inv-loop μ-loop
-message-index-requires c κs = search needs
-
 loop-holds : tie.Need-loop-holds Inv-loop μ-loop
 loop-holds c =
     stripping-all-none _ _ (c .before .before .before .before .before .before .before .pre .good)
@@ -44,12 +38,6 @@ pass-requires c κs =
           (c .before .before .before .before .before .before .before .before .before .loop-test .taken),
     )
 
-add-m : tie.Need-add-m Inv-loop μ-loop
-add-m c = search needs
-
-loop-less : tie.Need-loop-less Inv-loop μ-loop
-loop-less c = search needs
-
 loop-again : tie.Need-loop-again Inv-loop μ-loop
 loop-again c =
     let l = c .before .before .before .before .before .before .before .before .before .before .before .before .before in
@@ -57,15 +45,6 @@ loop-again c =
     stripping-all-more _ _ (s .pre .good) (s .pre .counted .bytes) _ (l .before .before .messages .ensures .is) _ _ _ _ _ (l .loop .inv)
     (c .before .before .before .before .before .before .before .before .before .before .before .before .loop-test .taken) _ _ _ _
     (c .before .before .before .before .before .before .before .before .strip-message .ensures) (c .before .before .pass .ensures)
-
-same-length : tie.Need-same-length Inv-loop μ-loop
-same-length c = search needs
-
-same-length-2 : tie.Need-same-length-2 Inv-loop μ-loop
-same-length-2 c = search needs
-
-same-length-3 : tie.Need-same-length-3 Inv-loop μ-loop
-same-length-3 c = search needs
 
 returns : tie.Need-returns Inv-loop μ-loop
 returns c =
@@ -76,18 +55,5 @@ returns c =
 pub strip-all-spec : {M : Type 1} → statement M
 strip-all-spec =
     tie.close
-    (tie.spec
-    Inv-loop
-    μ-loop
-    messages-requires
-    message-index-requires
-    loop-holds
-    strip-message-requires
-    pass-requires
-    add-m
-    loop-less
-    loop-again
-    same-length
-    same-length-2
-    same-length-3
-    returns)
+    (tie.spec Inv-loop μ-loop (λ c κs. search needs) (λ c κs. search needs) loop-holds strip-message-requires pass-requires (λ c. search needs)
+    (λ c. search needs) loop-again (λ c. search needs) (λ c. search needs) (λ c. search needs) returns)

@@ -12,12 +12,6 @@ Inv-loop row i m counts fragile₀ seconds₀ n at₀ k₀ fragile seconds at k 
 abbrev μ-loop : tie.MeasureT-loop
 μ-loop row i m counts fragile₀ seconds₀ n at₀ k₀ fragile seconds at k = n - k
 
-place-count-requires : tie.Need-place-count-requires Inv-loop μ-loop
-place-count-requires c κs = search needs
-
-add-at : tie.Need-add-at Inv-loop μ-loop
-add-at c = search needs
-
 loop-holds : tie.Need-loop-holds Inv-loop μ-loop
 loop-holds c = stripping-none _ _ _ _ _ _ (c .before .before .before .before .before .pre .1) _ (c .place-count .ensures .is)
 
@@ -34,12 +28,6 @@ strip-place-requires c κs = (
       (c .before .before .before .loop .inv) (c .before .before .loop-test .taken),
 )
 
-add-k : tie.Need-add-k Inv-loop μ-loop
-add-k c = search needs
-
-loop-less : tie.Need-loop-less Inv-loop μ-loop
-loop-less c = search needs
-
 loop-again : tie.Need-loop-again Inv-loop μ-loop
 loop-again c =
     stripping-more _ _ _ _ _ _
@@ -47,12 +35,6 @@ loop-again c =
     (c .before .before .before .before .before .before .before .before .loop .inv)
     (c .before .before .before .before .before .before .before .loop-test .taken) _ _ _
     (c .before .before .before .before .strip-place .ensures)
-
-same-length : tie.Need-same-length Inv-loop μ-loop
-same-length c = search needs
-
-same-length-2 : tie.Need-same-length-2 Inv-loop μ-loop
-same-length-2 c = search needs
 
 returns : tie.Need-returns Inv-loop μ-loop
 returns c =
@@ -62,16 +44,5 @@ returns c =
 pub strip-message-spec : {M : Type 1} → statement M
 strip-message-spec =
     tie.close
-    (tie.spec
-    Inv-loop
-    μ-loop
-    place-count-requires
-    add-at
-    loop-holds
-    strip-place-requires
-    add-k
-    loop-less
-    loop-again
-    same-length
-    same-length-2
-    returns)
+    (tie.spec Inv-loop μ-loop (λ c κs. search needs) (λ c. search needs) loop-holds strip-place-requires (λ c. search needs) (λ c. search needs)
+    loop-again (λ c. search needs) (λ c. search needs) returns)

@@ -7,12 +7,6 @@ use Rattle.strips.proofs.Strips.{place-robust, place-fragile}
 use Rattle.strips.proofs.strip_place.Statement.{statement}
 use Rattle.strips.proofs.strip_place.Tie as tie
 
-place-at-requires : tie.Need-place-at-requires
-place-at-requires c κs = search needs
-
-robust-requires : tie.Need-robust-requires
-robust-requires c κs = search needs
-
 mark-path-requires : tie.Need-mark-path-requires
 mark-path-requires c κs = (
   omega (
@@ -24,9 +18,6 @@ mark-path-requires c κs = (
   c .before .before .before .before .before .before .before .before .pre .1 .message,
   c .before .before .before .before .before .before .before .before .pre .1 .bytes,
 )
-
-same-length : tie.Need-same-length
-same-length c = search needs
 
 returns : tie.Need-returns
 returns c =
@@ -43,9 +34,6 @@ cast-w c = omega (arith, c .before .before .before .before .before .before .befo
 mark-requires : tie.Need-mark-requires
 mark-requires c κs = c .before .before .before .before .before .before .before .before .pre .1 .long
 
-same-length-2 : tie.Need-same-length-2
-same-length-2 c = search needs
-
 returns-2 : tie.Need-returns-2
 returns-2 c =
     place-fragile _ _ _ _ _ _ (c .before .before .before .before .before .before .before .before .before .before .before .pre .1) _
@@ -55,14 +43,5 @@ returns-2 c =
 pub strip-place-spec : {M : Type 1} → statement M
 strip-place-spec =
     tie.close
-    (tie.spec
-    place-at-requires
-    robust-requires
-    mark-path-requires
-    same-length
-    returns
-    add-w
-    cast-w
-    mark-requires
-    same-length-2
-    returns-2)
+    (tie.spec (λ c κs. search needs) (λ c κs. search needs) mark-path-requires (λ c. search needs) returns add-w cast-w mark-requires
+    (λ c. search needs) returns-2)
