@@ -66,7 +66,7 @@ module _ (row : List ℕ) (good : GoodRow row) where
           many = omega (arith, lies .messages);
           strip = record { long = f .bytes .long; is = strip-hits (planOf row) time ways many fragile seconds f };
           heavy = w .long;
-          tops = m .long;
+          tops = m .tops .long;
           bounds = λ l need h.
               bounds-of (planOf row) time ways many fragile seconds f table weights tab w l need most (good .keeps) m
               (omega (arith, message-count row));
