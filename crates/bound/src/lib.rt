@@ -193,10 +193,12 @@ fn carried(fronts: &[u16], k: usize) -> u16
     requires { ⌜ (length (now fronts) ≡ frontsSize) × (0 < k) × (k < frontsSize) ⌝ }
     ensures { λ r. ⌜ Carried (now (fronts .entry)) k r ⌝ }
 {
+    let here = fronts[k - 1];
+    let more = fronts[k];
     if k % FRONT == 0 {
-        fronts[k - 1]
+        here
     } else {
-        larger(fronts[k - 1], fronts[k])
+        larger(here, more)
     }
 }
 
