@@ -13,7 +13,6 @@ use Rattle.bound.specs.Touch.{harm, touches}
 use Rattle.bound.specs.Harmed.{hers, isHit, away, harmed, CountsLosses}
 use Rattle.bound.specs.Strips.{strips, bares, bared}
 use Rattle.bound.specs.Bounds.{Fails, weightIn, topIn, frontIn, Enough, BoundOn, Bounds}
-use Rattle.bound.specs.Bounds.{weightIn, topIn, frontIn, Enough, BoundOn, Bounds}
 use Rattle.order.proofs.Parts.{slot-right, link-right, pairs-both}
 use Rattle.bound.proofs.Sums.{sum-le, sum-plus}
 use Rattle.bound.proofs.Touch.{touches-count}

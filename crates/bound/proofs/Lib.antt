@@ -11,4 +11,5 @@ pub mod OneLink
 pub mod Weights
 pub mod Planes
 pub mod Fronting
+pub mod Ending
 pub mod Marking

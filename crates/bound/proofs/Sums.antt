@@ -1,5 +1,5 @@
 -- Sums: term by term, in either order, and of the one test that holds.
-use Prim.Native.Nat.{ℕ, zero, suc, _+_, _≤_, _<_}
+use Prim.Native.Nat.{ℕ, zero, suc, _+_, _-_, _≤_, _<_}
 use native.Mathlib.Omega.{arith}
 use mathlib.Core.Path.{_≡_, refl, ap₂}
 use mathlib.Core.Bool.{Bool, true, false}
@@ -54,6 +54,27 @@ pub sum-ones : (n : ℕ) → sumOf (λ i. 1) n ≡ n
 unfolding sumOf
 sum-ones zero = refl
 sum-ones (suc n) = omega (arith, sum-ones n)
+
+-- no more than n of n tests hold
+pub tests-few : (test : ℕ → Bool) (n : ℕ) → sumOf (λ i. oneIf (test i)) n ≤ n
+unfolding sumOf
+tests-few test zero = omega arith
+tests-few test (suc n) = by (test n) (tests-few test n)
+  where
+    by : (b : Bool) → sumOf (λ i. oneIf (test i)) n ≤ n → sumOf (λ i. oneIf (test i)) n + oneIf b ≤ suc n
+    by true more = omega arith
+    by false more = omega arith
+
+-- and no more than there are numbers from s on before an end, where each test that holds is
+pub tests-before : (test : ℕ → Bool) (end s n : ℕ) → ((i : ℕ) → i < n → test i ≡ true → s + i < end) →
+    sumOf (λ i. oneIf (test i)) n ≤ end - s
+unfolding sumOf
+tests-before test end s zero h = omega arith
+tests-before test end s (suc n) h = by (test n) refl (tests-before test end s n (λ i l. h i (omega arith)))
+  where
+    by : (b : Bool) → test n ≡ b → sumOf (λ i. oneIf (test i)) n ≤ end - s → sumOf (λ i. oneIf (test i)) n + oneIf b ≤ end - s
+    by true t more = omega (arith, tests-few test n, h n (omega arith) t)
+    by false t more = omega arith
 
 pub sum-plus : (f g : ℕ → ℕ) (n : ℕ) → sumOf (λ i. f i + g i) n ≡ sumOf f n + sumOf g n
 unfolding sumOf

@@ -13,7 +13,7 @@ use Rattle.table.specs.Table.{entryAt}
 use Rattle.bound.specs.Sums.{sumOf, oneIf}
 use Rattle.bound.specs.Touch.{touchedIn}
 use Rattle.bound.specs.Weights.{entriesFrom, below, mostOnLink, laterIn, ForLinks, OnLinks, WeighsFrom, Weighs, WeighsStrips, Tops}
-use Rattle.bound.proofs.Sums.{sum-le, sum-same, sum-first, sum-ones}
+use Rattle.bound.proofs.Sums.{sum-same, sum-first, tests-few}
 
 from-more : (table : List ℕ) (s e : ℕ) → s < mostSlots → entriesFrom table s e ≡ oneIf (ltb 0 (entryAt table s e)) + entriesFrom table (s + 1) e
 from-more table s e h =
@@ -45,17 +45,10 @@ below-past table k h =
     let e : mostSlots - k / mostLinks ≡ zero = omega arith in
     ap (λ (n : ℕ). touchedIn (entryAt table) n (k / mostLinks) (k % mostLinks)) e
 
-at-most-one : (b : Bool) → oneIf b ≤ 1
-at-most-one true = omega arith
-at-most-one false = omega arith
-
 pub below-small : (table : List ℕ) (k : ℕ) → below table k ≤ mostSlots
 below-small table k =
     let s = k / mostLinks in
-    let e = k % mostLinks in
-    let less = sum-le (λ i. oneIf (ltb 0 (entryAt table (s + i) e))) (λ i. 1) (mostSlots - s)
-    (λ i l. at-most-one (ltb 0 (entryAt table (s + i) e))) in
-    omega (arith, less, sum-ones (mostSlots - s))
+    omega (arith, tests-few (λ i. ltb 0 (entryAt table (s + i) (k % mostLinks))) (mostSlots - s))
 
 -- what the weight at an index is
 abbrev whole : List ℕ → List ℕ → ℕ → ℕ

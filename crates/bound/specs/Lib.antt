@@ -7,4 +7,5 @@ pub mod Bounds
 pub mod Seconds
 pub mod Weights
 pub mod Fronts
+pub mod Ends
 pub mod Marks

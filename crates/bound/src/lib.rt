@@ -7,19 +7,21 @@ use scope::limits::FRONT;
 use scope::limits::FRONTS;
 use scope::limits::LINKS;
 use scope::limits::MESSAGES;
+use scope::limits::SECONDS;
 use scope::limits::SLOTS;
 use scope::limits::TABLE;
 use scope::limits::TOPS;
 ghost use mathlib.Core.Path.{_≡_};
-ghost use Prim.Native.Nat.{_+_, _-_, _≤_, _<_};
+ghost use Prim.Native.Nat.{_+_, _-_, min, _≤_, _<_};
 ghost use lib.ListN.{length};
-ghost use Rattle.scope.specs.Limits.{mostSlots, mostLinks, tableSize, secondsSize, weightsSize, topsSize, frontsSize};
-ghost use Rattle.bound.specs.Seconds.{secondIn, onLink};
+ghost use Rattle.scope.specs.Limits.{mostSlots, mostLinks, tableSize, secondsSize, weightsSize, topsSize, frontsSize, endsSize};
+ghost use Rattle.bound.specs.Seconds.{onLink};
 ghost use Rattle.bound.specs.Weights.{mostOnLink, laterIn, ForLinks, OnLinks, WeighsFrom, Weighs, WeighsStrips, MayAdd, Added};
 ghost use Rattle.bound.specs.Weights.{MayWeigh, WeighsAll, Tops, TopsEach, TopsAll};
 ghost use Rattle.bound.specs.Bounds.{frontOf, frontIn};
 ghost use Rattle.bound.specs.Fronts.{Larger, MayFront, Bucketed, Carried, RunsDown, Fronts};
-ghost use Rattle.bound.specs.Marks.{entryHits, stripHits, MayMark, MayBare, Marked};
+ghost use Rattle.bound.specs.Ends.{hitsIn, EndsOf, MayStripEnds, StripsEndsOf};
+ghost use Rattle.bound.specs.Marks.{MayMark, Marked};
 
 // The weight a slot later, or a link's number where there is none.
 fn later(weights: &[u16], links: &[u16], k: usize) -> u16
@@ -241,41 +243,60 @@ pub fn need(messages: usize, least: usize) -> usize
     messages + 1 - least
 }
 
-// Marks each entry that stands on link e in slot s or later, before slot t.
-pub fn mark(table: &[u8], t: usize, s: usize, e: usize, marks: &mut [u8])
-    requires { ⌜ MayMark t s (now marks) ⌝ }
-    ensures { λ _. ⌜ Marked (entryHits (now (table .entry)) t) s e (now (marks .entry)) (now (marks .exit)) ⌝ }
+// For each link and entry of a table a number that the slots of its places are before, where the numbers are 0 before.
+pub fn ends(table: &[u8], numbers: &mut [u16])
+    requires { ⌜ length (now numbers) ≡ endsSize ⌝ }
+    ensures { λ _. ⌜ EndsOf (now (table .entry)) (now (numbers .exit)) ⌝ }
 {
-    let mut i = s;
-    while i < t {
+    let mut k = 0;
+    while k < TABLE {
+        let i = k / LINKS;
+        let e = k % LINKS;
         let w = table::entry(table, i, e) as usize;
-        i += 1;
+        k += 1;
         if w < ENTRIES {
-            marks[w] = 1;
+            numbers[e * ENTRIES + w] = (i + 1) as u16;
         }
     }
 }
 
-// Marks each message that has link e on the second path of a robust place.
-fn mark_seconds(seconds: &[u8], e: usize, marks: &mut [u8])
-    requires { ⌜ MayBare (now seconds) e (now marks) ⌝ }
-    ensures { λ _. ⌜ Marked (λ m s e. secondIn (now (seconds .entry)) e m) 0 e (now (marks .entry)) (now (marks .exit)) ⌝ }
+// Of the fragile entries, and beyond all slots where a link is on the second path of a robust place.
+pub fn strip_ends(fragile: &[u8], seconds: &[u8], numbers: &mut [u16])
+    requires { ⌜ MayStripEnds (now seconds) (now numbers) ⌝ }
+    ensures { λ _. ⌜ StripsEndsOf (now (fragile .entry)) (now (seconds .entry)) (now (numbers .exit)) ⌝ }
 {
+    ends(fragile, numbers);
+    let mut k = 0;
+    while k < SECONDS {
+        let there = seconds[k];
+        let at = k / MESSAGES * ENTRIES + k % MESSAGES + 1;
+        k += 1;
+        if there != 0 {
+            numbers[at] = (SLOTS + 1) as u16;
+        }
+    }
+}
+
+// A slot as a number of 16 bits: none is before a later one that has more.
+fn narrow(s: usize) -> u16
+    ensures { λ r. ⌜ r ≡ min s 65535 ⌝ }
+{
+    if s < 65535 { s as u16 } else { 65535 }
+}
+
+// Marks each message that link e matters to in slot s or later.
+pub fn mark(ends: &[u16], s: usize, e: usize, marks: &mut [u8])
+    requires { ⌜ MayMark (now ends) e (now marks) ⌝ }
+    ensures { λ _. ⌜ Marked (hitsIn (now (ends .entry))) s e (now (marks .entry)) (now (marks .exit)) ⌝ }
+{
+    let from = narrow(s);
     let mut m = 0;
     while m < MESSAGES {
-        let there = seconds[e * MESSAGES + m];
         m += 1;
-        if there != 0 {
-            marks[m] = 1;
+        let mut v = marks[m];
+        if from < ends[e * ENTRIES + m] {
+            v = 1;
         }
+        marks[m] = v;
     }
-}
-
-// Marks each message that the pair of slot s and link e strips, of entries before slot t.
-pub fn bare(fragile: &[u8], seconds: &[u8], t: usize, s: usize, e: usize, marks: &mut [u8])
-    requires { ⌜ (s ≤ t) × MayBare (now seconds) e (now marks) ⌝ }
-    ensures { λ _. ⌜ Marked (stripHits (now (fragile .entry)) (now (seconds .entry)) t) s e (now (marks .entry)) (now (marks .exit)) ⌝ }
-{
-    mark(fragile, t, s, e, marks);
-    mark_seconds(seconds, e, marks);
 }

@@ -30,6 +30,10 @@ secondsSize = 2048
 abbrev pub mostEntries : ℕ
 mostEntries = 64
 
+-- a number for each link and entry, link by link
+abbrev pub endsSize : ℕ
+endsSize = 4096
+
 -- three weights for each slot and link, one table after another
 abbrev pub weightsSize : ℕ
 weightsSize = 12288

@@ -20,6 +20,9 @@ pub const SECONDS: usize = LINKS * MESSAGES;
 
 pub const ENTRIES: usize = 64;
 
+// A number for each link and entry, link by link.
+pub const ENDS: usize = LINKS * ENTRIES;
+
 // Three weights for each slot and link.
 pub const WEIGHTS: usize = 3 * TABLE;
 

@@ -1,11 +1,12 @@
 -- What a search is lent of a plan is what its bounds ask for: the weights and the hits of the filled tables are no less than the plan's own.
 use Prim.Native.Nat.{ℕ, zero, suc, _+_, _-_, _≤_, _<_}
 use native.Mathlib.Omega.{arith}
-use mathlib.Core.Path.{_≡_, sym, ap}
-use mathlib.Core.Bool.{Bool}
+use mathlib.Core.Path.{_≡_, sym, _∙_, ap}
+use mathlib.Core.Bool.{Bool, true, false}
 use mathlib.Core.List.{List}
 use lib.ListN.{length}
 use lib.Dec.{ltb, eqb}
+use borrow.Author.Tests.{eqb-true}
 use Rattle.scope.specs.Limits.{mostSlots, mostLinks, mostMessages}
 use Rattle.scope.specs.Outcome.{gives}
 use Rattle.scope.specs.Plan.{Plan, pathOf}
@@ -14,35 +15,35 @@ use Rattle.scope.specs.Cycle.{tableOf}
 use Rattle.table.specs.Table.{Table, entryAt}
 use Rattle.bound.specs.Sums.{sumOf, oneIf}
 use Rattle.bound.specs.Touch.{touchedIn, touches}
-use Rattle.bound.specs.Harmed.{hers}
+use Rattle.bound.specs.Harmed.{hersIn, hers}
 use Rattle.bound.specs.Strips.{fragilePlan, throughRobust, strips, bares}
 use Rattle.bound.specs.Seconds.{secondIn, onLink}
 use Rattle.bound.specs.Weights.{entriesFrom, WeighsAll, TopsAll}
-use Rattle.bound.specs.Marks.{entryHits, stripHits}
+use Rattle.bound.specs.Ends.{endIn, hitsIn, EndsOf, StripsEndsOf}
 use Rattle.bound.specs.Bounds.{Fails, weightIn, Bounds}
-use Rattle.bound.specs.Bounds.{weightIn, Bounds}
-use Rattle.bound.proofs.Sums.{sum-same, sum-fewer}
+use Rattle.bound.proofs.Sums.{sum-same, sum-fewer, tests-few, tests-before}
 use Rattle.bound.proofs.OneLink.{hers-most, touches-most}
 use Rattle.bound.proofs.Weights.{entries-fall}
 use Rattle.bound.proofs.Enough.{AtMost, bounds}
 use Rattle.strips.specs.Filled.{Filled}
 
--- entries that pass a test: those of a table are its owner's
-entries-same : (test : ℕ → Bool) (owner : ℕ → ℕ → ℕ) (table : List ℕ) → Table owner table → (n s e : ℕ) → n ≤ mostSlots → e < mostLinks →
-    sumOf (λ i. oneIf (test (owner (s + i) e))) (n - s) ≡ sumOf (λ i. oneIf (test (entryAt table (s + i) e))) (n - s)
-entries-same test owner table t n s e hn he =
-    sum-same (λ i. oneIf (test (owner (s + i) e))) (λ i. oneIf (test (entryAt table (s + i) e))) (n - s)
-    (λ i l. ap (λ (x : ℕ). oneIf (test x)) (sym (t .is (s + i) e (omega arith) he)))
-
--- and all slots of the table have no fewer
+-- the entries of a table are its owner's, and all its slots have no fewer
 entries-most : (owner : ℕ → ℕ → ℕ) (table : List ℕ) → Table owner table → (n s e : ℕ) → n ≤ mostSlots → e < mostLinks →
     touchedIn owner (n - s) s e ≤ entriesFrom table s e
 entries-most owner table t n s e hn he =
-    omega (
-      arith,
-      entries-same (ltb 0) owner table t n s e hn he,
-      sum-fewer (λ i. oneIf (ltb 0 (entryAt table (s + i) e))) (n - s) (mostSlots - s) (omega arith),
-    )
+    let same : touchedIn owner (n - s) s e ≡ touchedIn (entryAt table) (n - s) s e =
+    sum-same (λ i. oneIf (ltb 0 (owner (s + i) e))) (λ i. oneIf (ltb 0 (entryAt table (s + i) e))) (n - s)
+    (λ i l. ap (λ (x : ℕ). oneIf (ltb 0 x)) (sym (t .is (s + i) e (omega arith) he))) in
+    omega (arith, same, sum-fewer (λ i. oneIf (ltb 0 (entryAt table (s + i) e))) (n - s) (mostSlots - s) (omega arith))
+
+-- those of a message stand before its number
+in-time : (owner : ℕ → ℕ → ℕ) (table ends : List ℕ) → Table owner table → EndsOf table ends → (n m s e : ℕ) → n ≤ mostSlots →
+    m < mostMessages → e < mostLinks → hersIn owner (n - s) m s e ≤ hitsIn ends m s e
+in-time owner table ends t o n m s e hn hm he =
+    tests-before (λ i. eqb (owner (s + i) e) (m + 1)) (endIn ends e (m + 1)) s (n - s)
+    (λ i l h.
+    let is : entryAt table (s + i) e ≡ m + 1 = t .is (s + i) e (omega arith) he ∙ eqb-true (owner (s + i) e) (m + 1) h in
+    rw is at (o .after (s + i) e (omega arith) he (omega (arith, is))))
 
 -- fewer come from a later slot on
 fewer : (table : List ℕ) (s i e : ℕ) → s ≤ i → i < mostSlots → entriesFrom table i e ≤ entriesFrom table s e
@@ -50,20 +51,39 @@ fewer table s i e l h = let d : s + (i - s) ≡ i = omega arith in rw d at (entr
 
 module _ (plan : Plan) (time : plan .timeout ≤ mostSlots) (links : length (plan .links) ≤ mostLinks)
     (messages : length (plan .messages) ≤ mostMessages) where
-  -- the pair touches message m no more often than it hits it in the table
-  pub touch-hits : (table : List ℕ) → Table (tableOf plan) table → (m s e : ℕ) → e < length (plan .links) →
-      hers plan m s e ≤ entryHits table (plan .timeout) m s e
-  touch-hits table t m s e he =
-      omega (arith, hers-most plan m s e, entries-same (λ x. eqb x (m + 1)) (tableOf plan) table t (plan .timeout) s e time (omega arith))
+  -- the pair touches message m no more often than there are slots from its own on before the number
+  pub touch-hits : (table ends : List ℕ) → Table (tableOf plan) table → EndsOf table ends → (m s e : ℕ) → m < length (plan .messages) →
+      e < length (plan .links) → hers plan m s e ≤ hitsIn ends m s e
+  touch-hits table ends t o m s e hm he =
+      omega (arith, hers-most plan m s e, in-time (tableOf plan) table ends t o (plan .timeout) m s e time (omega arith) (omega arith))
 
   module _ (fragile seconds : List ℕ) (f : Filled plan fragile seconds) where
     -- and strips it no more often
-    pub strip-hits : (m s e : ℕ) → m < length (plan .messages) → e < length (plan .links) →
-        strips plan m s e ≤ stripHits fragile seconds (plan .timeout) m s e
-    strip-hits m s e hm he =
-        let fragile-hits =
-        entries-same (λ x. eqb x (m + 1)) (tableOf (fragilePlan plan)) fragile (f .table) (plan .timeout) s e time (omega arith) in
-        omega (arith, hers-most (fragilePlan plan) m s e, fragile-hits, f .bytes .is m e (omega arith) (omega arith))
+    pub strip-hits : (ends : List ℕ) → StripsEndsOf fragile seconds ends → (m s e : ℕ) → m < length (plan .messages) → s < plan .timeout →
+        e < length (plan .links) → strips plan m s e ≤ hitsIn ends m s e
+    strip-hits ends o m s e hm hs he = by (throughRobust plan m e (pathOf plan m)) (f .bytes .is m e (omega arith) (omega arith))
+      where
+        owner : ℕ → ℕ → ℕ
+        owner = tableOf (fragilePlan plan)
+
+        most : hers (fragilePlan plan) m s e ≤ hersIn owner (plan .timeout - s) m s e
+        most = hers-most (fragilePlan plan) m s e
+
+        by : (b : Bool) → secondIn seconds e m ≡ oneIf b → hers (fragilePlan plan) m s e + oneIf b ≤ hitsIn ends m s e
+        by true is =
+            omega (
+              arith,
+              most,
+              tests-few (λ i. eqb (owner (s + i) e) (m + 1)) (plan .timeout - s),
+              o .always e m (omega arith) (omega arith) (omega arith),
+            )
+        by false is =
+            omega (
+              arith,
+              most,
+              in-time owner fragile ends (f .table) (record { long = o .long; after = o .after }) (plan .timeout) m s e time (omega arith)
+                  (omega arith),
+            )
 
     -- and all messages no more often than the tables count
     bares-most : (s e : ℕ) → e < length (plan .links) → bares plan s e ≤ entriesFrom fragile s e + onLink seconds e
