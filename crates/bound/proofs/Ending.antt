@@ -38,10 +38,9 @@ module _ (table ends : List ℕ) where
   ending-none l = record { long = l; after = λ j h. absurd (omega arith) }
 
   module _ (k : ℕ) (g : Ending table ends k) (w : ℕ) (is : w ≡ entry table k) where
-    pub ending-more : w < mostEntries → Ending table (set ends (k % mostLinks * mostEntries + w) (k / mostLinks + 1)) (k + 1)
-    ending-more small =
+    pub ending-more : w < mostEntries → (v : ℕ) → k / mostLinks < v → Ending table (set ends (k % mostLinks * mostEntries + w) v) (k + 1)
+    ending-more small v late =
         let at : ℕ = k % mostLinks * mostEntries + w in
-        let v : ℕ = k / mostLinks + 1 in
         let there : at < length ends = omega (arith, g .long) in
         record {
           long = length-set ends at v ∙ g .long;

@@ -23,7 +23,7 @@ slice-write-numbers : tie.Need-slice-write-numbers Inv-loop μ-loop
 slice-write-numbers c = omega (arith, c .if1 .taken, c .before .before .before .loop .inv .long)
 
 loop-again : tie.Need-loop-again Inv-loop μ-loop
-loop-again c = ending-more _ _ _ (c .before .before .before .loop .inv) _ (c .before .entry .ensures) (c .if1 .taken)
+loop-again c = ending-more _ _ _ (c .before .before .before .loop .inv) _ (c .before .entry .ensures) (c .if1 .taken) _ (omega arith)
 
 loop-again-2 : tie.Need-loop-again-2 Inv-loop μ-loop
 loop-again-2 c = ending-past _ _ _ (c .before .before .before .loop .inv) _ (c .before .entry .ensures) (c .if1 .left)

@@ -23,7 +23,7 @@ loop-again : tie.Need-loop-again Inv-loop μ-loop
 loop-again c = stripping-more _ _ _ _ (c .before .before .before .loop .inv) (c .before .before .loop-test .taken)
 
 loop-again-2 : tie.Need-loop-again-2 Inv-loop μ-loop
-loop-again-2 c = stripping-skip _ _ _ _ (c .before .before .before .loop .inv) (c .if1 .left)
+loop-again-2 c = stripping-skip _ _ _ _ (c .before .before .before .loop .inv) (omega (arith, c .if1 .left))
 
 returns : tie.Need-returns Inv-loop μ-loop
 returns c = stripping-done _ _ _ _ (c .before .loop .inv) (c .loop-test .left)
