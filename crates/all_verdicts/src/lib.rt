@@ -5,7 +5,7 @@
 use scope::Answer;
 use scope::limits::CUT_NUMBERS;
 use scope::limits::CUTS;
-use scope::limits::SECONDS;
+use scope::limits::ENDS;
 use scope::limits::TABLE;
 use scope::limits::TOPS;
 use scope::limits::WEIGHTS;
@@ -61,35 +61,24 @@ fn put_failing(out: &mut [u16], l: usize, h: Hunted)
 fn descend(
     row: &[u16],
     table: &[u8],
-    fragile: &[u8],
-    seconds: &[u8],
+    touches: &[u16],
+    strips: &[u16],
     weights: &[u16],
     most: &[u16],
     o: Opening,
     k: usize,
     out: &mut [u16],
 )
-    requires { ⌜ MayFill (now row) (now table) (now fragile) (now seconds) (now weights) (now most) o k (length (now out)) ⌝ }
+    requires { ⌜ MayFill (now row) (now table) (now touches) (now strips) (now weights) (now most) o k (length (now out)) ⌝ }
     ensures { λ _. ⌜ AllSaid (planOf (now (row .entry))) k (now (out .entry)) (now (out .exit)) ⌝ }
 {
     let a = o.asked;
     let mut l = a.messages;
-    let mut h = verdicts::ask(row, table, fragile, seconds, weights, most, o, l, 0, k);
+    let mut h = verdicts::ask(row, table, touches, strips, weights, most, o, l, 0, k);
     while h.found {
         put_failing(out, l, h);
         l = h.arrivals;
-        let next = verdicts::ask(
-            row,
-            table,
-            fragile,
-            seconds,
-            weights,
-            most,
-            o,
-            l,
-            h.pairs,
-            k,
-        );
+        let next = verdicts::ask(row, table, touches, strips, weights, most, o, l, h.pairs, k);
         h = next;
     }
     let zeros = [0u16; CUT_NUMBERS];
@@ -102,19 +91,19 @@ fn fill(row: &[u16], k: usize, out: &mut [u16])
     ensures { λ _. ⌜ AllSaid (planOf (now (row .entry))) k (now (out .entry)) (now (out .exit)) ⌝ }
 {
     let mut table = [0u8; TABLE];
-    let mut fragile = [0u8; TABLE];
-    let mut seconds = [0u8; SECONDS];
+    let mut touches = [0u16; ENDS];
+    let mut strips = [0u16; ENDS];
     let mut weights = [0u16; WEIGHTS];
     let mut most = [0u16; TOPS];
     let o = verdicts::lend(
         row,
         &mut table,
-        &mut fragile,
-        &mut seconds,
+        &mut touches,
+        &mut strips,
         &mut weights,
         &mut most,
     );
-    descend(row, &table, &fragile, &seconds, &weights, &most, o, k, out);
+    descend(row, &table, &touches, &strips, &weights, &most, o, k, out);
 }
 
 // All answers of a good row: refusals 11 and 13, or how many numbers they are.

@@ -50,8 +50,8 @@ pub record Climbing (row : List ℕ) (a : Asked) (p : Picked) (n s e : ℕ) (qs 
   pub link : e ≤ a .links
   pub later : code (p .slot) (p .link) ≤ code s e
 
-module _ (row table fragile seconds weights most : List ℕ) (a : Asked) (p : Picked) (n : ℕ) (y : Ready row table fragile seconds weights most a)
-    (h : Holding row a p) (some : 0 < n) (room : p .count + n ≤ mostCuts) where
+module _ (row table touchEnds stripEnds weights most : List ℕ) (a : Asked) (p : Picked) (n : ℕ)
+    (y : Ready row table touchEnds stripEnds weights most a) (h : Holding row a p) (some : 0 < n) (room : p .count + n ≤ mostCuts) where
   few : length (planOf row .links) ≤ mostLinks
   few = omega (arith, y .play .links, y .play .few)
 
@@ -236,13 +236,13 @@ pub goes-up : (test : ℕ → Bool) (n i r : ℕ) → r ≡ seek test n (i + 1) 
 goes-up test n i r e = omega (arith, seek-from test n (i + 1))
 
 -- the calls
-module _ (row table fragile seconds weights most : List ℕ) (a : Asked) (hits : Hits) (ps : Standing) (p : Picked) (n s e : ℕ) (rest : Rest)
-    (m : MaySeekIn row table fragile seconds weights most a hits ps p n s e rest) where
+module _ (row table touchEnds stripEnds weights most : List ℕ) (a : Asked) (hits : Hits) (ps : Standing) (p : Picked) (n s e : ℕ) (rest : Rest)
+    (m : MaySeekIn row table touchEnds stripEnds weights most a hits ps p n s e rest) where
   next-holds : (i : ℕ) → Looking row weights most a p n s e i rest → i < a .links → Holding row a (withPair p s i)
   next-holds i g l =
       holding-more row table a p (m .ready .play) (m .holding) s i (omega (arith, m .few, m .some)) (omega (arith, m .later, g .start))
       (m .early) l
-      (not-cut-yet row table fragile seconds weights most a p n (m .ready) (m .holding) (m .some) (m .few) s e i rest g l)
+      (not-cut-yet row table touchEnds stripEnds weights most a p n (m .ready) (m .holding) (m .some) (m .few) s e i rest g l)
 
   count-messages : length (planOf row .messages) ≤ mostMessages
   count-messages = omega (arith, m .ready .play .messages, m .stand .next .stand .few)
@@ -257,26 +257,27 @@ module _ (row table fragile seconds weights most : List ℕ) (a : Asked) (hits :
         omega (arith, m .early, m .ready .play .short);
   }
 
-  pub may-hit : (i : ℕ) → i < a .links → MayHit seconds (a .timeout) hits s i
+  pub may-hit : (i : ℕ) → i < a .links → MayHit touchEnds stripEnds hits i
   may-hit i l =
       record {
-        long = m .ready .strip .long;
+        touches = m .ready .hit .touch;
+        strips = m .ready .hit .strip;
         touched = m .covers .touches;
         stripped = m .covers .strips;
-        slot = omega (arith, m .early);
         link = omega (arith, m .ready .play .few);
       }
 
   pub may-go-on : (i : ℕ) (q : Picked) (more : Hits) → Looking row weights most a p n s e i rest → i < a .links → q ≡ withPair p s i →
-      IsHit table fragile seconds (a .timeout) hits s i more → MaySeek row table fragile seconds weights most a more ps q (n - 1)
+      IsHit touchEnds stripEnds hits s i more → MaySeek row table touchEnds stripEnds weights most a more ps q (n - 1)
   may-go-on i q more g l is hit =
       record {
         ready = m .ready;
         holding = rw is (next-holds i g l);
         covers =
             rw (is, cuts-more row table a p (m .ready .play) (m .holding) s i (omega (arith, m .few, m .some)))
-            (covers-more row table a (m .ready .play) fragile seconds (cutsOf p) (p .count) s i hits more (m .ready .strip) count-messages
-            (m .holding .chosen .long) (omega (arith, m .ready .play .links)) (m .covers) hit);
+            (covers-more row touchEnds stripEnds (cutsOf p) (p .count) s i hits more (m .ready .hit) count-messages
+            (m .holding .chosen .long) (omega (arith, m .early, m .ready .play .timeout)) (omega (arith, m .ready .play .links)) (m .covers)
+            hit);
         stand = rw is (stand-more row table a p (m .ready .play) (m .holding) s i (omega (arith, m .few, m .some)) (a .messages) ps (m .stand));
         few = rw is (omega (arith, m .few, m .some));
       }
@@ -284,8 +285,8 @@ module _ (row table fragile seconds weights most : List ℕ) (a : Asked) (hits :
   pub looks-first : (r : ℕ) →
       r ≡ seek (passes (p .down) weights most (a .need) rest s) (a .links - e) e → Looking row weights most a p n s e r rest
   looks-first r found =
-      looked row table fragile seconds weights most a p n (m .ready) (m .holding) (m .some) (m .few) s e e rest r (m .leaves)
-      (omega arith) (m .link) (look-first row table fragile seconds weights most a p n (m .ready) (m .holding) (m .some) (m .few) s e) found
+      looked row table touchEnds stripEnds weights most a p n (m .ready) (m .holding) (m .some) (m .few) s e e rest r (m .leaves)
+      (omega arith) (m .link) (look-first row table touchEnds stripEnds weights most a p n (m .ready) (m .holding) (m .some) (m .few) s e) found
 
   module _ (i : ℕ) (q : Picked) (r : Found) (g : Looking row weights most a p n s e i rest) (l : i < a .links) (is : q ≡ withPair p s i)
       (f : Sought row a q (n - 1) r) where
@@ -294,18 +295,18 @@ module _ (row table fragile seconds weights most : List ℕ) (a : Asked) (hits :
 
     pub looks-some : r .found ≡ true → SoughtIn row a p n s e r
     looks-some t =
-        look-some row table fragile seconds weights most a p n (m .ready) (m .holding) (m .some) (m .few) s e i rest g r l found t
+        look-some row table touchEnds stripEnds weights most a p n (m .ready) (m .holding) (m .some) (m .few) s e i rest g r l found t
 
     pub looks-on : (j : ℕ) → r .found ≡ false →
         j ≡ seek (passes (p .down) weights most (a .need) rest s) (a .links - (i + 1)) (i + 1) → Looking row weights most a p n s e j rest
     looks-on j t next =
-        looked row table fragile seconds weights most a p n (m .ready) (m .holding) (m .some) (m .few) s e (i + 1) rest j (m .leaves)
+        looked row table touchEnds stripEnds weights most a p n (m .ready) (m .holding) (m .some) (m .few) s e (i + 1) rest j (m .leaves)
         (omega (arith, g .start)) (omega arith)
-        (look-on row table fragile seconds weights most a p n (m .ready) (m .holding) (m .some) (m .few) s e i rest g r l found t) next
+        (look-on row table touchEnds stripEnds weights most a p n (m .ready) (m .holding) (m .some) (m .few) s e i rest g r l found t) next
 
-pub may-play-out : (row table fragile seconds weights most : List ℕ) (a : Asked) (hits : Hits) (ps : Standing) (p : Picked) (n : ℕ) →
-    MaySeek row table fragile seconds weights most a hits ps p n → MayPlayOut row table a hits ps p
-may-play-out row table fragile seconds weights most a hits ps p n m =
+pub may-play-out : (row table touchEnds stripEnds weights most : List ℕ) (a : Asked) (hits : Hits) (ps : Standing) (p : Picked) (n : ℕ) →
+    MaySeek row table touchEnds stripEnds weights most a hits ps p n → MayPlayOut row table a hits ps p
+may-play-out row table touchEnds stripEnds weights most a hits ps p n m =
     record {
       play = m .ready .play;
       holding = m .holding;
@@ -316,13 +317,13 @@ may-play-out row table fragile seconds weights most a hits ps p n m =
       bounds = m .ready .bounds;
     }
 
-module _ (row table fragile seconds weights most : List ℕ) (a : Asked) (hits : Hits) (ps : Standing) (p : Picked) (n : ℕ)
-    (m : MaySeek row table fragile seconds weights most a hits ps p n) (some : n ≡ 0 → ⊥) where
+module _ (row table touchEnds stripEnds weights most : List ℕ) (a : Asked) (hits : Hits) (ps : Standing) (p : Picked) (n : ℕ)
+    (m : MaySeek row table touchEnds stripEnds weights most a hits ps p n) (some : n ≡ 0 → ⊥) where
   positive : 0 < n
   positive = omega (arith, some)
 
   pub climbs-first : Climbing row a p n (p .slot) (p .link) ps
-  climbs-first = climb-first row table fragile seconds weights most a p n (m .ready) (m .holding) positive (m .few) ps (m .stand)
+  climbs-first = climb-first row table touchEnds stripEnds weights most a p n (m .ready) (m .holding) positive (m .few) ps (m .stand)
 
   module _ (s e : ℕ) (qs : Standing) (g : Climbing row a p n s e qs) where
     pub may-count : MayCount (a .messages) hits
@@ -354,9 +355,9 @@ module _ (row table fragile seconds weights most : List ℕ) (a : Asked) (hits :
       pub climbs-stop : (r : Found) (f : ℕ) → r ≡ noFound → f ≡ seek (passes (p .down) weights most (a .need) rest s) (a .links - 0) 0 →
           a .links ≤ f → Sought row a p n r
       climbs-stop r f none =
-          climb-stop row table fragile seconds weights most a p n (m .ready) (m .holding) positive (m .few) s e qs g r rest f none leaves
+          climb-stop row table touchEnds stripEnds weights most a p n (m .ready) (m .holding) positive (m .few) s e qs g r rest f none leaves
 
-      pub may-look : s < a .timeout → MaySeekIn row table fragile seconds weights most a hits qs p n s e rest
+      pub may-look : s < a .timeout → MaySeekIn row table touchEnds stripEnds weights most a hits qs p n s e rest
       may-look early =
           record {
             ready = m .ready;
@@ -382,13 +383,13 @@ module _ (row table fragile seconds weights most : List ℕ) (a : Asked) (hits :
         }
 
     pub climbs-over : (r : Found) → r ≡ noFound → a .timeout ≤ s → Sought row a p n r
-    climbs-over = climb-over row table fragile seconds weights most a p n (m .ready) (m .holding) positive (m .few) s e qs g
+    climbs-over = climb-over row table touchEnds stripEnds weights most a p n (m .ready) (m .holding) positive (m .few) s e qs g
 
     pub climbs-some : (r : Found) → SoughtIn row a p n s e r → r .found ≡ true → Sought row a p n r
-    climbs-some = climb-some row table fragile seconds weights most a p n (m .ready) (m .holding) positive (m .few) s e qs g
+    climbs-some = climb-some row table touchEnds stripEnds weights most a p n (m .ready) (m .holding) positive (m .few) s e qs g
 
     pub climbs-on : (r : Found) → SoughtIn row a p n s e r → (rs : Standing) → r .found ≡ false → s < a .timeout →
         StandAt row (a .messages) (cutsOf p) (qs .time .0 + 1) rs → Climbing row a p n (s + 1) 0 rs
     climbs-on r f rs t early stand =
-        climb-on row table fragile seconds weights most a p n (m .ready) (m .holding) positive (m .few) s e qs g r f rs t early
+        climb-on row table touchEnds stripEnds weights most a p n (m .ready) (m .holding) positive (m .few) s e qs g r f rs t early
         (rw (g .stand .time) at stand)

@@ -1,5 +1,5 @@
 -- The marks are of every message that the pairs picked touch and strip, so no fewer messages are counted at risk.
-use Prim.Native.Nat.{ℕ, zero, suc, _+_, _-_, _*_, _≤_, _<_}
+use Prim.Native.Nat.{ℕ, zero, suc, _+_, _*_, _≤_, _<_}
 use native.Mathlib.Omega.{arith}
 use mathlib.Core.Path.{_≡_, refl, sym, _∙_, ap, ap₂}
 use mathlib.Core.Bool.{Bool, true, false, not, _&&_, and-false, and-eq-true-iff}
@@ -19,21 +19,18 @@ use Rattle.step.specs.Where.{positionOf}
 use Rattle.step.proofs.Steps.{home-is}
 use Rattle.step.specs.declared.Standing.{Standing}
 use Rattle.step.specs.Stand.{home}
-use Rattle.table.specs.Table.{entryAt}
 use Rattle.bound.specs.Sums.{sumOf, oneIf}
 use Rattle.bound.specs.Touch.{harm}
-use Rattle.bound.specs.Harmed.{hersIn, hers, isTouched, stands, away}
+use Rattle.bound.specs.Harmed.{hers, isTouched, stands, away}
 use Rattle.bound.specs.Strips.{strips, isStripped, lost}
-use Rattle.bound.specs.Marks.{entryFrom, entryHits, stripHits}
-use Rattle.bound.proofs.Sums.{sum-same, sum-le}
+use Rattle.bound.specs.Ends.{hitsIn}
+use Rattle.bound.proofs.Sums.{sum-le}
 use Rattle.bound.proofs.Parts.{harm-both}
-use Rattle.bound.proofs.OneLink.{hers-most}
 use Rattle.order.proofs.Parts.{pairs-both}
-use Rattle.search.specs.declared.Asked.{Asked}
 use Rattle.search.specs.declared.Hits.{Hits}
 use Rattle.search.specs.declared.Risk.{Risk}
 use Rattle.search.specs.declared.Rest.{Rest}
-use Rattle.search.specs.Hunt.{isMarked, noHits, restOf, Fits, Playable, Strippable, StandAt, Covers, Leaves}
+use Rattle.search.specs.Hunt.{isMarked, noHits, restOf, Fits, Hittable, StandAt, Covers, Leaves}
 use Rattle.search.specs.Risks.{awayIf, countAway, risksOf, withMessage, MayCountOn, IsHit, MayWeigh}
 
 -- zeros, and zeros past them
@@ -80,40 +77,21 @@ covers-none row =
       stripped = λ m l z. absurd (omega (arith, ltb-true 0 0 z));
     }
 
-module _ (row table : List ℕ) (a : Asked) (y : Playable row table a) where
-  -- the table says what the plan says
-  entry-is : (m i e : ℕ) → entryFrom table (a .timeout) (m + 1) i e ≡ hersIn (tableOf (planOf row)) (a .timeout - i) m i e
-  entry-is m i e =
-      sum-same (λ k. oneIf (eqb (entryAt table (i + k) e) (m + 1))) (λ k. oneIf (eqb (tableOf (planOf row) (i + k) e) (m + 1))) (a .timeout - i)
-      (λ k g. ap (λ (f : ℕ → ℕ). oneIf (eqb (f e) (m + 1))) (y .owner (i + k) (omega (arith, y .short))))
-
-  touched-is : (m s e : ℕ) → hers (planOf row) m s e ≤ entryHits table (a .timeout) m s e
-  touched-is m s e =
-      omega (
-        arith,
-        hers-most (planOf row) m s e,
-        entry-is m s e,
-        ap (λ (t : ℕ). hersIn (tableOf (planOf row)) (t - s) m s e) (y .timeout),
-      )
-
-  -- one pair more
-  pub covers-more : (fragile seconds cuts : List ℕ) (d s e : ℕ) (old new : Hits) → Strippable row fragile seconds →
-      length (planOf row .messages) ≤ mostMessages →
-      length cuts ≡ 2 * d → e < length (planOf row .links) → Covers row cuts old → IsHit table fragile seconds (a .timeout) old s e new →
-      Covers row (cuts ++ s ∷ e ∷ []) new
-  covers-more fragile seconds cuts d s e old new z many long there c h =
-      record {
-        touches = h .touched .long;
-        strips = h .stripped .long;
-        touched = λ m l.
-            marked-more (hers (planOf row) m) cuts d s e (entryHits table (a .timeout) m s e) (getD (old .touched) (m + 1) 0)
-            (getD (new .touched) (m + 1) 0) long
-            (touched-is m s e) (c .touched m l) (h .touched .is m (omega arith));
-        stripped = λ m l.
-            marked-more (strips (planOf row) m) cuts d s e (stripHits fragile seconds (a .timeout) m s e) (getD (old .stripped) (m + 1) 0)
-            (getD (new .stripped) (m + 1) 0) long
-            (rw (y .timeout) (z .is m s e l there)) (c .stripped m l) (h .stripped .is m (omega arith));
-      }
+-- one pair more
+pub covers-more : (row touchEnds stripEnds cuts : List ℕ) (d s e : ℕ) (old new : Hits) → Hittable row touchEnds stripEnds →
+    length (planOf row .messages) ≤ mostMessages → length cuts ≡ 2 * d → s < planOf row .timeout → e < length (planOf row .links) →
+    Covers row cuts old → IsHit touchEnds stripEnds old s e new → Covers row (cuts ++ s ∷ e ∷ []) new
+covers-more row touchEnds stripEnds cuts d s e old new y many long early there c h =
+    record {
+      touches = h .touched .long;
+      strips = h .stripped .long;
+      touched = λ m l.
+          marked-more (hers (planOf row) m) cuts d s e (hitsIn touchEnds m s e) (getD (old .touched) (m + 1) 0)
+          (getD (new .touched) (m + 1) 0) long (y .touched m s e l there) (c .touched m l) (h .touched .is m (omega arith));
+      stripped = λ m l.
+          marked-more (strips (planOf row) m) cuts d s e (hitsIn stripEnds m s e) (getD (old .stripped) (m + 1) 0)
+          (getD (new .stripped) (m + 1) 0) long (y .stripped m s e l early there) (c .stripped m l) (h .stripped .is m (omega arith));
+    }
 
 one-few : (b : Bool) → oneIf b ≤ 1
 one-few true = omega arith

@@ -5,7 +5,7 @@ use mathlib.Core.Bool.{Bool, true, false, not, _&&_, _||_, cond}
 use mathlib.Core.List.{List, []}
 use lib.ListN.{length, getD, take, set, replicate}
 use lib.Dec.{ltb, eqb}
-use Rattle.scope.specs.Limits.{mostCuts, mostSlots, mostLinks, mostEntries, weightsSize, topsSize, secondsSize}
+use Rattle.scope.specs.Limits.{mostCuts, mostSlots, mostLinks, mostEntries, weightsSize, topsSize, endsSize}
 use Rattle.scope.specs.Plan.{planOf}
 use Rattle.scope.specs.Cuts.{isCut}
 use Rattle.scope.specs.Verdict.{FirstFailing}
@@ -16,10 +16,9 @@ use Rattle.step.specs.declared.Standing.{Standing}
 use Rattle.step.specs.Stand.{Become}
 use Rattle.order.specs.Search.{code, Chosen, NoneOf, FirstOf, NoneIn, FirstFrom}
 use Rattle.bound.specs.Bounds.{Fails, weightIn, topIn, frontIn, harmedAndBared, Bounds}
-use Rattle.bound.specs.Bounds.{weightIn, topIn, frontIn, harmedAndBared, Bounds}
-use Rattle.bound.specs.Harmed.{isTouched, harmed}
+use Rattle.bound.specs.Harmed.{hers, isTouched, harmed}
 use Rattle.bound.specs.Strips.{strips, isStripped, bared}
-use Rattle.bound.specs.Marks.{stripHits}
+use Rattle.bound.specs.Ends.{hitsIn}
 use Rattle.search.specs.declared.Asked.{Asked}
 use Rattle.search.specs.declared.Picked.{Picked}
 use Rattle.search.specs.declared.Hits.{Hits}
@@ -110,16 +109,19 @@ pub record Playable (row table : List ℕ) (a : Asked) : Type 0 where
   pub messages : a .messages ≡ length (planOf row .messages)
   pub owner : (i : ℕ) → i < mostSlots → entryAt table i ≡ tableOf (planOf row) i
 
--- with what strips a message: a pair that does is found in the table of fragile places or among the second paths
-pub record Strippable (row fragile seconds : List ℕ) : Type 0 where
-  pub long : length seconds ≡ secondsSize
-  pub is : (m s e : ℕ) → m < length (planOf row .messages) → e < length (planOf row .links) →
-      strips (planOf row) m s e ≤ stripHits fragile seconds (planOf row .timeout) m s e
+-- with what a pair hits: it touches a message, and strips it, no more often than there are slots from its own on before a number
+pub record Hittable (row touchEnds stripEnds : List ℕ) : Type 0 where
+  pub touch : length touchEnds ≡ endsSize
+  pub strip : length stripEnds ≡ endsSize
+  pub touched : (m s e : ℕ) → m < length (planOf row .messages) → e < length (planOf row .links) →
+      hers (planOf row) m s e ≤ hitsIn touchEnds m s e
+  pub stripped : (m s e : ℕ) → m < length (planOf row .messages) → s < planOf row .timeout → e < length (planOf row .links) →
+      strips (planOf row) m s e ≤ hitsIn stripEnds m s e
 
 -- and with the bounds
-pub record Ready (row table fragile seconds weights most : List ℕ) (a : Asked) : Type 0 where
+pub record Ready (row table touchEnds stripEnds weights most : List ℕ) (a : Asked) : Type 0 where
   pub play : Playable row table a
-  pub strip : Strippable row fragile seconds
+  pub hit : Hittable row touchEnds stripEnds
   pub heavy : length weights ≡ weightsSize
   pub tops : length most ≡ topsSize
   pub small : a .need ≤ 65536
@@ -184,19 +186,19 @@ pub record MayAdvance (row table : List ℕ) (a : Asked) (ps : Standing) (p : Pi
   pub early : ps .time .0 < a .timeout
 
 -- n pairs more may be sought
-pub record MaySeek (row table fragile seconds weights most : List ℕ) (a : Asked) (hits : Hits) (ps : Standing) (p : Picked)
+pub record MaySeek (row table touchEnds stripEnds weights most : List ℕ) (a : Asked) (hits : Hits) (ps : Standing) (p : Picked)
     (n : ℕ) : Type 0 where
-  pub ready : Ready row table fragile seconds weights most a
+  pub ready : Ready row table touchEnds stripEnds weights most a
   pub holding : Holding row a p
   pub covers : Covers row (cutsOf p) hits
   pub stand : StandAt row (a .messages) (cutsOf p) (p .slot) ps
   pub few : p .count + n ≤ mostCuts
 
 -- in one slot, from a link on, where so much can be lost besides the pair of that slot
-pub record MaySeekIn (row table fragile seconds weights most : List ℕ) (a : Asked) (hits : Hits) (ps : Standing) (p : Picked) (n s e : ℕ)
+pub record MaySeekIn (row table touchEnds stripEnds weights most : List ℕ) (a : Asked) (hits : Hits) (ps : Standing) (p : Picked) (n s e : ℕ)
     (rest : Rest) :
     Type 0 where
-  pub ready : Ready row table fragile seconds weights most a
+  pub ready : Ready row table touchEnds stripEnds weights most a
   pub holding : Holding row a p
   pub covers : Covers row (cutsOf p) hits
   pub leaves : Leaves row (cutsOf p) most s (n - 1) rest
@@ -227,8 +229,8 @@ SoughtIn row a p n s e r =
     (FirstFrom (planOf row) (Seeks row a) (cutsOf p) (n - 1) (code s e)) (p .count + n) r
 
 -- lists of at most k pairs may be sought, where those of fewer than `low` are known not to answer
-pub record MayHunt (row table fragile seconds weights most : List ℕ) (a : Asked) (ps : Standing) (low k : ℕ) : Type 0 where
-  pub ready : Ready row table fragile seconds weights most a
+pub record MayHunt (row table touchEnds stripEnds weights most : List ℕ) (a : Asked) (ps : Standing) (low k : ℕ) : Type 0 where
+  pub ready : Ready row table touchEnds stripEnds weights most a
   pub stand : StandAt row (a .messages) [] 0 ps
   pub few : k ≤ mostCuts
   pub within : low ≤ k + 1

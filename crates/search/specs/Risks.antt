@@ -5,11 +5,12 @@ use mathlib.Core.Bool.{Bool, not, _&&_}
 use mathlib.Core.List.{List}
 use lib.ListN.{length, getD}
 use lib.Dec.{ltb, eqb}
-use Rattle.scope.specs.Limits.{mostCuts, mostSlots, mostLinks, mostMessages, mostEntries, weightsSize, topsSize, secondsSize}
+use Rattle.scope.specs.Limits.{mostCuts, mostSlots, mostLinks, mostMessages, mostEntries, weightsSize, topsSize, endsSize}
 use Rattle.step.specs.declared.Position.{Position}
 use Rattle.step.specs.Stand.{home}
 use Rattle.bound.specs.Sums.{sumOf, oneIf}
-use Rattle.bound.specs.Marks.{entryHits, stripHits, Marked}
+use Rattle.bound.specs.Ends.{hitsIn}
+use Rattle.bound.specs.Marks.{Marked}
 use Rattle.search.specs.declared.Hits.{Hits}
 use Rattle.search.specs.declared.Risk.{Risk}
 use Rattle.search.specs.declared.Rest.{Rest}
@@ -53,16 +54,16 @@ pub record MayCountOn (risk : Risk) : Type 0 where
   pub lost : risk .lost ≤ mostMessages
 
 -- a pair may be marked, and was
-pub record MayHit (seconds : List ℕ) (t : ℕ) (hits : Hits) (s e : ℕ) : Type 0 where
-  pub long : length seconds ≡ secondsSize
+pub record MayHit (touchEnds stripEnds : List ℕ) (hits : Hits) (e : ℕ) : Type 0 where
+  pub touches : length touchEnds ≡ endsSize
+  pub strips : length stripEnds ≡ endsSize
   pub touched : length (hits .touched) ≡ mostEntries
   pub stripped : length (hits .stripped) ≡ mostEntries
-  pub slot : s ≤ t
   pub link : e < mostLinks
 
-pub record IsHit (table fragile seconds : List ℕ) (t : ℕ) (old : Hits) (s e : ℕ) (new : Hits) : Type 0 where
-  pub touched : Marked (entryHits table t) s e (old .touched) (new .touched)
-  pub stripped : Marked (stripHits fragile seconds t) s e (old .stripped) (new .stripped)
+pub record IsHit (touchEnds stripEnds : List ℕ) (old : Hits) (s e : ℕ) (new : Hits) : Type 0 where
+  pub touched : Marked (hitsIn touchEnds) s e (old .touched) (new .touched)
+  pub stripped : Marked (hitsIn stripEnds) s e (old .stripped) (new .stripped)
 
 pub record MayWeigh (risk : Risk) (n : ℕ) (most : List ℕ) (s : ℕ) : Type 0 where
   pub touched : risk .touched ≤ mostMessages

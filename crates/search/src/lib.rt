@@ -348,22 +348,14 @@ fn no_hits() -> Hits
 }
 
 // The marks with one pair more.
-fn hit(
-    table: &[u8],
-    fragile: &[u8],
-    seconds: &[u8],
-    t: usize,
-    hits: Hits,
-    s: usize,
-    e: usize,
-) -> Hits
-    requires { ⌜ MayHit (now seconds) t hits s e ⌝ }
-    ensures { λ r. ⌜ IsHit (now (table .entry)) (now (fragile .entry)) (now (seconds .entry)) t hits s e r ⌝ }
+fn hit(touches: &[u16], strips: &[u16], hits: Hits, s: usize, e: usize) -> Hits
+    requires { ⌜ MayHit (now touches) (now strips) hits e ⌝ }
+    ensures { λ r. ⌜ IsHit (now (touches .entry)) (now (strips .entry)) hits s e r ⌝ }
 {
     let mut touched = hits.touched;
     let mut stripped = hits.stripped;
-    bound::mark(table, t, s, e, &mut touched);
-    bound::bare(fragile, seconds, t, s, e, &mut stripped);
+    bound::mark(touches, s, e, &mut touched);
+    bound::mark(strips, s, e, &mut stripped);
     Hits { touched, stripped }
 }
 
@@ -411,8 +403,8 @@ fn play_out(row: &[u16], table: &[u8], a: Asked, hits: Hits, ps: Standing, p: Pi
 fn in_slot(
     row: &[u16],
     table: &[u8],
-    fragile: &[u8],
-    seconds: &[u8],
+    touches: &[u16],
+    strips: &[u16],
     weights: &[u16],
     most: &[u16],
     a: Asked,
@@ -424,7 +416,7 @@ fn in_slot(
     e: usize,
     rest: Rest,
 ) -> Found
-    requires { ⌜ MaySeekIn (now row) (now table) (now fragile) (now seconds) (now weights) (now most) a hits ps p n s e rest ⌝ }
+    requires { ⌜ MaySeekIn (now row) (now table) (now touches) (now strips) (now weights) (now most) a hits ps p n s e rest ⌝ }
     ensures { λ r. ⌜ SoughtIn (now (row .entry)) a p n s e r ⌝ }
 {
     let down = p.down;
@@ -432,12 +424,12 @@ fn in_slot(
     let mut i = next_link(&down, weights, most, a.need, rest, s, e, links);
     while i < links {
         let q = pick(p, s, i);
-        let more = hit(table, fragile, seconds, a.timeout, hits, s, i);
+        let more = hit(touches, strips, hits, s, i);
         let r = level(
             row,
             table,
-            fragile,
-            seconds,
+            touches,
+            strips,
             weights,
             most,
             a,
@@ -459,8 +451,8 @@ fn in_slot(
 fn level(
     row: &[u16],
     table: &[u8],
-    fragile: &[u8],
-    seconds: &[u8],
+    touches: &[u16],
+    strips: &[u16],
     weights: &[u16],
     most: &[u16],
     a: Asked,
@@ -469,7 +461,7 @@ fn level(
     p: Picked,
     n: usize,
 ) -> Found
-    requires { ⌜ MaySeek (now row) (now table) (now fragile) (now seconds) (now weights) (now most) a hits ps p n ⌝ }
+    requires { ⌜ MaySeek (now row) (now table) (now touches) (now strips) (now weights) (now most) a hits ps p n ⌝ }
     ensures { λ r. ⌜ Sought (now (row .entry)) a p n r ⌝ }
 {
     if n == 0 {
@@ -488,8 +480,8 @@ fn level(
         let r = in_slot(
             row,
             table,
-            fragile,
-            seconds,
+            touches,
+            strips,
             weights,
             most,
             a,
@@ -516,8 +508,8 @@ fn level(
 pub fn first_list(
     row: &[u16],
     table: &[u8],
-    fragile: &[u8],
-    seconds: &[u8],
+    touches: &[u16],
+    strips: &[u16],
     weights: &[u16],
     most: &[u16],
     a: Asked,
@@ -525,7 +517,7 @@ pub fn first_list(
     low: usize,
     k: usize,
 ) -> Hunted
-    requires { ⌜ MayHunt (now row) (now table) (now fragile) (now seconds) (now weights) (now most) a ps low k ⌝ }
+    requires { ⌜ MayHunt (now row) (now table) (now touches) (now strips) (now weights) (now most) a ps low k ⌝ }
     ensures { λ r. ⌜ Hunts (now (row .entry)) (a .least) k r ⌝ }
 {
     let p = no_pair();
@@ -535,8 +527,8 @@ pub fn first_list(
         let r = level(
             row,
             table,
-            fragile,
-            seconds,
+            touches,
+            strips,
             weights,
             most,
             a,

@@ -4,7 +4,7 @@ use native.Mathlib.Omega.{arith}
 use mathlib.Core.Path.{_≡_, sym, _∙_, ap}
 use mathlib.Core.List.{List, map}
 use lib.ListN.{length, getD, replicate, length-replicate}
-use Rattle.scope.specs.Limits.{mostCuts, mostSlots, mostLinks, mostMessages, tableSize, secondsSize, weightsSize, topsSize, longestRow}
+use Rattle.scope.specs.Limits.{mostCuts, mostSlots, mostLinks, mostMessages, tableSize, secondsSize, longestRow}
 use Rattle.scope.specs.Plan.{messageCount, linkCount, timeoutOf, firstMessage, messagesAt, planOf}
 use Rattle.scope.specs.Slot.{onFirst}
 use Rattle.scope.specs.Cycle.{tableOf, positions}
@@ -13,8 +13,9 @@ use Rattle.rows.proofs.Parts.{message-count, link-count, timeout-is}
 use Rattle.rows.proofs.Walked.{walked}
 use Rattle.table.specs.Table.{Table}
 use Rattle.bound.specs.Weights.{WeighsAll, TopsAll}
-use Rattle.strips.specs.Filled.{Filled}
-use Rattle.strips.proofs.Lent.{strip-hits, lent as bounds-of}
+use Rattle.bound.specs.Ends.{EndsOf, StripsEndsOf}
+use Rattle.strips.specs.Filled.{MayFill, Filled}
+use Rattle.strips.proofs.Lent.{touch-hits, strip-hits, lent as bounds-of}
 use Rattle.forms.proofs.Theorems.{row-most}
 use Rattle.plan.specs.Answers.{GoodRow}
 use Rattle.step.specs.declared.Standing.{Standing}
@@ -26,7 +27,7 @@ use Rattle.search.specs.Hunt.{noHunted, MayHunt, Hunts}
 use Rattle.search.proofs.Risks.{noughts}
 use Rattle.search.proofs.Hunting.{hunts-none}
 use Rattle.verdicts.specs.declared.Opening.{Opening}
-use Rattle.verdicts.specs.Lent.{MayLend, Lent, MayAskOn}
+use Rattle.verdicts.specs.Lent.{Lent, MayAskOn}
 
 module _ (row : List ℕ) (good : GoodRow row) where
   pub lies : PlanLies row
@@ -37,7 +38,18 @@ module _ (row : List ℕ) (good : GoodRow row) where
       let l : length row ≤ longestRow = row-most row (length row) (good .form) in
       rw is (record { few = lies .messages; fit = omega (arith, lies .ends) })
 
-  module _ (table fragile seconds weights most : List ℕ) (tab : Table (tableOf (planOf row)) table) (f : Filled (planOf row) fragile seconds)
+  -- the places of robust messages may be looked up
+  pub may-fill : (fragile seconds : List ℕ) → length fragile ≡ tableSize → seconds ≡ replicate secondsSize 0 → MayFill row fragile seconds
+  may-fill fragile seconds long zeros =
+      record {
+        good = good;
+        long = long;
+        bytes = ap length zeros ∙ length-replicate {A = ℕ} secondsSize 0;
+        none = λ k. ap (λ (l : List ℕ). getD l k 0) zeros ∙ noughts secondsSize k;
+      }
+
+  module _ (table fragile seconds touchEnds stripEnds weights most : List ℕ) (tab : Table (tableOf (planOf row)) table)
+      (f : Filled (planOf row) fragile seconds) (te : EndsOf table touchEnds) (se : StripsEndsOf fragile seconds stripEnds)
       (w : WeighsAll table fragile seconds weights) (m : TopsAll weights most) where
     time : planOf row .timeout ≤ mostSlots
     time = omega (arith, timeout-is row, lies .timeout)
@@ -49,7 +61,7 @@ module _ (row : List ℕ) (good : GoodRow row) where
     many = omega (arith, message-count row, lies .messages)
 
     pub lends : (t e n l d : ℕ) (ps : Standing) → t ≡ timeoutOf row → e ≡ linkCount row → n ≡ messageCount row → Begins row n ps →
-        Lent row table fragile seconds weights most
+        Lent row table touchEnds stripEnds weights most
         (record { asked = record { timeout = t; links = e; messages = n; least = l; need = d }; standing = ps })
     unfolding positions
     lends t e n l d ps ht he hn b =
@@ -64,7 +76,13 @@ module _ (row : List ℕ) (good : GoodRow row) where
                 owner = owner-same row lies table tab;
               };
           many = omega (arith, lies .messages);
-          strip = record { long = f .bytes .long; is = strip-hits (planOf row) time ways many fragile seconds f };
+          hit =
+              record {
+                touch = te .long;
+                strip = se .long;
+                touched = touch-hits (planOf row) time ways many table touchEnds tab te;
+                stripped = strip-hits (planOf row) time ways many fragile seconds f stripEnds se;
+              };
           heavy = w .long;
           tops = m .tops .long;
           bounds = λ l need h.
@@ -81,35 +99,20 @@ module _ (row : List ℕ) (good : GoodRow row) where
               };
         }
 
--- what is lent has room, and its seconds are 0
-pub may-lend : (row : List ℕ) → GoodRow row → (table fragile seconds weights most : List ℕ) → length table ≡ tableSize →
-    length fragile ≡ tableSize →
-    seconds ≡ replicate secondsSize 0 → length weights ≡ weightsSize → length most ≡ topsSize → MayLend row table fragile seconds weights most
-may-lend row good table fragile seconds weights most entries breaks zeros heavy tops =
-    record {
-      good = good;
-      entries = entries;
-      breaks = breaks;
-      bytes = ap length zeros ∙ length-replicate {A = ℕ} secondsSize 0;
-      none = λ k. ap (λ (l : List ℕ). getD l k 0) zeros ∙ noughts secondsSize k;
-      heavy = heavy;
-      tops = tops;
-    }
-
 -- the list of k pairs that is asked for first
-pub may-ask-on : (row table fragile seconds weights most : List ℕ) (o : Opening) → Lent row table fragile seconds weights most o → (l k : ℕ) →
-    l ≤ o .asked .messages → k ≤ mostCuts → MayAskOn row table fragile seconds weights most o l 0 k
-may-ask-on row table fragile seconds weights most o is l k least few =
+pub may-ask-on : (row table touchEnds stripEnds weights most : List ℕ) (o : Opening) → Lent row table touchEnds stripEnds weights most o →
+    (l k : ℕ) → l ≤ o .asked .messages → k ≤ mostCuts → MayAskOn row table touchEnds stripEnds weights most o l 0 k
+may-ask-on row table touchEnds stripEnds weights most o is l k least few =
     record { lent = is; least = least; few = few; within = omega arith; before = λ i z. absurd (omega arith) }
 
-module _ (row table fragile seconds weights most : List ℕ) (o : Opening) (l low k : ℕ)
-    (m : MayAskOn row table fragile seconds weights most o l low k) where
+module _ (row table touchEnds stripEnds weights most : List ℕ) (o : Opening) (l low k : ℕ)
+    (m : MayAskOn row table touchEnds stripEnds weights most o l low k) where
   -- every list leaves 0 arrivals
   pub asks-nought : (h : Hunted) → l ≡ 0 → h ≡ noHunted → Hunts row l k h
   asks-nought h z is = hunts-none row l k h is (λ i le x long good fails. omega arith)
 
   pub asks : (need : ℕ) → need ≡ o .asked .messages + 1 - l →
-      MayHunt row table fragile seconds weights most
+      MayHunt row table touchEnds stripEnds weights most
       (record { timeout = o .asked .timeout; links = o .asked .links; messages = o .asked .messages; least = l; need = need }) (o .standing)
       low k
   asks need e =
@@ -126,7 +129,7 @@ module _ (row table fragile seconds weights most : List ℕ) (o : Opening) (l lo
                     messages = p .messages;
                     owner = p .owner;
                   };
-              strip = m .lent .strip;
+              hit = m .lent .hit;
               heavy = m .lent .heavy;
               tops = m .lent .tops;
               small = omega (arith, m .lent .many);

@@ -4,6 +4,7 @@
 use scope::Answer;
 use scope::Refusal;
 use scope::limits::CUTS;
+use scope::limits::ENDS;
 use scope::limits::SECONDS;
 use scope::limits::TABLE;
 use scope::limits::TOPS;
@@ -29,22 +30,26 @@ pub struct Opening {
     pub standing: Standing,
 }
 
-// What the search is lent of a good row: its table, what strips a message, the weights, and how it begins; on seconds that are 0.
+// What the search is lent of a good row: its table, the slots in which a pair touches or strips a message, the weights, and how it begins.
 pub fn lend(
     row: &[u16],
     table: &mut [u8],
-    fragile: &mut [u8],
-    seconds: &mut [u8],
+    touches: &mut [u16],
+    strips: &mut [u16],
     weights: &mut [u16],
     most: &mut [u16],
 ) -> Opening
-    requires { ⌜ MayLend (now row) (now table) (now fragile) (now seconds) (now weights) (now most) ⌝ }
-    ensures { λ r. ⌜ Lent (now (row .entry)) (now (table .exit)) (now (fragile .exit)) (now (seconds .exit)) (now (weights .exit))
+    requires { ⌜ MayLend (now row) (now table) (now touches) (now strips) (now weights) (now most) ⌝ }
+    ensures { λ r. ⌜ Lent (now (row .entry)) (now (table .exit)) (now (touches .exit)) (now (strips .exit)) (now (weights .exit))
         (now (most .exit)) r ⌝ }
 {
+    let mut fragile = [0u8; TABLE];
+    let mut seconds = [0u8; SECONDS];
     table::fill_table(row, table);
-    strips::fill(row, fragile, seconds);
-    bound::weigh_all(table, fragile, seconds, weights);
+    strips::fill(row, &mut fragile, &mut seconds);
+    bound::ends(table, touches);
+    bound::strip_ends(&fragile, &seconds, strips);
+    bound::weigh_all(table, &fragile, &seconds, weights);
     bound::tops_all(weights, most);
     let messages = rows::messages(row);
     let standing = cycle::start_all(row, messages);
@@ -62,8 +67,8 @@ pub fn lend(
 pub fn ask(
     row: &[u16],
     table: &[u8],
-    fragile: &[u8],
-    seconds: &[u8],
+    touches: &[u16],
+    strips: &[u16],
     weights: &[u16],
     most: &[u16],
     o: Opening,
@@ -71,7 +76,7 @@ pub fn ask(
     low: usize,
     k: usize,
 ) -> Hunted
-    requires { ⌜ MayAskOn (now row) (now table) (now fragile) (now seconds) (now weights) (now most) o l low k ⌝ }
+    requires { ⌜ MayAskOn (now row) (now table) (now touches) (now strips) (now weights) (now most) o l low k ⌝ }
     ensures { λ r. ⌜ Hunts (now (row .entry)) l k r ⌝ }
 {
     if l == 0 {
@@ -86,7 +91,7 @@ pub fn ask(
         least: l,
         need: bound::need(a.messages, l),
     };
-    search::first_list(row, table, fragile, seconds, weights, most, b, ps, low, k)
+    search::first_list(row, table, touches, strips, weights, most, b, ps, low, k)
 }
 
 // The first failing list of a row that may be asked about.
@@ -95,19 +100,19 @@ fn decide(row: &[u16], k: usize, l: usize) -> Hunted
     ensures { λ r. ⌜ Hunts (now (row .entry)) l k r ⌝ }
 {
     let mut table = [0u8; TABLE];
-    let mut fragile = [0u8; TABLE];
-    let mut seconds = [0u8; SECONDS];
+    let mut touches = [0u16; ENDS];
+    let mut strips = [0u16; ENDS];
     let mut weights = [0u16; WEIGHTS];
     let mut most = [0u16; TOPS];
     let o = lend(
         row,
         &mut table,
-        &mut fragile,
-        &mut seconds,
+        &mut touches,
+        &mut strips,
         &mut weights,
         &mut most,
     );
-    ask(row, &table, &fragile, &seconds, &weights, &most, o, l, 0, k)
+    ask(row, &table, &touches, &strips, &weights, &most, o, l, 0, k)
 }
 
 // The verdict on a good row: refusals 11 and 13, or the answer.

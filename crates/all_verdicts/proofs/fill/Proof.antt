@@ -1,15 +1,9 @@
 -- `all_verdicts::fill` meets its contract: the search is asked of what it is lent.
 use native.Mathlib.Omega.{arith}
-use Rattle.verdicts.proofs.Asking.{may-lend, may-ask-on}
-use mathlib.Core.Path.{refl}
+use Rattle.verdicts.proofs.Asking.{may-ask-on}
 use borrow.Author.Needs.{needs}
 use Rattle.all_verdicts.proofs.fill.Statement.{statement}
 use Rattle.all_verdicts.proofs.fill.Tie as tie
-
-lend-requires : tie.Need-lend-requires
-lend-requires c κs =
-    may-lend _ (c .before .before .before .before .before .before .before .pre .good) _ _ _ _ _ (search needs) (search needs) refl
-    (search needs) (search needs)
 
 descend-requires : tie.Need-descend-requires
 descend-requires c κs =
@@ -28,6 +22,6 @@ descend-requires c κs =
 pub fill-spec : {M : Type 1} → statement M
 fill-spec =
     tie.close
-    (tie.spec (λ c. search needs) (λ c. search needs) (λ c. search needs) (λ c. search needs) (λ c. search needs) lend-requires
+    (tie.spec (λ c. search needs) (λ c. search needs) (λ c. search needs) (λ c. search needs) (λ c. search needs) (λ c κs. search needs)
     (λ c. search needs) (λ c. search needs) (λ c. search needs) (λ c. search needs) (λ c. search needs) descend-requires (λ c. search needs)
     (λ c. search needs))

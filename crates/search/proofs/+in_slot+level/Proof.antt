@@ -78,10 +78,10 @@ level-calls t = (
 )
 
 abbrev in-inv : in-slot-lts.InvT-loop
-in-inv row table fragile seconds weights most a hits ps p n s e rest down links i₀ i = Looking row weights most a p n s e i rest
+in-inv row table touchEnds stripEnds weights most a hits ps p n s e rest down links i₀ i = Looking row weights most a p n s e i rest
 
 abbrev in-less : in-slot-lts.MeasureT-loop
-in-less row table fragile seconds weights most a hits ps p n s e rest down links i₀ i = links - i
+in-less row table touchEnds stripEnds weights most a hits ps p n s e rest down links i₀ i = links - i
 
 in-slot-slice-aggregate-next-link : (t : ℕ) → in-slot-lts.Need-slice-aggregate-next-link (in-calls t) (in-slot-at t) in-slot.Post in-inv in-less
 in-slot-slice-aggregate-next-link t c = search needs
@@ -187,10 +187,10 @@ in-slot-returns-2 t c =
     (c .before .before .loop .inv) _ (c .before .loop-test .left) (c .nothing .ensures)
 
 abbrev level-inv : level-lts.InvT-loop
-level-inv row table fragile seconds weights most a hits p n down qs₀ s₀ e₀ qs s e = Climbing row a p n s e qs
+level-inv row table touchEnds stripEnds weights most a hits p n down qs₀ s₀ e₀ qs s e = Climbing row a p n s e qs
 
 abbrev level-less : level-lts.MeasureT-loop
-level-less row table fragile seconds weights most a hits p n down qs₀ s₀ e₀ qs s e = a .timeout - s
+level-less row table touchEnds stripEnds weights most a hits p n down qs₀ s₀ e₀ qs s e = a .timeout - s
 
 level-play-out-requires : (t : ℕ) → level-lts.Need-play-out-requires (level-calls t) (level-at t) level.Post level-inv level-less
 level-play-out-requires t c κs = may-play-out _ _ _ _ _ _ _ _ _ _ _ (c .before .before .before .before .before .before .before .pre .1)

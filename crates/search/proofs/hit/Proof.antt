@@ -4,7 +4,7 @@ use Rattle.search.proofs.hit.Statement.{statement}
 use Rattle.search.proofs.hit.Tie as tie
 
 returns : tie.Need-returns
-returns c = record { touched = c .before .before .before .before .mark .ensures; stripped = c .before .bare .ensures }
+returns c = record { touched = c .before .before .before .before .mark .ensures; stripped = c .before .mark2 .ensures }
 
 pub hit-spec : {M : Type 1} → statement M
 hit-spec =
