@@ -31,6 +31,6 @@ returns c = stripping-done _ _ _ _ (c .before .loop .inv) (c .loop-test .left)
 pub strip-ends-spec : {M : Type 1} → statement M
 strip-ends-spec =
     tie.close
-    (tie.spec Inv-loop μ-loop (λ c κs. search needs) loop-holds (λ c. search needs) (λ c. search needs) (λ c. search needs)
-    (λ c. search needs) (λ c. search needs) (λ c. search needs) (λ c. search needs) (λ c. search needs) slice-write-numbers
-    (λ c. search needs) loop-again (λ c. search needs) loop-again-2 (λ c. search needs) returns)
+    (tie.spec Inv-loop μ-loop (λ c κs. search needs) loop-holds (λ c. search needs) (λ c. search needs) (λ c. search needs) (λ c. search needs)
+    (λ c. search needs) (λ c. search needs) (λ c. search needs) (λ c. search needs) slice-write-numbers (λ c. search needs) loop-again
+    (λ c. search needs) loop-again-2 (λ c. search needs) returns)

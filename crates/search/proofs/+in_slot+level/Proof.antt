@@ -156,7 +156,8 @@ in-slot-add-next-link t c =
 in-slot-next-link-requires-2 : (t : ℕ) → in-slot-lts.Need-next-link-requires-2 (in-calls t) (in-slot-at t) in-slot.Post in-inv in-less
 in-slot-next-link-requires-2 t c κs = (
   may-try _ _ _ _ _ _ _ _ _ _ _ _ _ _
-      (c .before .before .before .before .before .before .before .before .before .before .before .before .before .before .before .before .pre .1),
+      (c .before .before .before .before .before .before .before .before .before .before .before .before .before .before .before .before .pre
+      .1),
   omega (arith, c .before .before .before .before .before .loop-test .taken),
   c .before .before .before .before .before .before .before .before .before .before .before .before .before .before .before .before .pre .1
       .ready .play .few,

@@ -67,5 +67,5 @@ lend-spec =
     tie.close
     (tie.spec fill-table-requires (λ c. search needs) (λ c. search needs) fill-requires (λ c κs. search needs) (λ c. search needs)
     (λ c. search needs) (λ c κs. search needs) (λ c. search needs) (λ c. search needs) (λ c κs. search needs) tops-all-requires
-    (λ c κs. search needs) start-all-requires (λ c κs. search needs) (λ c κs. search needs) same-length (λ c. search needs)
-    (λ c. search needs) (λ c. search needs) (λ c. search needs) returns)
+    (λ c κs. search needs) start-all-requires (λ c κs. search needs) (λ c κs. search needs) same-length (λ c. search needs) (λ c. search needs)
+    (λ c. search needs) (λ c. search needs) returns)
