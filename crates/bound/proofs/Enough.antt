@@ -14,7 +14,7 @@ use Rattle.bound.specs.Harmed.{hers, isHit, away, harmed, CountsLosses}
 use Rattle.bound.specs.Strips.{strips, bares, bared}
 use Rattle.bound.specs.Bounds.{Fails, weightIn, topIn, frontIn, Enough, BoundOn, Bounds}
 use Rattle.order.proofs.Parts.{slot-right, link-right, pairs-both}
-use Rattle.bound.proofs.Sums.{sum-le, sum-plus}
+use Rattle.sets.proofs.Sums.{sum-le, sum-plus}
 use Rattle.bound.proofs.Touch.{touches-count}
 use Rattle.bound.proofs.Harmed.{loses-no-more-from}
 use Rattle.bound.proofs.Last.{one-last}

@@ -15,10 +15,10 @@ use Rattle.scope.specs.Cycle.{orderOf, tableOf, start, positions, arrived, arri
 use Rattle.laws.specs.Message.{positionOf}
 use Rattle.laws.proofs.Turned.{at-target-stays}
 use Rattle.laws.proofs.Replay.{lengths-kept, positions-follow, depends-on-these-slots}
-use Rattle.bound.specs.Sums.{sumOf, oneIf}
+use Rattle.sets.specs.Sums.{sumOf, oneIf}
 use Rattle.bound.specs.Touch.{harm, LosesNoMore}
 use Rattle.bound.specs.Harmed.{hers, isHit, stands, harmed, NotBefore, CountsLosses, LosesNoMoreFrom}
-use Rattle.bound.proofs.Sums.{sum-le, sum-first, sum-ones, sum-plus, sum-swap, sum-zero}
+use Rattle.sets.proofs.Sums.{sum-le, sum-first, sum-ones, sum-plus, sum-swap, sum-zero}
 use Rattle.bound.proofs.Touch.{touches-count}
 use Rattle.order.proofs.Parts.{pairs-both}
 use Rattle.bound.proofs.Parts.{harm-both, cut-before}

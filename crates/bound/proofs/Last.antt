@@ -9,7 +9,7 @@ use Rattle.scope.specs.Plan.{Plan}
 use Rattle.scope.specs.Cuts.{pairs, cutSlot, cutLink, isCutList}
 use Rattle.scope.proofs.Cuts.{slot-below, link-below}
 use Rattle.order.proofs.Parts.{slot-right, link-right, pairs-both}
-use Rattle.bound.specs.Sums.{sumOf}
+use Rattle.sets.specs.Sums.{sumOf}
 use Rattle.bound.specs.Touch.{harm}
 use Rattle.bound.specs.Harmed.{harmed, NotBefore}
 use Rattle.bound.specs.Strips.{bared}

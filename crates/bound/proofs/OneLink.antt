@@ -8,7 +8,7 @@ use lib.Dec.{eqb}
 use borrow.Author.Tests.{eqb-true, ne-eqb}
 use Rattle.scope.specs.Plan.{Plan}
 use Rattle.scope.specs.Cycle.{tableOf}
-use Rattle.bound.specs.Sums.{sumOf}
+use Rattle.sets.specs.Sums.{sumOf}
 use Rattle.bound.specs.Touch.{touchedIn, overCut, touches}
 use Rattle.bound.specs.Harmed.{hersIn, hers}
 

@@ -13,7 +13,7 @@ use borrow.Author.Tests.{eqb-true, eqb-false}
 use native.Mathlib.Numerals.{add-one}
 use Rattle.scope.specs.Limits.{mostSlots, mostLinks, mostMessages, tableSize, weightsSize, topsSize}
 use Rattle.table.specs.Table.{indexOf}
-use Rattle.bound.specs.Sums.{sumOf}
+use Rattle.sets.specs.Sums.{sumOf}
 use Rattle.bound.specs.Seconds.{secondIn, onLink}
 use Rattle.bound.specs.Weights.{entriesFrom, below, mostOnLink, ForLinks, OnLinks, Weighs, WeighsStrips, MayAdd, Added, WeighsAll, Tops}
 use Rattle.bound.specs.Weights.{TopsEach}

@@ -7,7 +7,7 @@ use Rattle.scope.specs.Cuts.{isCut}
 use Rattle.scope.specs.Cycle.{foremost, tableOf, moves, slot, positions}
 use Rattle.scope.specs.Spare.{entriesOf, entries, hasSecondThrough, lowerThrough, delay}
 use Rattle.scope.specs.Good.{has}
-use Rattle.bound.specs.Sums.{sumOf}
+use Rattle.sets.specs.Sums.{sumOf}
 use Rattle.bound.specs.Strips.{fragileOf, fragilePaths, cutsOneOf, throughRobust}
 use Rattle.bound.specs.Sharper.{Sharper}
 

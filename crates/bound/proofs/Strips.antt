@@ -27,12 +27,12 @@ use Rattle.laws.proofs.Kept.{starts}
 use Rattle.laws.proofs.Cuts.{not-cut}
 use Rattle.laws.proofs.Latest.{stranded, left-from}
 use Rattle.laws.proofs.Slack.{leaves-in-time, slack-under-cuts, has-left}
-use Rattle.bound.specs.Sums.{oneIf}
+use Rattle.sets.specs.Sums.{oneIf}
 use Rattle.bound.specs.Touch.{harm}
 use Rattle.bound.specs.Harmed.{hers, isTouched, stands}
 use Rattle.bound.specs.Strips.{isRobust, fragileOf, fragilePlan, cutsOneOf, throughRobust, strips, isStripped}
 use Rattle.bound.specs.Strips.{StripsCount, LosesOnly, LosesNoMoreThanBoth}
-use Rattle.bound.proofs.Sums.{sum-le, sum-plus, sum-term}
+use Rattle.sets.proofs.Sums.{sum-le, sum-plus, sum-term}
 use Rattle.bound.proofs.Touch.{all-hers, unharmed, touches-count}
 use Rattle.bound.proofs.Harmed.{loses-each, was-away}
 use Rattle.bound.proofs.Fragile.{fragile-rises, fragile-links, fragile-gives}

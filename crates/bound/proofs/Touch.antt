@@ -22,10 +22,10 @@ use Rattle.laws.proofs.Table.{table-gives}
 use Rattle.laws.proofs.Kept.{starts}
 use Rattle.laws.proofs.Untouched.{untouched-arrives}
 use Rattle.laws.proofs.Cuts.{not-cut}
-use Rattle.bound.specs.Sums.{sumOf, oneIf}
+use Rattle.sets.specs.Sums.{sumOf, oneIf}
 use Rattle.bound.specs.Touch.{harm, touchedIn, overCut, touches}
 use Rattle.bound.specs.Harmed.{hersIn, hers, isTouched, stands, TouchesCount}
-use Rattle.bound.proofs.Sums.{sum-le, sum-term, sum-swap, sum-zero, one-of-them}
+use Rattle.sets.proofs.Sums.{sum-le, sum-term, sum-swap, sum-zero, one-of-them}
 
 -- what all messages have of a link is what the link has
 of-link : (owner : ℕ → ℕ → ℕ) (n slots s e : ℕ) → sumOf (λ m. hersIn owner slots m s e) n ≤ touchedIn owner slots s e

@@ -10,10 +10,10 @@ use lib.Dec.{ltb, eqb}
 use borrow.Author.Tests.{ltb-true, ltb-false, eqb-true, eqb-false, lt-ltb}
 use Rattle.scope.specs.Limits.{mostSlots, mostLinks, tableSize}
 use Rattle.table.specs.Table.{entryAt}
-use Rattle.bound.specs.Sums.{sumOf, oneIf}
+use Rattle.sets.specs.Sums.{sumOf, oneIf}
 use Rattle.bound.specs.Touch.{touchedIn}
 use Rattle.bound.specs.Weights.{entriesFrom, below, mostOnLink, laterIn, ForLinks, OnLinks, WeighsFrom, Weighs, WeighsStrips, Tops}
-use Rattle.bound.proofs.Sums.{sum-same, sum-first, tests-few}
+use Rattle.sets.proofs.Sums.{sum-same, sum-first, tests-few}
 
 from-more : (table : List ℕ) (s e : ℕ) → s < mostSlots → entriesFrom table s e ≡ oneIf (ltb 0 (entryAt table s e)) + entriesFrom table (s + 1) e
 from-more table s e h =

@@ -1,4 +1,3 @@
-pub mod Sums
 pub mod Touch
 pub mod Harmed
 pub mod Strips

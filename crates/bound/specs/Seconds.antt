@@ -5,7 +5,7 @@ use mathlib.Core.Bool.{Bool}
 use mathlib.Core.List.{List}
 use lib.ListN.{length, getD}
 use Rattle.scope.specs.Limits.{mostLinks, mostMessages, secondsSize}
-use Rattle.bound.specs.Sums.{sumOf, oneIf}
+use Rattle.sets.specs.Sums.{sumOf, oneIf}
 
 -- the byte of link e and message m
 abbrev pub secondIn : List ℕ → ℕ → ℕ → ℕ

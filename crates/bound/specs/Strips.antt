@@ -13,7 +13,7 @@ use Rattle.scope.specs.Slot.{atTarget}
 use Rattle.scope.specs.Cuts.{cutsLink}
 use Rattle.scope.specs.Cycle.{orderOf, arrivals}
 use Rattle.scope.specs.Spare.{delay, noSecond}
-use Rattle.bound.specs.Sums.{sumOf, oneIf}
+use Rattle.sets.specs.Sums.{sumOf, oneIf}
 use Rattle.bound.specs.Touch.{touches}
 use Rattle.bound.specs.Harmed.{hers, isHit, isTouched, stands, away, CountsLosses}
 

@@ -10,7 +10,7 @@ use Rattle.scope.specs.Plan.{Plan}
 use Rattle.scope.specs.Good.{rules}
 use Rattle.scope.specs.Cuts.{cutSlot, cutLink, cutsLink}
 use Rattle.scope.specs.Cycle.{tableOf, arrivals}
-use Rattle.bound.specs.Sums.{sumOf, oneIf}
+use Rattle.sets.specs.Sums.{sumOf, oneIf}
 
 -- the weight of the first n pairs of a list
 abbrev pub harm : (ℕ → ℕ → ℕ) → List ℕ → ℕ → ℕ

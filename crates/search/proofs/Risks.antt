@@ -19,12 +19,12 @@ use Rattle.step.specs.Where.{positionOf}
 use Rattle.step.proofs.Steps.{home-is}
 use Rattle.step.specs.declared.Standing.{Standing}
 use Rattle.step.specs.Stand.{home}
-use Rattle.bound.specs.Sums.{sumOf, oneIf}
+use Rattle.sets.specs.Sums.{sumOf, oneIf}
 use Rattle.bound.specs.Touch.{harm}
 use Rattle.bound.specs.Harmed.{hers, isTouched, stands, away}
 use Rattle.bound.specs.Strips.{strips, isStripped, lost}
 use Rattle.bound.specs.Ends.{hitsIn}
-use Rattle.bound.proofs.Sums.{sum-le}
+use Rattle.sets.proofs.Sums.{sum-le}
 use Rattle.bound.proofs.Parts.{harm-both}
 use Rattle.order.proofs.Parts.{pairs-both}
 use Rattle.search.specs.declared.Hits.{Hits}

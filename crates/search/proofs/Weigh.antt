@@ -12,7 +12,7 @@ use Rattle.scope.specs.Limits.{mostSlots, mostLinks, tableSize}
 use Rattle.scope.specs.Plan.{Plan}
 use Rattle.scope.specs.Cuts.{pairs, cutSlot, cutLink, isCutList}
 use Rattle.scope.proofs.Cuts.{slot-below, link-below}
-use Rattle.bound.specs.Sums.{sumOf}
+use Rattle.sets.specs.Sums.{sumOf}
 use Rattle.bound.specs.Touch.{harm}
 use Rattle.bound.specs.Harmed.{NotBefore}
 use Rattle.bound.specs.Bounds.{frontIn, BoundOn}

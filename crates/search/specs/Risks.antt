@@ -8,7 +8,7 @@ use lib.Dec.{ltb, eqb}
 use Rattle.scope.specs.Limits.{mostCuts, mostSlots, mostLinks, mostMessages, mostEntries, weightsSize, topsSize, endsSize}
 use Rattle.step.specs.declared.Position.{Position}
 use Rattle.step.specs.Stand.{home}
-use Rattle.bound.specs.Sums.{sumOf, oneIf}
+use Rattle.sets.specs.Sums.{sumOf, oneIf}
 use Rattle.bound.specs.Ends.{hitsIn}
 use Rattle.bound.specs.Marks.{Marked}
 use Rattle.search.specs.declared.Hits.{Hits}

@@ -17,7 +17,7 @@ ghost use lib.ListN.{length, getD};
 ghost use lib.Dec.{ltb};
 ghost use Rattle.scope.specs.Limits.{mostCuts, mostSlots, mostLinks};
 ghost use Rattle.scope.specs.Lowest.{seek};
-ghost use Rattle.bound.specs.Sums.{oneIf};
+ghost use Rattle.sets.specs.Sums.{oneIf};
 ghost use Rattle.search.specs.Hunt.{cutsOf, withPair, noPair, noHits, restOf, stripsWith, lossWith, tooLight, passes, Fits, noFound};
 ghost use Rattle.search.specs.Hunt.{noHunted, StandAt};
 ghost use Rattle.search.specs.Hunt.{MayPlayOut, MayAdvance, MaySeek, MaySeekIn, Sought, SoughtIn, MayHunt, Hunts};

@@ -18,7 +18,7 @@ use Rattle.laws.proofs.Good.{keeps-rules, there-or-not}
 use Rattle.rows.specs.View.{Is, IsPlace}
 use Rattle.rows.specs.declared.RowPlace.{RowPlace}
 use Rattle.spare.proofs.Loops.{numbers-more, numbers-none}
-use Rattle.bound.specs.Sums.{oneIf}
+use Rattle.sets.specs.Sums.{oneIf}
 use Rattle.bound.specs.Strips.{isRobust, cutsOneOf}
 use Rattle.strips.specs.Filled.{Costs, costOf, inTime, SecondsAreLinks}
 

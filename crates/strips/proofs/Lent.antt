@@ -13,7 +13,7 @@ use Rattle.scope.specs.Plan.{Plan, pathOf}
 use Rattle.scope.specs.Good.{rules}
 use Rattle.scope.specs.Cycle.{tableOf}
 use Rattle.table.specs.Table.{Table, entryAt}
-use Rattle.bound.specs.Sums.{sumOf, oneIf}
+use Rattle.sets.specs.Sums.{sumOf, oneIf}
 use Rattle.bound.specs.Touch.{touchedIn, touches}
 use Rattle.bound.specs.Harmed.{hersIn, hers}
 use Rattle.bound.specs.Strips.{fragilePlan, throughRobust, strips, bares}
@@ -21,7 +21,7 @@ use Rattle.bound.specs.Seconds.{secondIn, onLink}
 use Rattle.bound.specs.Weights.{entriesFrom, WeighsAll, TopsAll}
 use Rattle.bound.specs.Ends.{endIn, hitsIn, EndsOf, StripsEndsOf}
 use Rattle.bound.specs.Bounds.{Fails, weightIn, Bounds}
-use Rattle.bound.proofs.Sums.{sum-same, sum-fewer, tests-few, tests-before}
+use Rattle.sets.proofs.Sums.{sum-same, sum-fewer, tests-few, tests-before}
 use Rattle.bound.proofs.OneLink.{hers-most, touches-most}
 use Rattle.bound.proofs.Weights.{entries-fall}
 use Rattle.bound.proofs.Enough.{AtMost, bounds}

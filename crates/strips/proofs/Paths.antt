@@ -22,7 +22,7 @@ use Rattle.plan.specs.Answers.{GoodRow}
 use Rattle.spare.proofs.Loops.{numbers-more, numbers-none, messages-more, messages-none}
 use Rattle.spare.proofs.Held.{entries-few}
 use Rattle.spare.proofs.Bounds.{lower-few}
-use Rattle.bound.specs.Sums.{oneIf}
+use Rattle.sets.specs.Sums.{oneIf}
 use Rattle.strips.specs.Filled.{Put, More, MayMore, MayCount, Counted, MayCountAll, CountedAll}
 use Rattle.strips.proofs.Puts.{put-none, put-same, put-then, Upto, upto-none, upto-next, upto-all, more-none, more-same, more-then}
 use Rattle.strips.proofs.Puts.{may-first, may-then, may-same}

@@ -10,7 +10,7 @@ use lib.Dec.{ltb, eqb}
 use borrow.Author.Count.{below-more}
 use borrow.Author.Tests.{ltb-true, ltb-false, lt-ltb, le-ltb, eqb-true, eqb-false, eq-eqb, ne-eqb}
 use Rattle.scope.specs.Limits.{mostLinks, mostMessages, secondsSize}
-use Rattle.bound.specs.Sums.{oneIf}
+use Rattle.sets.specs.Sums.{oneIf}
 use Rattle.bound.specs.Seconds.{secondIn, Seconds}
 use Rattle.strips.specs.Filled.{Put, More, MayMore}
 

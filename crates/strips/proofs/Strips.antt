@@ -23,7 +23,7 @@ use Rattle.rows.proofs.Parts.{places-all, places-more, places-none, message-cou
 use Rattle.plan.specs.Answers.{GoodRow}
 use Rattle.spare.proofs.Held.{entries-few}
 use Rattle.spare.proofs.Bounds.{lower-few}
-use Rattle.bound.specs.Sums.{oneIf}
+use Rattle.sets.specs.Sums.{oneIf}
 use Rattle.bound.specs.Seconds.{secondIn}
 use Rattle.bound.specs.Strips.{isRobust, fragileOf, fragilePlan, cutsOneOf, throughRobust}
 use Rattle.bound.proofs.Fragile.{fragile-long, fragile-path}

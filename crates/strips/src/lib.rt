@@ -16,7 +16,7 @@ ghost use Rattle.scope.specs.Plan.{planOf, numbersAt, placeAt, messageAt, timeo
 ghost use Rattle.scope.specs.Good.{has};
 ghost use Rattle.rows.specs.View.{Is};
 ghost use Rattle.bound.specs.Seconds.{secondIn};
-ghost use Rattle.bound.specs.Sums.{oneIf};
+ghost use Rattle.sets.specs.Sums.{oneIf};
 ghost use Rattle.strips.specs.Filled.{MayFill, Filled, Put, More, MayMore, MayCount, Counted, MayCountAll, CountedAll, costOf, inTime};
 ghost use Rattle.strips.specs.Filled.{MayStrip, StrippedPlace, StrippedMessage, MayStripAll};
 

@@ -1,0 +1,1 @@
+// Sets of messages, and how many of them there are (specs/Sums).
