@@ -34,9 +34,13 @@ mostEntries = 64
 abbrev pub endsSize : ℕ
 endsSize = 4096
 
--- three weights for each slot and link, one table after another
+-- a number for each slot and link, slot by slot, and a row of links behind the last slot
+abbrev pub planeSize : ℕ
+planeSize = 4160
+
+-- three weights for each, one after another
 abbrev pub weightsSize : ℕ
-weightsSize = 12288
+weightsSize = 12480
 
 -- a number for each count of messages, from 0 on; and that for each slot
 abbrev pub frontSize : ℕ

@@ -23,8 +23,10 @@ pub const ENTRIES: usize = 64;
 // A number for each link and entry, link by link.
 pub const ENDS: usize = LINKS * ENTRIES;
 
-// Three weights for each slot and link.
-pub const WEIGHTS: usize = 3 * TABLE;
+// A number for each slot and link, slot by slot, and a row of links behind the last slot; three weights for each.
+pub const PLANE: usize = TABLE + LINKS;
+
+pub const WEIGHTS: usize = 3 * PLANE;
 
 // A number for each count of messages, from 0 on; and that for each slot.
 pub const FRONT: usize = MESSAGES + 1;
