@@ -1,1 +1,42 @@
-// Sets of messages, and how many of them there are (specs/Sums).
+// Sets of messages (specs/Sets), each held in one number, and how many messages are in one: a sum (specs/Sums). Whoever uses them knows
+// only who is in a set.
+ghost use Prim.Native.Nat.{_≤_, _<_};
+ghost use mathlib.Core.Path.{_≡_};
+ghost use Rattle.scope.specs.Limits.{mostMessages};
+ghost use Rattle.sets.specs.Sets.{size, IsOneIf, IsNamed, IsEither, IsBoth};
+
+// The set of one message, or of nobody.
+pub fn one_if(there: bool, m: usize) -> u32
+    requires { ⌜ m < mostMessages ⌝ }
+    ensures { λ r. ⌜ IsOneIf there m r ⌝ }
+{
+    (there as u32) << m
+}
+
+// The set of the message that an entry of a table names: its number plus one.
+pub fn named(w: u8) -> u32
+    ensures { λ r. ⌜ IsNamed w r ⌝ }
+{
+    if 32 < w { 0 } else { ((1u64 << w) >> 1) as u32 }
+}
+
+// Those in either of two sets.
+pub fn either(a: u32, b: u32) -> u32
+    ensures { λ r. ⌜ IsEither a b r ⌝ }
+{
+    a | b
+}
+
+// Those in both.
+pub fn both(a: u32, b: u32) -> u32
+    ensures { λ r. ⌜ IsBoth a b r ⌝ }
+{
+    a & b
+}
+
+// How many there are.
+pub fn count(a: u32) -> usize
+    ensures { λ r. ⌜ (r ≡ size a) × (r ≤ mostMessages) ⌝ }
+{
+    u32::count_ones(a) as usize
+}
