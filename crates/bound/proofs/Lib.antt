@@ -12,3 +12,4 @@ pub mod Planes
 pub mod Fronting
 pub mod Ending
 pub mod Marking
+pub mod Gathering

@@ -8,3 +8,4 @@ pub mod Weights
 pub mod Fronts
 pub mod Ends
 pub mod Marks
+pub mod Sets

@@ -22,6 +22,7 @@ ghost use Rattle.bound.specs.Bounds.{frontOf, frontIn};
 ghost use Rattle.bound.specs.Fronts.{Larger, MayFront, Bucketed, Carried, RunsDown, Fronts};
 ghost use Rattle.bound.specs.Ends.{hitsIn, EndsOf, MayStripEnds, StripsEndsOf};
 ghost use Rattle.bound.specs.Marks.{MayMark, Marked};
+ghost use Rattle.bound.specs.Sets.{SetsOf, StripSetsOf, MayGather, Gathered, Through, MayRow, ThroughRow, MayGatherStrips};
 
 // The weight a slot later, or a link's number where there is none.
 fn later(weights: &[u16], links: &[u16], k: usize) -> u16
@@ -299,4 +300,59 @@ pub fn mark(ends: &[u16], s: usize, e: usize, marks: &mut [u8])
         }
         marks[m] = v;
     }
+}
+
+// The set of each slot and link: those in the set of the next slot, and whom the table names.
+fn gather(table: &[u8], slots: usize, sets: &mut [u32])
+    requires { ⌜ MayGather (now table) slots (now sets) ⌝ }
+    ensures { λ _. ⌜ Gathered (now (table .entry)) slots (now (sets .entry)) (now (sets .exit)) ⌝ }
+{
+    let mut k = slots * LINKS;
+    while 0 < k {
+        k -= 1;
+        sets[k] = sets::either(sets[k + LINKS], sets::named(table[k]));
+    }
+}
+
+// The sets of those that a pair touches.
+pub fn touch_sets(table: &[u8], slots: usize, sets: &mut [u32])
+    requires { ⌜ MayGather (now table) slots (now sets) ⌝ }
+    ensures { λ _. ⌜ SetsOf (now (table .entry)) slots (now (sets .exit)) ⌝ }
+{
+    gather(table, slots, sets);
+}
+
+// The set of those who have link e on the second path of a robust place.
+fn through(seconds: &[u8], e: usize) -> u32
+    requires { ⌜ (length (now seconds) ≡ secondsSize) × (e < mostLinks) ⌝ }
+    ensures { λ r. ⌜ Through (now (seconds .entry)) e r ⌝ }
+{
+    let mut set = 0u32;
+    let mut m = 0;
+    while m < MESSAGES {
+        set = sets::either(set, sets::one_if(seconds[e * MESSAGES + m] != 0, m));
+        m += 1;
+    }
+    set
+}
+
+// Such a set for each link, in one row of a plane.
+fn through_row(seconds: &[u8], s: usize, sets: &mut [u32])
+    requires { ⌜ MayRow (now seconds) s (now sets) ⌝ }
+    ensures { λ _. ⌜ ThroughRow (now (seconds .entry)) s (now (sets .exit)) ⌝ }
+{
+    let mut e = 0;
+    while e < LINKS {
+        sets[s * LINKS + e] = through(seconds, e);
+        e += 1;
+    }
+}
+
+// The sets of those that a pair strips.
+pub fn strip_sets(fragile: &[u8], seconds: &[u8], slots: usize, sets: &mut [u32])
+    requires { ⌜ MayGatherStrips (now fragile) (now seconds) slots (now sets) ⌝ }
+    ensures { λ _. ⌜ StripSetsOf (now (fragile .entry)) (now (seconds .entry)) slots (now (sets .exit)) ⌝ }
+{
+    through_row(seconds, slots, sets);
+    gather(fragile, slots, sets);
 }

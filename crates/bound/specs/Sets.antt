@@ -1,0 +1,56 @@
+-- For each slot and link the set of messages that a pair there matters to: those that a table gives the link in the slot or later, and those
+-- that have it on the second path of a robust place. A set may hold more than these.
+use Prim.Native.Nat.{ℕ, _+_, _≤_, _<_}
+use mathlib.Core.Path.{_≡_}
+use mathlib.Core.Bool.{true}
+use mathlib.Core.List.{List}
+use lib.ListN.{length, getD}
+use Rattle.scope.specs.Limits.{mostSlots, mostLinks, mostMessages, tableSize, planeSize, secondsSize}
+use Rattle.table.specs.Table.{indexOf, entryAt}
+use Rattle.sets.specs.Sets.{has}
+use Rattle.bound.specs.Seconds.{secondIn}
+
+-- the set of slot s and link e
+abbrev pub setIn : List ℕ → ℕ → ℕ → ℕ
+setIn sets s e = getD sets (indexOf s e) 0
+
+-- a message is in the set of each slot and link that a table gives it in that slot or later, of the slots before `slots`
+pub record SetsOf (table : List ℕ) (slots : ℕ) (sets : List ℕ) : Type 0 where
+  pub long : length sets ≡ planeSize
+  pub from : (s i e m : ℕ) → s ≤ i → i < slots → e < mostLinks → m < mostMessages → entryAt table i e ≡ m + 1 → has (setIn sets s e) m ≡ true
+
+-- of a table of fragile places, and in whatever slot if it has the link on the second path of a robust place
+pub record StripSetsOf (fragile seconds : List ℕ) (slots : ℕ) (sets : List ℕ) : Type 0 where
+  pub long : length sets ≡ planeSize
+  pub from : (s i e m : ℕ) → s ≤ i → i < slots → e < mostLinks → m < mostMessages → entryAt fragile i e ≡ m + 1 → has (setIn sets s e) m ≡ true
+  pub always : (s e m : ℕ) → s < slots → e < mostLinks → m < mostMessages → 0 < secondIn seconds e m → has (setIn sets s e) m ≡ true
+
+-- the sets of a table's first slots may be put
+pub record MayGather (table : List ℕ) (slots : ℕ) (sets : List ℕ) : Type 0 where
+  pub entries : length table ≡ tableSize
+  pub few : slots ≤ mostSlots
+  pub long : length sets ≡ planeSize
+
+-- and so they are, and who was in a set of the row behind the last slot is in those of its link
+pub record Gathered (table : List ℕ) (slots : ℕ) (old new : List ℕ) : Type 0 where
+  pub sets : SetsOf table slots new
+  pub last : (s e m : ℕ) → s ≤ slots → e < mostLinks → has (setIn old slots e) m ≡ true → has (setIn new s e) m ≡ true
+
+-- who has link e on the second path of a robust place is in the set
+abbrev pub Through : List ℕ → ℕ → ℕ → Type 0
+Through seconds e set = (m : ℕ) → m < mostMessages → 0 < secondIn seconds e m → has set m ≡ true
+
+-- the sets of a row may be put so, and are
+pub record MayRow (seconds : List ℕ) (s : ℕ) (sets : List ℕ) : Type 0 where
+  pub bytes : length seconds ≡ secondsSize
+  pub slot : s ≤ mostSlots
+  pub long : length sets ≡ planeSize
+
+pub record ThroughRow (seconds : List ℕ) (s : ℕ) (sets : List ℕ) : Type 0 where
+  pub long : length sets ≡ planeSize
+  pub is : (e : ℕ) → e < mostLinks → Through seconds e (setIn sets s e)
+
+-- both may be
+pub record MayGatherStrips (fragile seconds : List ℕ) (slots : ℕ) (sets : List ℕ) : Type 0 where
+  pub table : MayGather fragile slots sets
+  pub bytes : length seconds ≡ secondsSize
