@@ -112,6 +112,15 @@ module _ (row table touchEnds stripEnds weights most : List ℕ) (a : Asked) (p 
           cut-already (planOf row) (Seeks row a) few (cutsOf p) (p .count) (code (p .slot) (p .link)) (h .chosen) (n - 1) i b (who .0)
           (omega (arith, who .1, h .chosen .long)) (who .2) x
 
+  -- links of slot s passed over, none of which may be tried
+  skipped : (lo s e f : ℕ) (rest : Rest) → Leaves row (cutsOf p) most s (n - 1) rest → f ≤ a .links →
+      ((b : ℕ) → e ≤ b → b < f → passes (p .down) weights most (a .need) rest s b ≡ false) →
+      NoneIn (planOf row) (Seeks row a) (cutsOf p) (n - 1) lo (code s e) → NoneIn (planOf row) (Seeks row a) (cutsOf p) (n - 1) lo (code s f)
+  skipped lo s e f rest v within none leave =
+      passed (planOf row) (Seeks row a) few (cutsOf p) (p .count) (code (p .slot) (p .link)) (h .chosen) (n - 1) lo s e f
+      (omega (arith, y .play .few)) leave
+      (λ b u w. not-tried s s b rest v (omega arith) (omega arith) (none b u w))
+
   pub looked : (s e i : ℕ) (rest : Rest) (r : ℕ) → Leaves row (cutsOf p) most s (n - 1) rest → e ≤ i → i ≤ a .links →
       NoneIn (planOf row) (Seeks row a) (cutsOf p) (n - 1) (code s e) (code s i) →
       r ≡ seek (passes (p .down) weights most (a .need) rest s) (a .links - i) i → Looking row weights most a p n s e r rest
@@ -121,9 +130,7 @@ module _ (row table touchEnds stripEnds weights most : List ℕ) (a : Asked) (p 
       let most′ = seek-most test (a .links - i) i in
       record {
         leave =
-            passed (planOf row) (Seeks row a) few (cutsOf p) (p .count) (code (p .slot) (p .link)) (h .chosen) (n - 1) (code s e) s i r
-            (omega (arith, y .play .few)) leave
-            (λ b u w. not-tried s s b rest v (omega arith) (omega arith) (seek-low test (a .links - i) i b u (omega arith)));
+            skipped (code s e) s i r rest v (omega arith) (λ b u w. seek-low test (a .links - i) i b u (omega arith)) leave;
         start = omega arith;
         within = omega arith;
         may = λ l. rw found (seek-is test (a .links - i) i (omega arith));
@@ -196,6 +203,22 @@ module _ (row table touchEnds stripEnds weights most : List ℕ) (a : Asked) (p 
         let there : b < a .links = omega (arith, next .link, y .play .links) in
         not-tried s i b rest v (omega (arith, low, next .link, few, g .link, y .play .few)) there
         (seek-low (passes (p .down) weights most (a .need) rest s) (a .links - 0) 0 b (omega arith) (omega arith)) x long good it)))
+
+    -- no list goes on with a link of this slot before the first that may be tried
+    pub climb-skip : (rest : Rest) (f j : ℕ) → Leaves row (cutsOf p) most s (n - 1) rest →
+        f ≡ seek (passes (p .down) weights most (a .need) rest s) (a .links - 0) 0 → j ≡ e + (f - e) → Climbing row a p n s j qs
+    climb-skip rest f j v found is =
+        let test = passes (p .down) weights most (a .need) rest s in
+        let within : j ≤ a .links = omega (arith, g .link, seek-most test (a .links - 0) 0) in
+        record {
+          leave =
+              skipped 0 s e j rest v within (λ b u w. seek-low test (a .links - 0) 0 b (omega arith) (omega arith)) (g .leave);
+          stand = g .stand;
+          from = g .from;
+          early = g .early;
+          link = within;
+          later = omega (arith, g .later);
+        }
 
     pub climb-over : (r : Found) → r ≡ noFound → a .timeout ≤ s → Sought row a p n r
     climb-over r is over =
@@ -357,20 +380,38 @@ module _ (row table touchEnds stripEnds weights most : List ℕ) (a : Asked) (hi
       climbs-stop r f none =
           climb-stop row table touchEnds stripEnds weights most a p n (m .ready) (m .holding) positive (m .few) s e qs g r rest f none leaves
 
-      pub may-look : s < a .timeout → MaySeekIn row table touchEnds stripEnds weights most a hits qs p n s e rest
-      may-look early =
-          record {
-            ready = m .ready;
-            holding = m .holding;
-            covers = m .covers;
-            leaves = leaves;
-            stand = g .stand;
-            few = m .few;
-            some = positive;
-            early = early;
-            link = g .link;
-            later = g .later;
-          }
+      -- from the first link of the slot that may be tried on, if that is a later one
+      module _ (f j : ℕ) (found : f ≡ seek (passes (p .down) weights most (a .need) rest s) (a .links - 0) 0) (next : j ≡ e + (f - e)) where
+        here : Climbing row a p n s j qs
+        here =
+            climb-skip row table touchEnds stripEnds weights most a p n (m .ready) (m .holding) positive (m .few) s e qs g rest f j leaves
+            found next
+
+        pub may-look : s < a .timeout → MaySeekIn row table touchEnds stripEnds weights most a hits qs p n s j rest
+        may-look early =
+            record {
+              ready = m .ready;
+              holding = m .holding;
+              covers = m .covers;
+              leaves = leaves;
+              stand = g .stand;
+              few = m .few;
+              some = positive;
+              early = early;
+              link = here .link;
+              later = here .later;
+            }
+
+        module _ (r : Found) (told : SoughtIn row a p n s j r) where
+          pub climbs-some : r .found ≡ true → Sought row a p n r
+          climbs-some =
+              climb-some row table touchEnds stripEnds weights most a p n (m .ready) (m .holding) positive (m .few) s j qs here r told
+
+          pub climbs-on : (rs : Standing) → r .found ≡ false → s < a .timeout → StandAt row (a .messages) (cutsOf p) (qs .time .0 + 1) rs →
+              Climbing row a p n (s + 1) 0 rs
+          climbs-on rs t early stand =
+              climb-on row table touchEnds stripEnds weights most a p n (m .ready) (m .holding) positive (m .few) s j qs here r told rs t early
+              (rw (g .stand .time) at stand)
 
     pub may-advance : s < a .timeout → MayAdvance row table a qs p
     may-advance early =
@@ -384,12 +425,3 @@ module _ (row table touchEnds stripEnds weights most : List ℕ) (a : Asked) (hi
 
     pub climbs-over : (r : Found) → r ≡ noFound → a .timeout ≤ s → Sought row a p n r
     climbs-over = climb-over row table touchEnds stripEnds weights most a p n (m .ready) (m .holding) positive (m .few) s e qs g
-
-    pub climbs-some : (r : Found) → SoughtIn row a p n s e r → r .found ≡ true → Sought row a p n r
-    climbs-some = climb-some row table touchEnds stripEnds weights most a p n (m .ready) (m .holding) positive (m .few) s e qs g
-
-    pub climbs-on : (r : Found) → SoughtIn row a p n s e r → (rs : Standing) → r .found ≡ false → s < a .timeout →
-        StandAt row (a .messages) (cutsOf p) (qs .time .0 + 1) rs → Climbing row a p n (s + 1) 0 rs
-    climbs-on r f rs t early stand =
-        climb-on row table touchEnds stripEnds weights most a p n (m .ready) (m .holding) positive (m .few) s e qs g r f rs t early
-        (rw (g .stand .time) at stand)

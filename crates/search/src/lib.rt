@@ -277,6 +277,13 @@ fn next_link(
     i
 }
 
+// The later of two links of a slot.
+fn later(e: usize, f: usize) -> usize
+    ensures { λ r. ⌜ r ≡ e + (f - e) ⌝ }
+{
+    if e < f { f } else { e }
+}
+
 // One where a mark is made, else 0.
 fn one_if(mark: u8) -> usize
     ensures { λ r. ⌜ (r ≡ oneIf (ltb 0 mark)) × (r ≤ 1) ⌝ }
@@ -447,7 +454,7 @@ fn in_slot(
 }
 
 // All lists with n pairs more, where the messages that those picked touch and strip are marked. Where no link of a slot may be tried, none of
-// a later slot may.
+// a later slot may; and none before the first that may be is looked at again.
 fn level(
     row: &[u16],
     table: &[u8],
@@ -474,9 +481,11 @@ fn level(
     while s < a.timeout {
         let risk = at_risk(qs, a.messages, hits);
         let rest = losses(risk, n - 1, most, s);
-        if a.links <= next_link(&down, weights, most, a.need, rest, s, 0, a.links) {
+        let f = next_link(&down, weights, most, a.need, rest, s, 0, a.links);
+        if a.links <= f {
             return nothing();
         }
+        let from = later(e, f);
         let r = in_slot(
             row,
             table,
@@ -490,7 +499,7 @@ fn level(
             p,
             n,
             s,
-            e,
+            from,
             rest,
         );
         if r.found {

@@ -18,6 +18,7 @@ use Rattle.search.proofs.+in_slot+level.Lts-level as level-lts
 use Rattle.search.proofs.advance.Reads as advance-reads
 use Rattle.search.proofs.at_risk.Reads as at-risk-reads
 use Rattle.search.proofs.hit.Reads as hit-reads
+use Rattle.search.proofs.later.Reads as later-reads
 use Rattle.search.proofs.losses.Reads as losses-reads
 use Rattle.search.proofs.next_link.Reads as next-link-reads
 use Rattle.search.proofs.nothing.Reads as nothing-reads
@@ -71,6 +72,8 @@ level-calls t = (
   next-link-reads.Learnt,
   nothing-reads.Asked,
   nothing-reads.Learnt,
+  later-reads.Asked,
+  later-reads.Learnt,
   in-slot-below t,
   in-slot.Post,
   advance-reads.Asked,
@@ -246,58 +249,70 @@ level-returns-2 t c =
     (c .before .before .before .before .before .before .at-risk .ensures) (c .before .before .before .before .before .losses .ensures) _ _
     (c .nothing .ensures) (c .before .before .before .next-link .ensures) (c .before .if3 .taken)
 
+level-later-requires : (t : ℕ) → level-lts.Need-later-requires (level-calls t) (level-at t) level.Post level-inv level-less
+level-later-requires t c κs = search needs
+
 level-in-slot-requires : (t : ℕ) → level-lts.Need-in-slot-requires (level-calls t) (level-at t) level.Post level-inv level-less
 level-in-slot-requires t c κs = (
   omega (
     arith,
     c .before .before .before .before .before .before .before .before .before .before .before .before .before .before .before
-        .before .before .pre .0,
+        .before .before .before .pre .0,
   ),
   may-look _ _ _ _ _ _ _ _ _ _ _
       (c .before .before .before .before .before .before .before .before .before .before .before .before .before .before .before .before .before
-      .pre .1) (c .before .before .before .before .before .before .before .before .before .before .if1 .left) _ _ _
-      (c .before .before .before .before .before .before .before .before .loop .inv) _ _
-      (c .before .before .before .before .before .at-risk .ensures) (c .before .before .before .before .losses .ensures)
-      (c .before .before .before .before .before .before .if2 .taken),
+      .before .pre .1) (c .before .before .before .before .before .before .before .before .before .before .before .if1 .left) _ _ _
+      (c .before .before .before .before .before .before .before .before .before .loop .inv) _ _
+      (c .before .before .before .before .before .before .at-risk .ensures) (c .before .before .before .before .before .losses .ensures) _ _
+      (c .before .before .before .next-link .ensures) (c .later .ensures)
+      (c .before .before .before .before .before .before .before .if2 .taken),
 )
 
 level-returns-3 : (t : ℕ) → level-lts.Need-returns-3 (level-calls t) (level-at t) level.Post level-inv level-less
 level-returns-3 t c =
     climbs-some _ _ _ _ _ _ _ _ _ _ _
     (c .before .before .before .before .before .before .before .before .before .before .before .before .before .before .before .before .before
-    .before .before .pre .1) (c .before .before .before .before .before .before .before .before .before .before .before .before .if1 .left) _ _
-    _ (c .before .before .before .before .before .before .before .before .before .before .loop .inv) _ (c .before .in-slot .ensures)
+    .before .before .before .pre .1)
+    (c .before .before .before .before .before .before .before .before .before .before .before .before .before .if1 .left) _ _ _
+    (c .before .before .before .before .before .before .before .before .before .before .before .loop .inv) _ _
+    (c .before .before .before .before .before .before .before .before .at-risk .ensures)
+    (c .before .before .before .before .before .before .before .losses .ensures) _ _
+    (c .before .before .before .before .before .next-link .ensures) (c .before .before .later .ensures) _ (c .before .in-slot .ensures)
     (c .if4 .taken)
 
 level-advance-requires : (t : ℕ) → level-lts.Need-advance-requires (level-calls t) (level-at t) level.Post level-inv level-less
 level-advance-requires t c κs =
     may-advance _ _ _ _ _ _ _ _ _ _ _
     (c .before .before .before .before .before .before .before .before .before .before .before .before .before .before .before .before .before
-    .before .before .pre .1) (c .before .before .before .before .before .before .before .before .before .before .before .before .if1 .left) _ _
-    _ (c .before .before .before .before .before .before .before .before .before .before .loop .inv)
-    (c .before .before .before .before .before .before .before .before .if2 .taken)
+    .before .before .before .pre .1)
+    (c .before .before .before .before .before .before .before .before .before .before .before .before .before .if1 .left) _ _ _
+    (c .before .before .before .before .before .before .before .before .before .before .before .loop .inv)
+    (c .before .before .before .before .before .before .before .before .before .if2 .taken)
 
 level-add-s : (t : ℕ) → level-lts.Need-add-s (level-calls t) (level-at t) level.Post level-inv level-less
 level-add-s t c =
     omega (
       arith,
-      c .before .before .before .before .before .before .before .before .before .if2 .taken,
+      c .before .before .before .before .before .before .before .before .before .before .if2 .taken,
       c .before .before .before .before .before .before .before .before .before .before .before .before .before .before .before .before .before
-          .before .before .before .pre .1 .ready .play .short,
+          .before .before .before .before .pre .1 .ready .play .short,
     )
 
 level-loop-less : (t : ℕ) → level-lts.Need-loop-less (level-calls t) (level-at t) level.Post level-inv level-less
-level-loop-less t c = omega (arith, c .before .before .before .before .before .before .before .before .before .if2 .taken)
+level-loop-less t c = omega (arith, c .before .before .before .before .before .before .before .before .before .before .if2 .taken)
 
 level-loop-again : (t : ℕ) → level-lts.Need-loop-again (level-calls t) (level-at t) level.Post level-inv level-less
 level-loop-again t c =
     climbs-on _ _ _ _ _ _ _ _ _ _ _
     (c .before .before .before .before .before .before .before .before .before .before .before .before .before .before .before .before .before
-    .before .before .before .pre .1)
-    (c .before .before .before .before .before .before .before .before .before .before .before .before .before .if1 .left) _ _ _
-    (c .before .before .before .before .before .before .before .before .before .before .before .loop .inv) _
+    .before .before .before .before .pre .1)
+    (c .before .before .before .before .before .before .before .before .before .before .before .before .before .before .if1 .left) _ _ _
+    (c .before .before .before .before .before .before .before .before .before .before .before .before .loop .inv) _ _
+    (c .before .before .before .before .before .before .before .before .before .at-risk .ensures)
+    (c .before .before .before .before .before .before .before .before .losses .ensures) _ _
+    (c .before .before .before .before .before .before .next-link .ensures) (c .before .before .before .later .ensures) _
     (c .before .before .in-slot .ensures) _ (c .before .if4 .left)
-    (c .before .before .before .before .before .before .before .before .before .if2 .taken) (c .advance .ensures)
+    (c .before .before .before .before .before .before .before .before .before .before .if2 .taken) (c .advance .ensures)
 
 level-nothing-requires-2 : (t : ℕ) → level-lts.Need-nothing-requires-2 (level-calls t) (level-at t) level.Post level-inv level-less
 level-nothing-requires-2 t c κs = search needs
@@ -345,6 +360,7 @@ pub +in-slot+level-spec : {M : Type 1} → statement M
     (level-next-link-requires t)
     (level-nothing-requires t)
     (level-returns-2 t)
+    (level-later-requires t)
     (level-in-slot-requires t)
     (level-returns-3 t)
     (level-advance-requires t)
