@@ -64,13 +64,13 @@ pub record Hunting (row : List ℕ) (a : Asked) (low k n : ℕ) : Type 0 where
   pub within : n ≤ k + 1
   pub leave : (i : ℕ) → i < n → NoneOf (planOf row) (Seeks row a) [] i
 
-module _ (row table touchEnds stripEnds weights most : List ℕ) (a : Asked) (ps : Standing) (low k : ℕ)
-    (m : MayHunt row table touchEnds stripEnds weights most a ps low k) where
+module _ (row table touchSets stripSets weights most : List ℕ) (a : Asked) (ps : Standing) (low k : ℕ)
+    (m : MayHunt row table touchSets stripSets weights most a ps low k) where
   pub hunt-first : Hunting row a low k low
   hunt-first = record { within = m .within; leave = m .before }
 
   pub may-seek : (n : ℕ) (p : Picked) (hits : Hits) → n ≤ k → p ≡ noPair → hits ≡ noHits →
-      MaySeek row table touchEnds stripEnds weights most a hits ps p n
+      MaySeek row table touchSets stripSets weights most a hits ps p n
   may-seek n p hits h is none =
       record {
         ready = m .ready;

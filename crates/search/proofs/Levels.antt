@@ -7,7 +7,7 @@ use mathlib.Core.List.{List, [], _∷_, _++_}
 use lib.ListN.{length, take}
 use lib.Dec.{eqb}
 use borrow.Author.Tests.{eqb-true, not-false, not-true}
-use Rattle.scope.specs.Limits.{mostLinks, mostMessages, mostCuts}
+use Rattle.scope.specs.Limits.{mostLinks, mostCuts}
 use Rattle.scope.specs.Lowest.{seek}
 use Rattle.cuts.specs.Down.{isDown}
 use Rattle.scope.specs.Plan.{planOf}
@@ -30,7 +30,7 @@ use Rattle.order.proofs.Steps.{after, no-more, none-before, passed, cut-already
 use Rattle.order.proofs.Steps.{all-over, first-of-all}
 use Rattle.search.proofs.Weigh.{which, not-before, too-light}
 use Rattle.search.proofs.Telling.{tells-none, tells-more}
-use Rattle.search.specs.Risks.{risksOf, MayCount, MayHit, IsHit, MayWeigh, MayTry}
+use Rattle.search.specs.Risks.{AreAway, risksOf, MayHit, IsHit, MayWeigh, MayTry}
 use Rattle.search.proofs.Picking.{named, cuts-more, holding-more, stand-more}
 use Rattle.search.proofs.Risks.{covers-more, counted, may-weigh}
 
@@ -50,8 +50,8 @@ pub record Climbing (row : List ℕ) (a : Asked) (p : Picked) (n s e : ℕ) (qs 
   pub link : e ≤ a .links
   pub later : code (p .slot) (p .link) ≤ code s e
 
-module _ (row table touchEnds stripEnds weights most : List ℕ) (a : Asked) (p : Picked) (n : ℕ)
-    (y : Ready row table touchEnds stripEnds weights most a) (h : Holding row a p) (some : 0 < n) (room : p .count + n ≤ mostCuts) where
+module _ (row table touchSets stripSets weights most : List ℕ) (a : Asked) (p : Picked) (n : ℕ)
+    (y : Ready row table touchSets stripSets weights most a) (h : Holding row a p) (some : 0 < n) (room : p .count + n ≤ mostCuts) where
   few : length (planOf row .links) ≤ mostLinks
   few = omega (arith, y .play .links, y .play .few)
 
@@ -259,16 +259,13 @@ pub goes-up : (test : ℕ → Bool) (n i r : ℕ) → r ≡ seek test n (i + 1) 
 goes-up test n i r e = omega (arith, seek-from test n (i + 1))
 
 -- the calls
-module _ (row table touchEnds stripEnds weights most : List ℕ) (a : Asked) (hits : Hits) (ps : Standing) (p : Picked) (n s e : ℕ) (rest : Rest)
-    (m : MaySeekIn row table touchEnds stripEnds weights most a hits ps p n s e rest) where
+module _ (row table touchSets stripSets weights most : List ℕ) (a : Asked) (hits : Hits) (ps : Standing) (p : Picked) (n s e : ℕ) (rest : Rest)
+    (m : MaySeekIn row table touchSets stripSets weights most a hits ps p n s e rest) where
   next-holds : (i : ℕ) → Looking row weights most a p n s e i rest → i < a .links → Holding row a (withPair p s i)
   next-holds i g l =
       holding-more row table a p (m .ready .play) (m .holding) s i (omega (arith, m .few, m .some)) (omega (arith, m .later, g .start))
       (m .early) l
-      (not-cut-yet row table touchEnds stripEnds weights most a p n (m .ready) (m .holding) (m .some) (m .few) s e i rest g l)
-
-  count-messages : length (planOf row .messages) ≤ mostMessages
-  count-messages = omega (arith, m .ready .play .messages, m .stand .next .stand .few)
+      (not-cut-yet row table touchSets stripSets weights most a p n (m .ready) (m .holding) (m .some) (m .few) s e i rest g l)
 
   pub may-try : MayTry weights most (a .need) rest s
   may-try = record {
@@ -280,25 +277,24 @@ module _ (row table touchEnds stripEnds weights most : List ℕ) (a : Asked) (hi
         omega (arith, m .early, m .ready .play .short);
   }
 
-  pub may-hit : (i : ℕ) → i < a .links → MayHit touchEnds stripEnds hits i
+  pub may-hit : (i : ℕ) → i < a .links → MayHit touchSets stripSets s i
   may-hit i l =
       record {
         touches = m .ready .hit .touch;
         strips = m .ready .hit .strip;
-        touched = m .covers .touches;
-        stripped = m .covers .strips;
+        slot = omega (arith, m .early, m .ready .play .short);
         link = omega (arith, m .ready .play .few);
       }
 
   pub may-go-on : (i : ℕ) (q : Picked) (more : Hits) → Looking row weights most a p n s e i rest → i < a .links → q ≡ withPair p s i →
-      IsHit touchEnds stripEnds hits s i more → MaySeek row table touchEnds stripEnds weights most a more ps q (n - 1)
+      IsHit touchSets stripSets hits s i more → MaySeek row table touchSets stripSets weights most a more ps q (n - 1)
   may-go-on i q more g l is hit =
       record {
         ready = m .ready;
         holding = rw is (next-holds i g l);
         covers =
             rw (is, cuts-more row table a p (m .ready .play) (m .holding) s i (omega (arith, m .few, m .some)))
-            (covers-more row touchEnds stripEnds (cutsOf p) (p .count) s i hits more (m .ready .hit) count-messages
+            (covers-more row touchSets stripSets (cutsOf p) (p .count) s i hits more (m .ready .hit)
             (m .holding .chosen .long) (omega (arith, m .early, m .ready .play .timeout)) (omega (arith, m .ready .play .links)) (m .covers)
             hit);
         stand = rw is (stand-more row table a p (m .ready .play) (m .holding) s i (omega (arith, m .few, m .some)) (a .messages) ps (m .stand));
@@ -308,8 +304,8 @@ module _ (row table touchEnds stripEnds weights most : List ℕ) (a : Asked) (hi
   pub looks-first : (r : ℕ) →
       r ≡ seek (passes (p .down) weights most (a .need) rest s) (a .links - e) e → Looking row weights most a p n s e r rest
   looks-first r found =
-      looked row table touchEnds stripEnds weights most a p n (m .ready) (m .holding) (m .some) (m .few) s e e rest r (m .leaves)
-      (omega arith) (m .link) (look-first row table touchEnds stripEnds weights most a p n (m .ready) (m .holding) (m .some) (m .few) s e) found
+      looked row table touchSets stripSets weights most a p n (m .ready) (m .holding) (m .some) (m .few) s e e rest r (m .leaves)
+      (omega arith) (m .link) (look-first row table touchSets stripSets weights most a p n (m .ready) (m .holding) (m .some) (m .few) s e) found
 
   module _ (i : ℕ) (q : Picked) (r : Found) (g : Looking row weights most a p n s e i rest) (l : i < a .links) (is : q ≡ withPair p s i)
       (f : Sought row a q (n - 1) r) where
@@ -318,18 +314,18 @@ module _ (row table touchEnds stripEnds weights most : List ℕ) (a : Asked) (hi
 
     pub looks-some : r .found ≡ true → SoughtIn row a p n s e r
     looks-some t =
-        look-some row table touchEnds stripEnds weights most a p n (m .ready) (m .holding) (m .some) (m .few) s e i rest g r l found t
+        look-some row table touchSets stripSets weights most a p n (m .ready) (m .holding) (m .some) (m .few) s e i rest g r l found t
 
     pub looks-on : (j : ℕ) → r .found ≡ false →
         j ≡ seek (passes (p .down) weights most (a .need) rest s) (a .links - (i + 1)) (i + 1) → Looking row weights most a p n s e j rest
     looks-on j t next =
-        looked row table touchEnds stripEnds weights most a p n (m .ready) (m .holding) (m .some) (m .few) s e (i + 1) rest j (m .leaves)
+        looked row table touchSets stripSets weights most a p n (m .ready) (m .holding) (m .some) (m .few) s e (i + 1) rest j (m .leaves)
         (omega (arith, g .start)) (omega arith)
-        (look-on row table touchEnds stripEnds weights most a p n (m .ready) (m .holding) (m .some) (m .few) s e i rest g r l found t) next
+        (look-on row table touchSets stripSets weights most a p n (m .ready) (m .holding) (m .some) (m .few) s e i rest g r l found t) next
 
-pub may-play-out : (row table touchEnds stripEnds weights most : List ℕ) (a : Asked) (hits : Hits) (ps : Standing) (p : Picked) (n : ℕ) →
-    MaySeek row table touchEnds stripEnds weights most a hits ps p n → MayPlayOut row table a hits ps p
-may-play-out row table touchEnds stripEnds weights most a hits ps p n m =
+pub may-play-out : (row table touchSets stripSets weights most : List ℕ) (a : Asked) (hits : Hits) (ps : Standing) (p : Picked) (n : ℕ) →
+    MaySeek row table touchSets stripSets weights most a hits ps p n → MayPlayOut row table a hits ps p
+may-play-out row table touchSets stripSets weights most a hits ps p n m =
     record {
       play = m .ready .play;
       holding = m .holding;
@@ -340,28 +336,24 @@ may-play-out row table touchEnds stripEnds weights most a hits ps p n m =
       bounds = m .ready .bounds;
     }
 
-module _ (row table touchEnds stripEnds weights most : List ℕ) (a : Asked) (hits : Hits) (ps : Standing) (p : Picked) (n : ℕ)
-    (m : MaySeek row table touchEnds stripEnds weights most a hits ps p n) (some : n ≡ 0 → ⊥) where
+module _ (row table touchSets stripSets weights most : List ℕ) (a : Asked) (hits : Hits) (ps : Standing) (p : Picked) (n : ℕ)
+    (m : MaySeek row table touchSets stripSets weights most a hits ps p n) (some : n ≡ 0 → ⊥) where
   positive : 0 < n
   positive = omega (arith, some)
 
   pub climbs-first : Climbing row a p n (p .slot) (p .link) ps
-  climbs-first = climb-first row table touchEnds stripEnds weights most a p n (m .ready) (m .holding) positive (m .few) ps (m .stand)
+  climbs-first = climb-first row table touchSets stripSets weights most a p n (m .ready) (m .holding) positive (m .few) ps (m .stand)
 
   module _ (s e : ℕ) (qs : Standing) (g : Climbing row a p n s e qs) where
-    pub may-count : MayCount (a .messages) hits
-    may-count = record { few = g .stand .next .stand .few; touched = m .covers .touches; stripped = m .covers .strips }
+    pub may-weigh-rest : (away : ℕ) (risk : Risk) → s < a .timeout → risk ≡ risksOf hits away → MayWeigh risk (n - 1) most s
+    may-weigh-rest away risk early is =
+        may-weigh hits away most s (n - 1) risk is (omega (arith, m .few)) (m .ready .tops) (omega (arith, m .ready .play .short))
 
-    pub may-weigh-rest : (risk : Risk) → s < a .timeout → risk ≡ risksOf hits (qs .positions) (a .messages) → MayWeigh risk (n - 1) most s
-    may-weigh-rest risk early is =
-        may-weigh row (a .messages) (cutsOf p) s qs (g .stand) (m .ready .play .messages) hits (m .covers) most (n - 1) risk is
-        (omega (arith, m .few))
-        (m .ready .tops) (omega (arith, m .ready .play .short))
-
-    module _ (risk : Risk) (rest : Rest) (is : risk ≡ risksOf hits (qs .positions) (a .messages))
+    module _ (away : ℕ) (risk : Risk) (rest : Rest) (are : AreAway (qs .positions) (a .messages) away) (is : risk ≡ risksOf hits away)
         (so : (rest ≡ restOf risk (n - 1) most s) × Fits rest) where
       leaves : Leaves row (cutsOf p) most s (n - 1) rest
-      leaves = counted row (a .messages) (cutsOf p) s qs (g .stand) (m .ready .play .messages) hits (m .covers) most (n - 1) risk rest is
+      leaves =
+          counted row (a .messages) (cutsOf p) s qs (g .stand) (m .ready .play .messages) away are hits (m .covers) most (n - 1) risk rest is
           (so .0) (so .1)
 
       pub may-try-all : s < a .timeout → MayTry weights most (a .need) rest s
@@ -378,16 +370,16 @@ module _ (row table touchEnds stripEnds weights most : List ℕ) (a : Asked) (hi
       pub climbs-stop : (r : Found) (f : ℕ) → r ≡ noFound → f ≡ seek (passes (p .down) weights most (a .need) rest s) (a .links - 0) 0 →
           a .links ≤ f → Sought row a p n r
       climbs-stop r f none =
-          climb-stop row table touchEnds stripEnds weights most a p n (m .ready) (m .holding) positive (m .few) s e qs g r rest f none leaves
+          climb-stop row table touchSets stripSets weights most a p n (m .ready) (m .holding) positive (m .few) s e qs g r rest f none leaves
 
       -- from the first link of the slot that may be tried on, if that is a later one
       module _ (f j : ℕ) (found : f ≡ seek (passes (p .down) weights most (a .need) rest s) (a .links - 0) 0) (next : j ≡ e + (f - e)) where
         here : Climbing row a p n s j qs
         here =
-            climb-skip row table touchEnds stripEnds weights most a p n (m .ready) (m .holding) positive (m .few) s e qs g rest f j leaves
+            climb-skip row table touchSets stripSets weights most a p n (m .ready) (m .holding) positive (m .few) s e qs g rest f j leaves
             found next
 
-        pub may-look : s < a .timeout → MaySeekIn row table touchEnds stripEnds weights most a hits qs p n s j rest
+        pub may-look : s < a .timeout → MaySeekIn row table touchSets stripSets weights most a hits qs p n s j rest
         may-look early =
             record {
               ready = m .ready;
@@ -405,12 +397,12 @@ module _ (row table touchEnds stripEnds weights most : List ℕ) (a : Asked) (hi
         module _ (r : Found) (told : SoughtIn row a p n s j r) where
           pub climbs-some : r .found ≡ true → Sought row a p n r
           climbs-some =
-              climb-some row table touchEnds stripEnds weights most a p n (m .ready) (m .holding) positive (m .few) s j qs here r told
+              climb-some row table touchSets stripSets weights most a p n (m .ready) (m .holding) positive (m .few) s j qs here r told
 
           pub climbs-on : (rs : Standing) → r .found ≡ false → s < a .timeout → StandAt row (a .messages) (cutsOf p) (qs .time .0 + 1) rs →
               Climbing row a p n (s + 1) 0 rs
           climbs-on rs t early stand =
-              climb-on row table touchEnds stripEnds weights most a p n (m .ready) (m .holding) positive (m .few) s j qs here r told rs t early
+              climb-on row table touchSets stripSets weights most a p n (m .ready) (m .holding) positive (m .few) s j qs here r told rs t early
               (rw (g .stand .time) at stand)
 
     pub may-advance : s < a .timeout → MayAdvance row table a qs p
@@ -424,4 +416,4 @@ module _ (row table touchEnds stripEnds weights most : List ℕ) (a : Asked) (hi
         }
 
     pub climbs-over : (r : Found) → r ≡ noFound → a .timeout ≤ s → Sought row a p n r
-    climbs-over = climb-over row table touchEnds stripEnds weights most a p n (m .ready) (m .holding) positive (m .few) s e qs g
+    climbs-over = climb-over row table touchSets stripSets weights most a p n (m .ready) (m .holding) positive (m .few) s e qs g

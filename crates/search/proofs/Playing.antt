@@ -25,7 +25,7 @@ use Rattle.search.specs.declared.Hits.{Hits}
 use Rattle.search.specs.declared.Risk.{Risk}
 use Rattle.search.specs.declared.Found.{Found}
 use Rattle.search.specs.Hunt.{cutsOf, Seeks, noFound, Playable, Holding, StandAt, MayPlayOut, MayAdvance, Sought}
-use Rattle.search.specs.Risks.{risksOf, MayCount}
+use Rattle.search.specs.Risks.{AreAway, risksOf}
 use Rattle.search.proofs.Risks.{lost-counted}
 use Rattle.search.proofs.Telling.{tells-none, tells-some}
 
@@ -103,14 +103,11 @@ module _ (row table : List ℕ) (a : Asked) (hits : Hits) (ps : Standing) (p : P
     pub ends-more : (rs : Standing) → i < a .timeout → StandAt row (a .messages) (cutsOf p) (qs .time .0 + 1) rs → Ending row a p (i + 1) rs
     ends-more rs l s = record { stand = rw (g .stand .time) at s; from = omega (arith, g .from); early = omega arith }
 
-    pub ends-count : MayCount (a .messages) hits
-    ends-count = record { few = g .stand .next .stand .few; touched = m .covers .touches; stripped = m .covers .strips }
-
     -- too few can be lost
-    pub ends-light : (r : Found) (risk : Risk) (b : Bool) → r ≡ noFound → risk ≡ risksOf hits (qs .positions) (a .messages) →
-        b ≡ ltb (risk .lost) (a .need) → b ≡ true → Sought row a p 0 r
-    ends-light r risk b is count t so =
-        let few = lost-counted row (a .messages) (cutsOf p) i qs (g .stand) (m .play .messages) hits (m .covers) in
+    pub ends-light : (r : Found) (away : ℕ) (risk : Risk) (b : Bool) → r ≡ noFound → AreAway (qs .positions) (a .messages) away →
+        risk ≡ risksOf hits away → b ≡ ltb (risk .lost) (a .need) → b ≡ true → Sought row a p 0 r
+    ends-light r away risk b is are count t so =
+        let few = lost-counted row (a .messages) (cutsOf p) i qs (g .stand) (m .play .messages) away are hits (m .covers) in
         let light = ltb-true (risk .lost) (a .need) (sym t ∙ so) in
         tells-none row _ _ (p .count + 0) r is
         (nothing-more (planOf row) (Seeks row a) (cutsOf p)

@@ -1,14 +1,15 @@
--- The marks are of every message that the pairs picked touch and strip, so no fewer messages are counted at risk.
+-- The sets hold every message that the pairs picked touch and strip, so no fewer messages are counted at risk.
 use Prim.Native.Nat.{ℕ, zero, suc, _+_, _*_, _≤_, _<_}
 use native.Mathlib.Omega.{arith}
 use mathlib.Core.Path.{_≡_, refl, sym, _∙_, ap, ap₂}
-use mathlib.Core.Bool.{Bool, true, false, not, _&&_, and-false, and-eq-true-iff}
+use mathlib.Core.Bool.{Bool, true, false, not, _&&_, _||_, and-true, and-false, or-true, or-false, and-eq-true-iff}
 use mathlib.Core.List.{List, [], _∷_, _++_}
-use lib.ListN.{length, getD, take, replicate, length-replicate, List·getD-map}
+use lib.ListN.{length, getD, take, replicate, List·getD-map}
 use lib.Seq.{getD-take}
 use lib.Dec.{ltb, eqb}
-use borrow.Author.Tests.{ltb-true, ltb-false, lt-ltb, eq-eqb, ne-eqb}
-use Rattle.scope.specs.Limits.{mostCuts, mostMessages, mostSlots, mostEntries, topsSize}
+use lib.Arith.{lt-of-le-ne}
+use borrow.Author.Tests.{ltb-true, ltb-false, eqb-true, eqb-false, lt-ltb, le-ltb}
+use Rattle.scope.specs.Limits.{mostCuts, mostMessages, mostSlots, topsSize}
 use Rattle.scope.specs.Plan.{planOf, placesAt}
 use Rattle.scope.specs.Slot as S
 use Rattle.scope.specs.Cuts.{pairs, isCut}
@@ -20,18 +21,20 @@ use Rattle.step.proofs.Steps.{home-is}
 use Rattle.step.specs.declared.Standing.{Standing}
 use Rattle.step.specs.Stand.{home}
 use Rattle.sets.specs.Sums.{sumOf, oneIf}
+use Rattle.sets.specs.Sets.{has, size, IsOneIf, IsEither, IsBoth}
+use Rattle.sets.proofs.Sums.{sum-le, sum-same, sum-fewer, tests-few}
+use Rattle.sets.proofs.Sets.{has-none}
 use Rattle.bound.specs.Touch.{harm}
 use Rattle.bound.specs.Harmed.{hers, isTouched, stands, away}
 use Rattle.bound.specs.Strips.{strips, isStripped, lost}
-use Rattle.bound.specs.Ends.{hitsIn}
-use Rattle.sets.proofs.Sums.{sum-le}
+use Rattle.bound.specs.Sets.{setIn}
 use Rattle.bound.proofs.Parts.{harm-both}
 use Rattle.order.proofs.Parts.{pairs-both}
 use Rattle.search.specs.declared.Hits.{Hits}
 use Rattle.search.specs.declared.Risk.{Risk}
 use Rattle.search.specs.declared.Rest.{Rest}
-use Rattle.search.specs.Hunt.{isMarked, noHits, restOf, Fits, Hittable, StandAt, Covers, Leaves}
-use Rattle.search.specs.Risks.{awayIf, countAway, risksOf, withMessage, MayCountOn, IsHit, MayWeigh}
+use Rattle.search.specs.Hunt.{noHits, restOf, Fits, Hittable, StandAt, Covers, Leaves}
+use Rattle.search.specs.Risks.{AreAway, countIn, risksOf, IsHit, MayWeigh}
 
 -- zeros, and zeros past them
 pub noughts : (k w : ℕ) → _≡_ {A = ℕ} (getD {A = ℕ} (replicate {A = ℕ} k 0) w 0) 0
@@ -44,11 +47,11 @@ one-pair : (weight : ℕ → ℕ → ℕ) (s e : ℕ) → harm weight (s ∷ e �
 unfolding sumOf
 one-pair weight s e = let z : 0 + weight s e ≡ weight s e = omega arith in z
 
--- a message that the list hits is marked, and one more pair marks what it hits
-marked-more : (weight : ℕ → ℕ → ℕ) (cuts : List ℕ) (d s e hit old new : ℕ) → length cuts ≡ 2 * d → weight s e ≤ hit →
-    (ltb 0 (harm weight cuts (pairs cuts)) ≡ true → ltb 0 old ≡ true) → ltb 0 new ≡ ltb 0 (old + hit) →
-    ltb 0 (harm weight (cuts ++ s ∷ e ∷ []) (pairs (cuts ++ s ∷ e ∷ []))) ≡ true → ltb 0 new ≡ true
-marked-more weight cuts d s e hit old new long less before is some = is ∙ by (ltb 0 (harm weight cuts (pairs cuts))) refl
+-- whom the list hits is in a set, and with one pair more whom that one hits
+hit-more : (weight : ℕ → ℕ → ℕ) (cuts : List ℕ) (d s e : ℕ) (old pair new : Bool) → length cuts ≡ 2 * d → (0 < weight s e → pair ≡ true) →
+    (ltb 0 (harm weight cuts (pairs cuts)) ≡ true → old ≡ true) → new ≡ (old || pair) →
+    ltb 0 (harm weight (cuts ++ s ∷ e ∷ []) (pairs (cuts ++ s ∷ e ∷ []))) ≡ true → new ≡ true
+hit-more weight cuts d s e old pair new long there before is some = is ∙ by (ltb 0 (harm weight cuts (pairs cuts))) refl
   where
     count : pairs cuts ≡ d
     count = omega arith
@@ -58,58 +61,43 @@ marked-more weight cuts d s e hit old new long less before is some = is ∙ by (
         ap (harm weight (cuts ++ s ∷ e ∷ [])) (pairs-both cuts (s ∷ e ∷ []) d long 1 refl) ∙ harm-both weight cuts (s ∷ e ∷ []) d long 1 ∙
         ap₂ (λ (n x : ℕ). harm weight cuts n + x) (sym count) (one-pair weight s e)
 
-    by : (b : Bool) → ltb 0 (harm weight cuts (pairs cuts)) ≡ b → ltb 0 (old + hit) ≡ true
-    by true q = lt-ltb 0 (old + hit) (omega (arith, ltb-true 0 old (before q)))
-    by false q = lt-ltb 0 (old + hit)
-        (omega (arith, ltb-true 0 (harm weight (cuts ++ s ∷ e ∷ []) (pairs (cuts ++ s ∷ e ∷ []))) some, both, none))
-      where
-        none : harm weight cuts (pairs cuts) ≡ 0
-        none = omega (arith, ltb-false 0 (harm weight cuts (pairs cuts)) q)
+    by : (b : Bool) → ltb 0 (harm weight cuts (pairs cuts)) ≡ b → (old || pair) ≡ true
+    by true q = rw (before q)
+    by false q =
+        let none = ltb-false 0 (harm weight cuts (pairs cuts)) q in
+        let all = ltb-true 0 (harm weight (cuts ++ s ∷ e ∷ []) (pairs (cuts ++ s ∷ e ∷ []))) some in
+        rw (there (omega (arith, both))) (or-true old)
 
--- nothing is hit by no pair
+-- nobody is hit by no pair
 pub covers-none : (row : List ℕ) → Covers row [] noHits
 unfolding sumOf
 covers-none row =
     record {
-      touches = length-replicate {A = ℕ} mostEntries 0;
-      strips = length-replicate {A = ℕ} mostEntries 0;
       touched = λ m l z. absurd (omega (arith, ltb-true 0 0 z));
       stripped = λ m l z. absurd (omega (arith, ltb-true 0 0 z));
     }
 
 -- one pair more
-pub covers-more : (row touchEnds stripEnds cuts : List ℕ) (d s e : ℕ) (old new : Hits) → Hittable row touchEnds stripEnds →
-    length (planOf row .messages) ≤ mostMessages → length cuts ≡ 2 * d → s < planOf row .timeout → e < length (planOf row .links) →
-    Covers row cuts old → IsHit touchEnds stripEnds old s e new → Covers row (cuts ++ s ∷ e ∷ []) new
-covers-more row touchEnds stripEnds cuts d s e old new y many long early there c h =
+pub covers-more : (row touchSets stripSets cuts : List ℕ) (d s e : ℕ) (old new : Hits) → Hittable row touchSets stripSets →
+    length cuts ≡ 2 * d → s < planOf row .timeout → e < length (planOf row .links) →
+    Covers row cuts old → IsHit touchSets stripSets old s e new → Covers row (cuts ++ s ∷ e ∷ []) new
+covers-more row touchSets stripSets cuts d s e old new y long early there c h =
     record {
-      touches = h .touched .long;
-      strips = h .stripped .long;
       touched = λ m l.
-          marked-more (hers (planOf row) m) cuts d s e (hitsIn touchEnds m s e) (getD (old .touched) (m + 1) 0)
-          (getD (new .touched) (m + 1) 0) long (y .touched m s e l there) (c .touched m l) (h .touched .is m (omega arith));
+          hit-more (hers (planOf row) m) cuts d s e (has (old .touched) m) (has (setIn touchSets s e) m) (has (new .touched) m) long
+          (y .touched m s e l early there) (c .touched m l) (h .touched m);
       stripped = λ m l.
-          marked-more (strips (planOf row) m) cuts d s e (hitsIn stripEnds m s e) (getD (old .stripped) (m + 1) 0)
-          (getD (new .stripped) (m + 1) 0) long (y .stripped m s e l early there) (c .stripped m l) (h .stripped .is m (omega arith));
+          hit-more (strips (planOf row) m) cuts d s e (has (old .stripped) m) (has (setIn stripSets s e) m) (has (new .stripped) m) long
+          (y .stripped m s e l early there) (c .stripped m l) (h .stripped m);
     }
 
-one-few : (b : Bool) → oneIf b ≤ 1
-one-few true = omega arith
-one-few false = omega arith
-
--- no more are counted than there are
-pub count-few : (kind : ℕ → Bool) (ps : List Position) (n : ℕ) → countAway kind ps n ≤ n
-unfolding sumOf
-count-few kind ps zero = omega arith
-count-few kind ps (suc n) = omega (arith, count-few kind ps n, one-few (kind n && not (eqb (getD ps n home .left) 0)))
-
--- what is marked more is counted no less
+-- what is hit more is counted no less
 more-away : (a b c : Bool) → (a ≡ true → b ≡ true) → oneIf (a && not c) ≤ oneIf (b && not c)
 more-away true b c h = rw (h refl) (omega arith)
 more-away false b c h = omega arith
 
 module _ (row : List ℕ) (n : ℕ) (cuts : List ℕ) (s : ℕ) (st : Standing) (stand : StandAt row n cuts s st)
-    (count : n ≡ length (planOf row .messages)) where
+    (count : n ≡ length (planOf row .messages)) (set : ℕ) (are : AreAway (st .positions) n set) where
   stands-at : (m : ℕ) → m < n →
       L.positionOf m (positions (orderOf (planOf row)) (isCut (planOf row) cuts) (tableOf (planOf row)) 0 s (start (planOf row))) ≡
       positionOf row (getD (st .positions) m home)
@@ -120,33 +108,34 @@ module _ (row : List ℕ) (n : ℕ) (cuts : List ℕ) (s : ℕ) (st : Standing) 
       ap (positionOf row) (getD-take n (st .positions) m home l)
 
   -- so those of a kind are among those counted
-  away-counted : (kind marked : ℕ → Bool) → ((m : ℕ) → m < length (planOf row .messages) → kind m ≡ true → marked m ≡ true) →
-      away (planOf row) cuts s kind ≤ countAway marked (st .positions) n
-  away-counted kind marked all =
+  away-counted : (kind hit : ℕ → Bool) → ((m : ℕ) → m < length (planOf row .messages) → kind m ≡ true → hit m ≡ true) →
+      away (planOf row) cuts s kind ≤ countIn set hit
+  away-counted kind hit all =
       let one : ℕ → ℕ = λ m. oneIf (kind m && not (S.atTarget (stands (planOf row) cuts s m))) in
+      let two : ℕ → ℕ = λ m. oneIf (hit m && has set m) in
       let less =
-      sum-le one (λ m. awayIf (marked m) (getD (st .positions) m home)) n
+      sum-le one two n
       (λ m l.
       let q : Position = getD (st .positions) m home in
       let there : S.atTarget (stands (planOf row) cuts s m) ≡ eqb (q .left) 0 =
       sym (home-is row (q .at) (q .left) (q .turned) ∙ ap S.atTarget (sym (stands-at m l))) in
-      rw there (more-away (kind m) (marked m) (eqb (q .left) 0) (all m (omega arith)))) in
-      omega (arith, less, ap (sumOf one) count)
+      rw (there, are m, lt-ltb m n l) (more-away (kind m) (hit m) (eqb (q .left) 0) (all m (omega arith)))) in
+      omega (arith, less, sum-fewer two n mostMessages (stand .next .stand .few), ap (sumOf one) count)
 
   module _ (hits : Hits) (c : Covers row cuts hits) where
-    pub lost-counted : lost (planOf row) cuts s ≤ risksOf hits (st .positions) n .lost
+    pub lost-counted : lost (planOf row) cuts s ≤ risksOf hits set .lost
     lost-counted =
         away-counted (λ m. isTouched (planOf row) cuts m && isStripped (planOf row) cuts m)
-        (λ m. isMarked (hits .touched) m && isMarked (hits .stripped) m)
+        (λ m. has (hits .touched) m && has (hits .stripped) m)
         (λ m l z.
         let two = and-eq-true-iff (isTouched (planOf row) cuts m) (isStripped (planOf row) cuts m) .0 z in
         rw (c .touched m l (two .0), c .stripped m l (two .1)))
 
-    pub counted : (most : List ℕ) (k : ℕ) (risk : Risk) (rest : Rest) → risk ≡ risksOf hits (st .positions) n → rest ≡ restOf risk k most s →
+    pub counted : (most : List ℕ) (k : ℕ) (risk : Risk) (rest : Rest) → risk ≡ risksOf hits set → rest ≡ restOf risk k most s →
         Fits rest → Leaves row cuts most s k rest
     counted most k risk rest is so fits =
-        let touched = away-counted (isTouched (planOf row) cuts) (isMarked (hits .touched)) (c .touched) in
-        let stripped = away-counted (isStripped (planOf row) cuts) (isMarked (hits .stripped)) (c .stripped) in
+        let touched = away-counted (isTouched (planOf row) cuts) (has (hits .touched)) (c .touched) in
+        let stripped = away-counted (isStripped (planOf row) cuts) (has (hits .stripped)) (c .stripped) in
         let t = ap (λ (r : Risk). r .touched) is in
         let u = ap (λ (r : Risk). r .stripped) is in
         record {
@@ -159,100 +148,64 @@ module _ (row : List ℕ) (n : ℕ) (cuts : List ℕ) (s : ℕ) (st : Standing) 
           fits = fits;
         }
 
-    pub may-weigh : (most : List ℕ) (k : ℕ) (risk : Risk) → risk ≡ risksOf hits (st .positions) n → k ≤ mostCuts → length most ≡ topsSize →
-        s < mostSlots → MayWeigh risk k most s
-    may-weigh most k risk is few tops early =
-        record {
-          touched = omega (
-            arith,
-            ap (λ (r : Risk). r .touched) is,
-            count-few (isMarked (hits .touched)) (st .positions) n,
-            stand .next .stand .few,
-          );
-          stripped = omega (
-            arith,
-            ap (λ (r : Risk). r .stripped) is,
-            count-few (isMarked (hits .stripped)) (st .positions) n,
-            stand .next .stand .few,
-          );
-          few = few;
-          tops = tops;
-          early = early;
-        }
+-- no more are counted than there are
+pub may-weigh : (hits : Hits) (set : ℕ) (most : List ℕ) (s k : ℕ) (risk : Risk) → risk ≡ risksOf hits set → k ≤ mostCuts →
+    length most ≡ topsSize → s < mostSlots → MayWeigh risk k most s
+may-weigh hits set most s k risk is few tops early =
+    record {
+      touched = rw is (tests-few (λ m. has (hits .touched) m && has set m) mostMessages);
+      stripped = rw is (tests-few (λ m. has (hits .stripped) m && has set m) mostMessages);
+      few = few;
+      tops = tops;
+      early = early;
+    }
 
--- the loop that counts: those below k are counted
-pub record Counting (hits : Hits) (ps : List Position) (n k : ℕ) (risk : Risk) : Type 0 where
+-- each is counted in the set of those of a kind that are away
+counts : (kind : ℕ → Bool) (away set r : ℕ) → ((m : ℕ) → has set m ≡ (kind m && has away m)) → r ≡ size set → r ≡ countIn away kind
+counts kind away set r is e =
+    e ∙ sum-same (λ m. oneIf (has set m)) (λ m. oneIf (kind m && has away m)) mostMessages (λ m l. ap (λ (b : Bool). oneIf b) (is m))
+
+pub at-risk-is : (hits : Hits) (away touched stripped hit lost : ℕ) (r : Risk) → IsBoth (hits .touched) away touched →
+    IsBoth (hits .stripped) away stripped → IsBoth (hits .touched) (hits .stripped) hit → IsBoth hit away lost → r .touched ≡ size touched →
+    r .stripped ≡ size stripped → r .lost ≡ size lost → r ≡ risksOf hits away
+at-risk-is hits away touched stripped hit lost r t s h l e f g =
+    same (r .touched) (r .stripped) (r .lost) (counts (has (hits .touched)) away touched (r .touched) t e)
+    (counts (has (hits .stripped)) away stripped (r .stripped) s f)
+    (counts (λ m. has (hits .touched) m && has (hits .stripped) m) away lost (r .lost)
+    (λ m. l m ∙ ap (λ (b : Bool). b && has away m) (h m)) g)
+  where
+    same : (x y z : ℕ) → x ≡ risksOf hits away .touched → y ≡ risksOf hits away .stripped → z ≡ risksOf hits away .lost →
+        _≡_ {A = Risk} (record { touched = x; stripped = y; lost = z }) (risksOf hits away)
+    same x y z a b c = rw (a, b, c)
+
+-- the loop that gathers those away: of the messages below k it has them
+pub record Gathering (ps : List Position) (n k set : ℕ) : Type 0 where
   pub few : k ≤ n
-  pub is : risk ≡ risksOf hits ps k
   pub long : length ps ≡ mostMessages
+  pub are : AreAway ps k set
 
-pub counting-none : (hits : Hits) (ps : List Position) (n : ℕ) → length ps ≡ mostMessages →
-    Counting hits ps n 0 (record { touched = 0; stripped = 0; lost = 0 })
-unfolding sumOf
-counting-none hits ps n l = record { few = omega arith; is = refl; long = l }
+pub gathered-none : (ps : List Position) (n : ℕ) → length ps ≡ mostMessages → Gathering ps n 0 0
+gathered-none ps n long =
+    record { few = omega arith; long = long; are = λ m. has-none m ∙ rw (le-ltb m 0 (omega arith)) }
 
-module _ (hits : Hits) (ps : List Position) (n k : ℕ) (risk : Risk) (g : Counting hits ps n k risk) where
-  pub may-count-on : n ≤ mostMessages → MayCountOn risk
-  may-count-on h =
-      rw (g .is)
-      (record {
-        touched = omega (arith, count-few (isMarked (hits .touched)) ps k, g .few);
-        stripped = omega (arith, count-few (isMarked (hits .stripped)) ps k, g .few);
-        lost = omega (arith, count-few (λ m. isMarked (hits .touched) m && isMarked (hits .stripped) m) ps k, g .few);
-      })
-
-  pub counting-more : (r : Risk) → k < n →
-      r ≡ withMessage risk (getD ps k home) (getD (hits .touched) (k + 1) 0) (getD (hits .stripped) (k + 1) 0) → Counting hits ps n (k + 1) r
-  unfolding sumOf
-  counting-more r h e =
-      let s : k + 1 ≡ suc k = omega arith in
-      record {
-        few = omega arith;
-        is =
-            e ∙ ap (λ (x : Risk). withMessage x (getD ps k home) (getD (hits .touched) (k + 1) 0) (getD (hits .stripped) (k + 1) 0)) (g .is) ∙
-            ap (risksOf hits ps) (sym s);
-        long = g .long;
-      }
-
-  pub counting-done : n ≤ k → risk ≡ risksOf hits ps n
-  counting-done h = let e : k ≡ n = omega (arith, g .few) in g .is ∙ ap (risksOf hits ps) e
-
--- a mark, and two
-pub mark-none : (mark : ℕ) → mark ≡ 0 → (0 ≡ oneIf (ltb 0 mark)) × (0 ≤ 1)
-mark-none mark h = (rw h refl, omega arith)
-
-pub mark-some : (mark : ℕ) → (mark ≡ 0 → ⊥) → (1 ≡ oneIf (ltb 0 mark)) × (1 ≤ 1)
-mark-some mark h = (rw (lt-ltb 0 mark (omega (arith, h))) refl, omega arith)
-
-pub both-none : (touched stripped : ℕ) → touched ≡ 0 → (0 ≡ oneIf (ltb 0 touched && ltb 0 stripped)) × (0 ≤ 1)
-both-none touched stripped h = (rw h refl, omega arith)
-
-pub both-some : (touched stripped r : ℕ) → (touched ≡ 0 → ⊥) → (r ≡ oneIf (ltb 0 stripped)) × (r ≤ 1) →
-    (r ≡ oneIf (ltb 0 touched && ltb 0 stripped)) × (r ≤ 1)
-both-some touched stripped r h e = (rw (lt-ltb 0 touched (omega (arith, h))) (e .0), e .1)
-
--- one message: at its target, or counted by its marks
-pub with-home : (risk : Risk) (p : Position) (touched stripped : ℕ) → p .left ≡ 0 → risk ≡ withMessage risk p touched stripped
-with-home risk p touched stripped h =
-    let zero-more : (x : ℕ) → x ≡ x + 0 = λ x. omega arith in
-    rw (eq-eqb (p .left) 0 h, and-false (ltb 0 touched), and-false (ltb 0 stripped), and-false (ltb 0 touched && ltb 0 stripped))
-    (same (risk .touched) (risk .stripped) (risk .lost))
+pub gathered-more : (ps : List Position) (n k set one new : ℕ) → Gathering ps n k set → k < n →
+    IsOneIf (not (eqb (getD ps k home .left) 0)) k one → IsEither set one new → Gathering ps n (k + 1) new
+gathered-more ps n k set one new g l is either = record { few = omega arith; long = g .long; are = more }
   where
-    same : (t s l : ℕ) →
-        _≡_ {A = Risk} (record { touched = t; stripped = s; lost = l }) (record { touched = t + 0; stripped = s + 0; lost = l + 0 })
-    same t s l =
-        let a : t + 0 ≡ t = omega arith in
-        let b : s + 0 ≡ s = omega arith in
-        let c : l + 0 ≡ l = omega arith in
-        rw (a, b, c) refl
+    gone : ℕ → Bool
+    gone m = not (eqb (getD ps m home .left) 0)
 
-pub with-away : (risk : Risk) (p : Position) (touched stripped t s b : ℕ) → (p .left ≡ 0 → ⊥) → t ≡ oneIf (ltb 0 touched) →
-    s ≡ oneIf (ltb 0 stripped) → b ≡ oneIf (ltb 0 touched && ltb 0 stripped) →
-    _≡_ {A = Risk} (record { touched = risk .touched + t; stripped = risk .stripped + s; lost = risk .lost + b })
-    (withMessage risk p touched stripped)
-with-away risk p touched stripped t s b h et es eb =
-    rw (ne-eqb (p .left) 0 h, et, es, eb, and-true (ltb 0 touched), and-true (ltb 0 stripped), and-true (ltb 0 touched && ltb 0 stripped)) refl
-  where
-    and-true : (x : Bool) → (x && true) ≡ x
-    and-true true = refl
-    and-true false = refl
+    -- by whether she is below k, or k herself
+    by : (m : ℕ) (b d : Bool) → ltb m k ≡ b → eqb m k ≡ d → ((b && gone m) || (gone k && d)) ≡ (ltb m (k + 1) && gone m)
+    by m true true h q = absurd (omega (arith, ltb-true m k h, eqb-true m k q))
+    by m true false h q = rw (lt-ltb m (k + 1) (omega (arith, ltb-true m k h)), and-false (gone k)) (or-false (gone m))
+    by m false true h q = rw (lt-ltb m (k + 1) (omega (arith, eqb-true m k q)), and-true (gone k)) (ap gone (sym (eqb-true m k q)))
+    by m false false h q =
+        let up : k < m = lt-of-le-ne (ltb-false m k h) (λ e. eqb-false m k q (sym e)) in
+        rw (le-ltb m (k + 1) (omega arith)) (and-false (gone k))
+
+    more : AreAway ps (k + 1) new
+    more m = either m ∙ rw (g .are m, is m) (by m (ltb m k) (eqb m k) refl refl)
+
+pub gathered : (ps : List Position) (n k set : ℕ) → Gathering ps n k set → n ≤ k → AreAway ps n set
+gathered ps n k set g l = let e : k ≡ n = omega (arith, g .few) in rw e at (g .are)

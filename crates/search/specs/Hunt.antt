@@ -5,7 +5,7 @@ use mathlib.Core.Bool.{Bool, true, false, not, _&&_, _||_, cond}
 use mathlib.Core.List.{List, []}
 use lib.ListN.{length, getD, take, set, replicate}
 use lib.Dec.{ltb, eqb}
-use Rattle.scope.specs.Limits.{mostCuts, mostSlots, mostLinks, mostEntries, weightsSize, topsSize, endsSize}
+use Rattle.scope.specs.Limits.{mostCuts, mostSlots, mostLinks, planeSize, weightsSize, topsSize}
 use Rattle.scope.specs.Plan.{planOf}
 use Rattle.scope.specs.Cuts.{isCut}
 use Rattle.scope.specs.Verdict.{FirstFailing}
@@ -14,11 +14,12 @@ use Rattle.cuts.specs.Down.{isDown}
 use Rattle.table.specs.Table.{entryAt}
 use Rattle.step.specs.declared.Standing.{Standing}
 use Rattle.step.specs.Stand.{Become}
+use Rattle.sets.specs.Sets.{has}
 use Rattle.order.specs.Search.{code, Chosen, NoneOf, FirstOf, NoneIn, FirstFrom}
 use Rattle.bound.specs.Bounds.{Fails, weightIn, topIn, frontIn, harmedAndBared, Bounds}
 use Rattle.bound.specs.Harmed.{hers, isTouched, harmed}
 use Rattle.bound.specs.Strips.{strips, isStripped, bared}
-use Rattle.bound.specs.Ends.{hitsIn}
+use Rattle.bound.specs.Sets.{setIn}
 use Rattle.search.specs.declared.Asked.{Asked}
 use Rattle.search.specs.declared.Picked.{Picked}
 use Rattle.search.specs.declared.Hits.{Hits}
@@ -109,19 +110,19 @@ pub record Playable (row table : List ℕ) (a : Asked) : Type 0 where
   pub messages : a .messages ≡ length (planOf row .messages)
   pub owner : (i : ℕ) → i < mostSlots → entryAt table i ≡ tableOf (planOf row) i
 
--- with what a pair hits: it touches a message, and strips it, no more often than there are slots from its own on before a number
-pub record Hittable (row touchEnds stripEnds : List ℕ) : Type 0 where
-  pub touch : length touchEnds ≡ endsSize
-  pub strip : length stripEnds ≡ endsSize
-  pub touched : (m s e : ℕ) → m < length (planOf row .messages) → e < length (planOf row .links) →
-      hers (planOf row) m s e ≤ hitsIn touchEnds m s e
+-- with whom a pair hits: whom it touches, and whom it strips, is in its set
+pub record Hittable (row touchSets stripSets : List ℕ) : Type 0 where
+  pub touch : length touchSets ≡ planeSize
+  pub strip : length stripSets ≡ planeSize
+  pub touched : (m s e : ℕ) → m < length (planOf row .messages) → s < planOf row .timeout → e < length (planOf row .links) →
+      0 < hers (planOf row) m s e → has (setIn touchSets s e) m ≡ true
   pub stripped : (m s e : ℕ) → m < length (planOf row .messages) → s < planOf row .timeout → e < length (planOf row .links) →
-      strips (planOf row) m s e ≤ hitsIn stripEnds m s e
+      0 < strips (planOf row) m s e → has (setIn stripSets s e) m ≡ true
 
 -- and with the bounds
-pub record Ready (row table touchEnds stripEnds weights most : List ℕ) (a : Asked) : Type 0 where
+pub record Ready (row table touchSets stripSets weights most : List ℕ) (a : Asked) : Type 0 where
   pub play : Playable row table a
-  pub hit : Hittable row touchEnds stripEnds
+  pub hit : Hittable row touchSets stripSets
   pub heavy : length weights ≡ weightsSize
   pub tops : length most ≡ topsSize
   pub small : a .need ≤ 65536
@@ -143,22 +144,16 @@ pub record StandAt (row : List ℕ) (n : ℕ) (cuts : List ℕ) (s : ℕ) (ps : 
   pub next : Become row n (positions (orderOf (planOf row)) (isCut (planOf row) cuts) (tableOf (planOf row)) 0 s (start (planOf row)))
       (ps .positions)
 
--- message m is marked
-abbrev pub isMarked : List ℕ → ℕ → Bool
-isMarked marks m = ltb 0 (getD marks (m + 1) 0)
-
--- the marks of no pair
+-- nobody is hit by no pair
 abbrev pub noHits : Hits
-noHits = record { touched = replicate mostEntries 0; stripped = replicate mostEntries 0 }
+noHits = record { touched = 0; stripped = 0 }
 
--- every message is marked that the list touches, and that it strips
+-- whom a list touches, and whom it strips, is in the sets
 pub record Covers (row cuts : List ℕ) (hits : Hits) : Type 0 where
-  pub touches : length (hits .touched) ≡ mostEntries
-  pub strips : length (hits .stripped) ≡ mostEntries
-  pub touched : (m : ℕ) → m < length (planOf row .messages) → isTouched (planOf row) cuts m ≡ true → isMarked (hits .touched) m ≡ true
-  pub stripped : (m : ℕ) → m < length (planOf row .messages) → isStripped (planOf row) cuts m ≡ true → isMarked (hits .stripped) m ≡ true
+  pub touched : (m : ℕ) → m < length (planOf row .messages) → isTouched (planOf row) cuts m ≡ true → has (hits .touched) m ≡ true
+  pub stripped : (m : ℕ) → m < length (planOf row .messages) → isStripped (planOf row) cuts m ≡ true → has (hits .stripped) m ≡ true
 
--- no less can be lost than the list marks and k pairs more weigh, none before slot s
+-- no less can be lost than the list hits and k pairs more weigh, none before slot s
 pub record Leaves (row cuts most : List ℕ) (s k : ℕ) (rest : Rest) : Type 0 where
   pub touched : harmed (planOf row) cuts s ≤ rest .touched
   pub stripped : bared (planOf row) cuts s ≤ rest .stripped
@@ -186,19 +181,19 @@ pub record MayAdvance (row table : List ℕ) (a : Asked) (ps : Standing) (p : Pi
   pub early : ps .time .0 < a .timeout
 
 -- n pairs more may be sought
-pub record MaySeek (row table touchEnds stripEnds weights most : List ℕ) (a : Asked) (hits : Hits) (ps : Standing) (p : Picked)
+pub record MaySeek (row table touchSets stripSets weights most : List ℕ) (a : Asked) (hits : Hits) (ps : Standing) (p : Picked)
     (n : ℕ) : Type 0 where
-  pub ready : Ready row table touchEnds stripEnds weights most a
+  pub ready : Ready row table touchSets stripSets weights most a
   pub holding : Holding row a p
   pub covers : Covers row (cutsOf p) hits
   pub stand : StandAt row (a .messages) (cutsOf p) (p .slot) ps
   pub few : p .count + n ≤ mostCuts
 
 -- in one slot, from a link on, where so much can be lost besides the pair of that slot
-pub record MaySeekIn (row table touchEnds stripEnds weights most : List ℕ) (a : Asked) (hits : Hits) (ps : Standing) (p : Picked) (n s e : ℕ)
+pub record MaySeekIn (row table touchSets stripSets weights most : List ℕ) (a : Asked) (hits : Hits) (ps : Standing) (p : Picked) (n s e : ℕ)
     (rest : Rest) :
     Type 0 where
-  pub ready : Ready row table touchEnds stripEnds weights most a
+  pub ready : Ready row table touchSets stripSets weights most a
   pub holding : Holding row a p
   pub covers : Covers row (cutsOf p) hits
   pub leaves : Leaves row (cutsOf p) most s (n - 1) rest
@@ -229,8 +224,8 @@ SoughtIn row a p n s e r =
     (FirstFrom (planOf row) (Seeks row a) (cutsOf p) (n - 1) (code s e)) (p .count + n) r
 
 -- lists of at most k pairs may be sought, where those of fewer than `low` are known not to answer
-pub record MayHunt (row table touchEnds stripEnds weights most : List ℕ) (a : Asked) (ps : Standing) (low k : ℕ) : Type 0 where
-  pub ready : Ready row table touchEnds stripEnds weights most a
+pub record MayHunt (row table touchSets stripSets weights most : List ℕ) (a : Asked) (ps : Standing) (low k : ℕ) : Type 0 where
+  pub ready : Ready row table touchSets stripSets weights most a
   pub stand : StandAt row (a .messages) [] 0 ps
   pub few : k ≤ mostCuts
   pub within : low ≤ k + 1

@@ -1,69 +1,48 @@
--- How many messages can still be lost, as the code counts it: by their marks and by where they stand; and what the counts may be asked.
-use Prim.Native.Nat.{ℕ, _+_, _≤_, _<_}
+-- How many messages can still be lost, as the code counts it: by sets of messages; and what the counts may be asked.
+use Prim.Native.Nat.{ℕ, _≤_, _<_}
 use mathlib.Core.Path.{_≡_}
 use mathlib.Core.Bool.{Bool, not, _&&_}
 use mathlib.Core.List.{List}
 use lib.ListN.{length, getD}
 use lib.Dec.{ltb, eqb}
-use Rattle.scope.specs.Limits.{mostCuts, mostSlots, mostLinks, mostMessages, mostEntries, weightsSize, topsSize, endsSize}
+use Rattle.scope.specs.Limits.{mostCuts, mostSlots, mostLinks, mostMessages, planeSize, weightsSize, topsSize}
 use Rattle.step.specs.declared.Position.{Position}
 use Rattle.step.specs.Stand.{home}
 use Rattle.sets.specs.Sums.{sumOf, oneIf}
-use Rattle.bound.specs.Ends.{hitsIn}
-use Rattle.bound.specs.Marks.{Marked}
+use Rattle.sets.specs.Sets.{has, IsEither}
+use Rattle.bound.specs.Sets.{setIn}
 use Rattle.search.specs.declared.Hits.{Hits}
 use Rattle.search.specs.declared.Risk.{Risk}
 use Rattle.search.specs.declared.Rest.{Rest}
-use Rattle.search.specs.Hunt.{isMarked, Fits}
+use Rattle.search.specs.Hunt.{Fits}
 
--- one for a message of a kind that is not at its target
-abbrev pub awayIf : Bool → Position → ℕ
-awayIf kind p = oneIf (kind && not (eqb (p .left) 0))
+-- the set of the first n messages that are not at their targets
+abbrev pub AreAway : List Position → ℕ → ℕ → Type 0
+AreAway ps n set = (m : ℕ) → has set m ≡ (ltb m n && not (eqb (getD ps m home .left) 0))
 
--- how many of the first n messages
-abbrev pub countAway : (ℕ → Bool) → List Position → ℕ → ℕ
-countAway kind ps n = sumOf (λ m. awayIf (kind m) (getD ps m home)) n
+-- how many messages of a kind are in a set
+abbrev pub countIn : ℕ → (ℕ → Bool) → ℕ
+countIn set kind = sumOf (λ m. oneIf (kind m && has set m)) mostMessages
 
--- by their marks
-abbrev pub risksOf : Hits → List Position → ℕ → Risk
-risksOf hits ps n =
+-- of those that the pairs picked touch, strip, and both touch and strip
+abbrev pub risksOf : Hits → ℕ → Risk
+risksOf hits away =
     record {
-      touched = countAway (isMarked (hits .touched)) ps n;
-      stripped = countAway (isMarked (hits .stripped)) ps n;
-      lost = countAway (λ m. isMarked (hits .touched) m && isMarked (hits .stripped) m) ps n;
+      touched = countIn away (has (hits .touched));
+      stripped = countIn away (has (hits .stripped));
+      lost = countIn away (λ m. has (hits .touched) m && has (hits .stripped) m);
     }
 
--- with one message more, by its marks
-abbrev pub withMessage : Risk → Position → ℕ → ℕ → Risk
-withMessage risk p touched stripped =
-    record {
-      touched = risk .touched + awayIf (ltb 0 touched) p;
-      stripped = risk .stripped + awayIf (ltb 0 stripped) p;
-      lost = risk .lost + awayIf (ltb 0 touched && ltb 0 stripped) p;
-    }
-
-pub record MayCount (n : ℕ) (hits : Hits) : Type 0 where
-  pub few : n ≤ mostMessages
-  pub touched : length (hits .touched) ≡ mostEntries
-  pub stripped : length (hits .stripped) ≡ mostEntries
-
--- one count more of each fits
-pub record MayCountOn (risk : Risk) : Type 0 where
-  pub touched : risk .touched ≤ mostMessages
-  pub stripped : risk .stripped ≤ mostMessages
-  pub lost : risk .lost ≤ mostMessages
-
--- a pair may be marked, and was
-pub record MayHit (touchEnds stripEnds : List ℕ) (hits : Hits) (e : ℕ) : Type 0 where
-  pub touches : length touchEnds ≡ endsSize
-  pub strips : length stripEnds ≡ endsSize
-  pub touched : length (hits .touched) ≡ mostEntries
-  pub stripped : length (hits .stripped) ≡ mostEntries
+-- a pair may be added, and was
+pub record MayHit (touchSets stripSets : List ℕ) (s e : ℕ) : Type 0 where
+  pub touches : length touchSets ≡ planeSize
+  pub strips : length stripSets ≡ planeSize
+  pub slot : s < mostSlots
   pub link : e < mostLinks
 
-pub record IsHit (touchEnds stripEnds : List ℕ) (old : Hits) (s e : ℕ) (new : Hits) : Type 0 where
-  pub touched : Marked (hitsIn touchEnds) s e (old .touched) (new .touched)
-  pub stripped : Marked (hitsIn stripEnds) s e (old .stripped) (new .stripped)
+pub record IsHit (touchSets stripSets : List ℕ) (old : Hits) (s e : ℕ) (new : Hits) : Type 0 where
+  pub touched : IsEither (old .touched) (setIn touchSets s e) (new .touched)
+  pub stripped : IsEither (old .stripped) (setIn stripSets s e) (new .stripped)
 
 pub record MayWeigh (risk : Risk) (n : ℕ) (most : List ℕ) (s : ℕ) : Type 0 where
   pub touched : risk .touched ≤ mostMessages

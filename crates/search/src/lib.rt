@@ -3,7 +3,6 @@
 // no list from here can answer. Of the bound it knows only specs/Bound of `bound`. It leans on `cycle` for a slot, on `order` for the
 // steps from pair to pair and on the theorems of `laws`.
 use scope::limits::CUT_NUMBERS;
-use scope::limits::ENTRIES;
 use scope::limits::LINKS;
 use scope::limits::MESSAGES;
 use scope::limits::SLOTS;
@@ -12,16 +11,14 @@ use step::Position;
 use step::Standing;
 ghost use Prim.Native.Nat.{_+_, _-_, _*_, _<_, _≤_};
 ghost use mathlib.Core.Path.{_≡_};
-ghost use mathlib.Core.Bool.{_&&_};
 ghost use lib.ListN.{length, getD};
 ghost use lib.Dec.{ltb};
-ghost use Rattle.scope.specs.Limits.{mostCuts, mostSlots, mostLinks};
+ghost use Rattle.scope.specs.Limits.{mostCuts, mostSlots, mostLinks, mostMessages};
 ghost use Rattle.scope.specs.Lowest.{seek};
-ghost use Rattle.sets.specs.Sums.{oneIf};
 ghost use Rattle.search.specs.Hunt.{cutsOf, withPair, noPair, noHits, restOf, stripsWith, lossWith, tooLight, passes, Fits, noFound};
 ghost use Rattle.search.specs.Hunt.{noHunted, StandAt};
 ghost use Rattle.search.specs.Hunt.{MayPlayOut, MayAdvance, MaySeek, MaySeekIn, Sought, SoughtIn, MayHunt, Hunts};
-ghost use Rattle.search.specs.Risks.{risksOf, withMessage, MayCount, MayCountOn, MayHit, IsHit, MayWeigh, MayStrip, MayTry};
+ghost use Rattle.search.specs.Risks.{AreAway, risksOf, MayHit, IsHit, MayWeigh, MayStrip, MayTry};
 
 // What is asked of a plan: its timeout, links and messages, the least number of arrivals, and what a list must weigh to leave fewer.
 pub struct Asked {
@@ -113,10 +110,10 @@ fn answers(least: usize, arrivals: usize) -> bool
     arrivals < least
 }
 
-// The messages that the pairs picked touch, and those that they strip: a mark for each message plus one.
+// The sets of messages that the pairs picked touch and strip.
 pub struct Hits {
-    pub touched: [u8; ENTRIES],
-    pub stripped: [u8; ENTRIES],
+    pub touched: u32,
+    pub stripped: u32,
 }
 
 // How many messages, of those that are not at their targets, the pairs picked touch, strip, and both touch and strip.
@@ -284,86 +281,61 @@ fn later(e: usize, f: usize) -> usize
     if e < f { f } else { e }
 }
 
-// One where a mark is made, else 0.
-fn one_if(mark: u8) -> usize
-    ensures { λ r. ⌜ (r ≡ oneIf (ltb 0 mark)) × (r ≤ 1) ⌝ }
+// Of the first n records the set of those that are not at their targets.
+fn away_of(ps: [Position; MESSAGES], n: usize) -> u32
+    requires { ⌜ n ≤ mostMessages ⌝ }
+    ensures { λ r. ⌜ AreAway ps n r ⌝ }
 {
-    if mark == 0 { 0 } else { 1 }
-}
-
-// One where both marks are made, else 0.
-fn one_if_both(touched: u8, stripped: u8) -> usize
-    ensures { λ r. ⌜ (r ≡ oneIf (ltb 0 touched && ltb 0 stripped)) × (r ≤ 1) ⌝ }
-{
-    if touched == 0 { 0 } else { one_if(stripped) }
-}
-
-// With one message more, by where it stands and its marks.
-fn with_message(risk: Risk, p: Position, touched: u8, stripped: u8) -> Risk
-    requires { ⌜ MayCountOn risk ⌝ }
-    ensures { λ r. ⌜ r ≡ withMessage risk p touched stripped ⌝ }
-{
-    if p.left == 0 {
-        return risk;
-    }
-    let t = one_if(touched);
-    let s = one_if(stripped);
-    let both = one_if_both(touched, stripped);
-    Risk {
-        touched: risk.touched + t,
-        stripped: risk.stripped + s,
-        lost: risk.lost + both,
-    }
-}
-
-// How many of the first n records are not at their targets and marked.
-fn count_risks(ps: [Position; MESSAGES], n: usize, hits: Hits) -> Risk
-    requires { ⌜ MayCount n hits ⌝ }
-    ensures { λ r. ⌜ r ≡ risksOf hits ps n ⌝ }
-{
-    let mut risk = Risk {
-        touched: 0,
-        stripped: 0,
-        lost: 0,
-    };
+    let mut set = 0;
     let mut m = 0;
     while m < n {
         let p = ps[m];
-        risk = with_message(risk, p, hits.touched[m + 1], hits.stripped[m + 1]);
+        set = sets::either(set, sets::one_if(p.left != 0, m));
         m += 1;
     }
-    risk
+    set
 }
 
-// How many of the first n messages are not at their targets and marked.
-fn at_risk(standing: Standing, n: usize, hits: Hits) -> Risk
-    requires { ⌜ MayCount n hits ⌝ }
-    ensures { λ r. ⌜ r ≡ risksOf hits (standing .positions) n ⌝ }
+// Of the first n messages the set of those that are not at their targets.
+fn away(standing: Standing, n: usize) -> u32
+    requires { ⌜ n ≤ mostMessages ⌝ }
+    ensures { λ r. ⌜ AreAway (standing .positions) n r ⌝ }
 {
     let ps = standing.positions();
-    count_risks(ps, n, hits)
+    away_of(ps, n)
 }
 
-// The marks of no pair.
+// How many of those that are away the pairs picked touch, strip, and both touch and strip.
+fn at_risk(hits: Hits, away: u32) -> Risk
+    ensures { λ r. ⌜ r ≡ risksOf hits away ⌝ }
+{
+    Risk {
+        touched: sets::count(sets::both(hits.touched, away)),
+        stripped: sets::count(sets::both(hits.stripped, away)),
+        lost: sets::count(sets::both(sets::both(hits.touched, hits.stripped), away)),
+    }
+}
+
+// Nobody is hit by no pair.
 fn no_hits() -> Hits
     ensures { λ r. ⌜ r ≡ noHits ⌝ }
 {
     Hits {
-        touched: [0u8; ENTRIES],
-        stripped: [0u8; ENTRIES],
+        touched: 0,
+        stripped: 0,
     }
 }
 
-// The marks with one pair more.
-fn hit(touches: &[u16], strips: &[u16], hits: Hits, s: usize, e: usize) -> Hits
-    requires { ⌜ MayHit (now touches) (now strips) hits e ⌝ }
+// Those that are hit with one pair more.
+fn hit(touches: &[u32], strips: &[u32], hits: Hits, s: usize, e: usize) -> Hits
+    requires { ⌜ MayHit (now touches) (now strips) s e ⌝ }
     ensures { λ r. ⌜ IsHit (now (touches .entry)) (now (strips .entry)) hits s e r ⌝ }
 {
-    let mut touched = hits.touched;
-    let mut stripped = hits.stripped;
-    bound::mark(touches, s, e, &mut touched);
-    bound::mark(strips, s, e, &mut stripped);
-    Hits { touched, stripped }
+    let k = s * LINKS + e;
+    Hits {
+        touched: sets::either(hits.touched, touches[k]),
+        stripped: sets::either(hits.stripped, strips[k]),
+    }
 }
 
 // Where the messages stand one slot on, under the list picked.
@@ -385,7 +357,7 @@ fn play_out(row: &[u16], table: &[u8], a: Asked, hits: Hits, ps: Standing, p: Pi
     let mut qs = ps;
     let mut i = p.slot;
     while i < a.timeout {
-        let risk = at_risk(qs, a.messages, hits);
+        let risk = at_risk(hits, away(qs, a.messages));
         if too_few(a.need, risk.lost) {
             return nothing();
         }
@@ -410,8 +382,8 @@ fn play_out(row: &[u16], table: &[u8], a: Asked, hits: Hits, ps: Standing, p: Pi
 fn in_slot(
     row: &[u16],
     table: &[u8],
-    touches: &[u16],
-    strips: &[u16],
+    touches: &[u32],
+    strips: &[u32],
     weights: &[u16],
     most: &[u16],
     a: Asked,
@@ -453,13 +425,13 @@ fn in_slot(
     nothing()
 }
 
-// All lists with n pairs more, where the messages that those picked touch and strip are marked. Where no link of a slot may be tried, none of
+// All lists with n pairs more, where those picked touch and strip the messages of `hits`. Where no link of a slot may be tried, none of
 // a later slot may; and none before the first that may be is looked at again.
 fn level(
     row: &[u16],
     table: &[u8],
-    touches: &[u16],
-    strips: &[u16],
+    touches: &[u32],
+    strips: &[u32],
     weights: &[u16],
     most: &[u16],
     a: Asked,
@@ -479,7 +451,7 @@ fn level(
     let mut s = p.slot;
     let mut e = p.link;
     while s < a.timeout {
-        let risk = at_risk(qs, a.messages, hits);
+        let risk = at_risk(hits, away(qs, a.messages));
         let rest = losses(risk, n - 1, most, s);
         let f = next_link(&down, weights, most, a.need, rest, s, 0, a.links);
         if a.links <= f {
@@ -517,8 +489,8 @@ fn level(
 pub fn first_list(
     row: &[u16],
     table: &[u8],
-    touches: &[u16],
-    strips: &[u16],
+    touches: &[u32],
+    strips: &[u32],
     weights: &[u16],
     most: &[u16],
     a: Asked,

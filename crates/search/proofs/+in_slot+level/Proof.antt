@@ -5,7 +5,7 @@ use mathlib.Core.Path.{sym}
 use native.Mathlib.Omega.{arith}
 use borrow.Author.Needs.{needs}
 use Rattle.search.proofs.Levels.{goes-up, Looking, Climbing, may-try, may-hit, may-go-on, looks-first, looks-some, looks-on, look-done}
-use Rattle.search.proofs.Levels.{may-play-out, climbs-first, may-count, may-weigh-rest, may-try-all, may-look, may-advance}
+use Rattle.search.proofs.Levels.{may-play-out, climbs-first, may-weigh-rest, may-try-all, may-look, may-advance}
 use Rattle.search.proofs.Levels.{climbs-stop, climbs-over, climbs-some, climbs-on}
 use borrow.Fn.Kinds.{In}
 use borrow.Fn.PlainCycle.{Measures, is, falls, and}
@@ -17,6 +17,7 @@ use Rattle.search.proofs.level.Kinds as level-kinds
 use Rattle.search.proofs.+in_slot+level.Lts-level as level-lts
 use Rattle.search.proofs.advance.Reads as advance-reads
 use Rattle.search.proofs.at_risk.Reads as at-risk-reads
+use Rattle.search.proofs.away.Reads as away-reads
 use Rattle.search.proofs.hit.Reads as hit-reads
 use Rattle.search.proofs.later.Reads as later-reads
 use Rattle.search.proofs.losses.Reads as losses-reads
@@ -64,6 +65,8 @@ abbrev level-calls : ℕ → level-lts.Claims
 level-calls t = (
   play-out-reads.Asked,
   play-out-reads.Learnt,
+  away-reads.Asked,
+  away-reads.Learnt,
   at-risk-reads.Asked,
   at-risk-reads.Learnt,
   losses-reads.Asked,
@@ -81,10 +84,10 @@ level-calls t = (
 )
 
 abbrev in-inv : in-slot-lts.InvT-loop
-in-inv row table touchEnds stripEnds weights most a hits ps p n s e rest down links i₀ i = Looking row weights most a p n s e i rest
+in-inv row table touchSets stripSets weights most a hits ps p n s e rest down links i₀ i = Looking row weights most a p n s e i rest
 
 abbrev in-less : in-slot-lts.MeasureT-loop
-in-less row table touchEnds stripEnds weights most a hits ps p n s e rest down links i₀ i = links - i
+in-less row table touchSets stripSets weights most a hits ps p n s e rest down links i₀ i = links - i
 
 in-slot-slice-aggregate-next-link : (t : ℕ) → in-slot-lts.Need-slice-aggregate-next-link (in-calls t) (in-slot-at t) in-slot.Post in-inv in-less
 in-slot-slice-aggregate-next-link t c = search needs
@@ -191,10 +194,10 @@ in-slot-returns-2 t c =
     (c .before .before .loop .inv) _ (c .before .loop-test .left) (c .nothing .ensures)
 
 abbrev level-inv : level-lts.InvT-loop
-level-inv row table touchEnds stripEnds weights most a hits p n down qs₀ s₀ e₀ qs s e = Climbing row a p n s e qs
+level-inv row table touchSets stripSets weights most a hits p n down qs₀ s₀ e₀ qs s e = Climbing row a p n s e qs
 
 abbrev level-less : level-lts.MeasureT-loop
-level-less row table touchEnds stripEnds weights most a hits p n down qs₀ s₀ e₀ qs s e = a .timeout - s
+level-less row table touchSets stripSets weights most a hits p n down qs₀ s₀ e₀ qs s e = a .timeout - s
 
 level-play-out-requires : (t : ℕ) → level-lts.Need-play-out-requires (level-calls t) (level-at t) level.Post level-inv level-less
 level-play-out-requires t c κs = may-play-out _ _ _ _ _ _ _ _ _ _ _ (c .before .before .before .before .before .before .before .pre .1)
@@ -206,35 +209,40 @@ level-loop-holds : (t : ℕ) → level-lts.Need-loop-holds (level-calls t) (leve
 level-loop-holds t c =
     climbs-first _ _ _ _ _ _ _ _ _ _ _ (c .before .before .before .before .before .before .before .before .pre .1) (c .before .if1 .left)
 
+level-away-requires : (t : ℕ) → level-lts.Need-away-requires (level-calls t) (level-at t) level.Post level-inv level-less
+level-away-requires t c κs = c .before .before .loop .inv .stand .next .stand .few
+
 level-at-risk-requires : (t : ℕ) → level-lts.Need-at-risk-requires (level-calls t) (level-at t) level.Post level-inv level-less
-level-at-risk-requires t c κs =
-    may-count _ _ _ _ _ _ _ _ _ _ _ (c .before .before .before .before .before .before .before .before .before .before .before .pre .1)
-    (c .before .before .before .before .if1 .left) _ _ _ (c .before .before .loop .inv)
+level-at-risk-requires t c κs = search needs
 
 level-sub-losses : (t : ℕ) → level-lts.Need-sub-losses (level-calls t) (level-at t) level.Post level-inv level-less
-level-sub-losses t c = omega (arith, c .before .before .before .before .before .if1 .left)
+level-sub-losses t c = omega (arith, c .before .before .before .before .before .before .if1 .left)
 
 level-losses-requires : (t : ℕ) → level-lts.Need-losses-requires (level-calls t) (level-at t) level.Post level-inv level-less
 level-losses-requires t c κs =
     may-weigh-rest _ _ _ _ _ _ _ _ _ _ _
-    (c .before .before .before .before .before .before .before .before .before .before .before .before .pre .1)
-    (c .before .before .before .before .before .if1 .left) _ _ _ (c .before .before .before .loop .inv) _ (c .before .if2 .taken)
+    (c .before .before .before .before .before .before .before .before .before .before .before .before .before .pre .1)
+    (c .before .before .before .before .before .before .if1 .left) _ _ _ (c .before .before .before .before .loop .inv) _ _
+    (c .before .before .if2 .taken)
     (c .at-risk .ensures)
 
 level-slice-aggregate-next-link : (t : ℕ) →
     level-lts.Need-slice-aggregate-next-link (level-calls t) (level-at t) level.Post level-inv level-less
 level-slice-aggregate-next-link t c =
-    sym (c .before .before .before .before .before .before .before .before .before .before .before .before .before .before .pre .1 .holding
-    .size)
+    sym (c .before .before .before .before .before .before .before .before .before .before .before .before .before .before
+    .before .pre .1 .holding .size)
 
 level-next-link-requires : (t : ℕ) → level-lts.Need-next-link-requires (level-calls t) (level-at t) level.Post level-inv level-less
 level-next-link-requires t c κs = (
   may-try-all _ _ _ _ _ _ _ _ _ _ _
-      (c .before .before .before .before .before .before .before .before .before .before .before .before .before .before .pre .1)
-      (c .before .before .before .before .before .before .before .if1 .left) _ _ _ (c .before .before .before .before .before .loop .inv) _ _
-      (c .before .before .at-risk .ensures) (c .before .losses .ensures) (c .before .before .before .if2 .taken),
+      (c .before .before .before .before .before .before .before .before .before .before .before .before .before .before .before .pre .1)
+      (c .before .before .before .before .before .before .before .before .if1 .left) _ _ _
+      (c .before .before .before .before .before .before .loop .inv) _ _ _
+      (c .before .before .before .away .ensures)
+      (c .before .before .at-risk .ensures) (c .before .losses .ensures) (c .before .before .before .before .if2 .taken),
   omega arith,
-  c .before .before .before .before .before .before .before .before .before .before .before .before .before .before .pre .1 .ready .play .few,
+  c .before .before .before .before .before .before .before .before .before .before .before .before .before .before
+      .before .pre .1 .ready .play .few,
 )
 
 level-nothing-requires : (t : ℕ) → level-lts.Need-nothing-requires (level-calls t) (level-at t) level.Post level-inv level-less
@@ -243,9 +251,11 @@ level-nothing-requires t c κs = search needs
 level-returns-2 : (t : ℕ) → level-lts.Need-returns-2 (level-calls t) (level-at t) level.Post level-inv level-less
 level-returns-2 t c =
     climbs-stop _ _ _ _ _ _ _ _ _ _ _
-    (c .before .before .before .before .before .before .before .before .before .before .before .before .before .before .before .before .before
-    .before .pre .1) (c .before .before .before .before .before .before .before .before .before .before .before .if1 .left) _ _ _
-    (c .before .before .before .before .before .before .before .before .before .loop .inv) _ _
+    (c .before .before .before .before .before .before .before .before .before .before .before .before .before .before .before .before
+    .before .before
+    .before .pre .1) (c .before .before .before .before .before .before .before .before .before .before .before .before .if1 .left) _ _ _
+    (c .before .before .before .before .before .before .before .before .before .before .loop .inv) _ _ _
+    (c .before .before .before .before .before .before .before .away .ensures)
     (c .before .before .before .before .before .before .at-risk .ensures) (c .before .before .before .before .before .losses .ensures) _ _
     (c .nothing .ensures) (c .before .before .before .next-link .ensures) (c .before .if3 .taken)
 
@@ -256,25 +266,28 @@ level-in-slot-requires : (t : ℕ) → level-lts.Need-in-slot-requires (level-ca
 level-in-slot-requires t c κs = (
   omega (
     arith,
-    c .before .before .before .before .before .before .before .before .before .before .before .before .before .before .before
+    c .before .before .before .before .before .before .before .before .before .before .before .before .before .before .before .before
         .before .before .before .pre .0,
   ),
   may-look _ _ _ _ _ _ _ _ _ _ _
-      (c .before .before .before .before .before .before .before .before .before .before .before .before .before .before .before .before .before
-      .before .pre .1) (c .before .before .before .before .before .before .before .before .before .before .before .if1 .left) _ _ _
-      (c .before .before .before .before .before .before .before .before .before .loop .inv) _ _
+      (c .before .before .before .before .before .before .before .before .before .before .before .before .before .before .before .before
+      .before .before
+      .before .pre .1) (c .before .before .before .before .before .before .before .before .before .before .before .before .if1 .left) _ _ _
+      (c .before .before .before .before .before .before .before .before .before .before .loop .inv) _ _ _
+      (c .before .before .before .before .before .before .before .away .ensures)
       (c .before .before .before .before .before .before .at-risk .ensures) (c .before .before .before .before .before .losses .ensures) _ _
       (c .before .before .before .next-link .ensures) (c .later .ensures)
-      (c .before .before .before .before .before .before .before .if2 .taken),
+      (c .before .before .before .before .before .before .before .before .if2 .taken),
 )
 
 level-returns-3 : (t : ℕ) → level-lts.Need-returns-3 (level-calls t) (level-at t) level.Post level-inv level-less
 level-returns-3 t c =
     climbs-some _ _ _ _ _ _ _ _ _ _ _
-    (c .before .before .before .before .before .before .before .before .before .before .before .before .before .before .before .before .before
-    .before .before .before .pre .1)
-    (c .before .before .before .before .before .before .before .before .before .before .before .before .before .if1 .left) _ _ _
-    (c .before .before .before .before .before .before .before .before .before .before .before .loop .inv) _ _
+    (c .before .before .before .before .before .before .before .before .before .before .before .before .before .before .before .before
+    .before .before .before .before .before .pre .1)
+    (c .before .before .before .before .before .before .before .before .before .before .before .before .before .before .if1 .left) _ _ _
+    (c .before .before .before .before .before .before .before .before .before .before .before .before .loop .inv) _ _ _
+    (c .before .before .before .before .before .before .before .before .before .away .ensures)
     (c .before .before .before .before .before .before .before .before .at-risk .ensures)
     (c .before .before .before .before .before .before .before .losses .ensures) _ _
     (c .before .before .before .before .before .next-link .ensures) (c .before .before .later .ensures) _ (c .before .in-slot .ensures)
@@ -283,36 +296,37 @@ level-returns-3 t c =
 level-advance-requires : (t : ℕ) → level-lts.Need-advance-requires (level-calls t) (level-at t) level.Post level-inv level-less
 level-advance-requires t c κs =
     may-advance _ _ _ _ _ _ _ _ _ _ _
-    (c .before .before .before .before .before .before .before .before .before .before .before .before .before .before .before .before .before
-    .before .before .before .pre .1)
-    (c .before .before .before .before .before .before .before .before .before .before .before .before .before .if1 .left) _ _ _
-    (c .before .before .before .before .before .before .before .before .before .before .before .loop .inv)
-    (c .before .before .before .before .before .before .before .before .before .if2 .taken)
+    (c .before .before .before .before .before .before .before .before .before .before .before .before .before .before .before .before
+    .before .before .before .before .before .pre .1)
+    (c .before .before .before .before .before .before .before .before .before .before .before .before .before .before .if1 .left) _ _ _
+    (c .before .before .before .before .before .before .before .before .before .before .before .before .loop .inv)
+    (c .before .before .before .before .before .before .before .before .before .before .if2 .taken)
 
 level-add-s : (t : ℕ) → level-lts.Need-add-s (level-calls t) (level-at t) level.Post level-inv level-less
 level-add-s t c =
     omega (
       arith,
-      c .before .before .before .before .before .before .before .before .before .before .if2 .taken,
-      c .before .before .before .before .before .before .before .before .before .before .before .before .before .before .before .before .before
-          .before .before .before .before .pre .1 .ready .play .short,
+      c .before .before .before .before .before .before .before .before .before .before .before .if2 .taken,
+      c .before .before .before .before .before .before .before .before .before .before .before .before .before .before .before .before
+          .before .before .before .before .before .before .pre .1 .ready .play .short,
     )
 
 level-loop-less : (t : ℕ) → level-lts.Need-loop-less (level-calls t) (level-at t) level.Post level-inv level-less
-level-loop-less t c = omega (arith, c .before .before .before .before .before .before .before .before .before .before .if2 .taken)
+level-loop-less t c = omega (arith, c .before .before .before .before .before .before .before .before .before .before .before .if2 .taken)
 
 level-loop-again : (t : ℕ) → level-lts.Need-loop-again (level-calls t) (level-at t) level.Post level-inv level-less
 level-loop-again t c =
     climbs-on _ _ _ _ _ _ _ _ _ _ _
-    (c .before .before .before .before .before .before .before .before .before .before .before .before .before .before .before .before .before
-    .before .before .before .before .pre .1)
-    (c .before .before .before .before .before .before .before .before .before .before .before .before .before .before .if1 .left) _ _ _
-    (c .before .before .before .before .before .before .before .before .before .before .before .before .loop .inv) _ _
+    (c .before .before .before .before .before .before .before .before .before .before .before .before .before .before .before .before
+    .before .before .before .before .before .before .pre .1)
+    (c .before .before .before .before .before .before .before .before .before .before .before .before .before .before .before .if1 .left) _ _ _
+    (c .before .before .before .before .before .before .before .before .before .before .before .before .before .loop .inv) _ _ _
+    (c .before .before .before .before .before .before .before .before .before .before .away .ensures)
     (c .before .before .before .before .before .before .before .before .before .at-risk .ensures)
     (c .before .before .before .before .before .before .before .before .losses .ensures) _ _
     (c .before .before .before .before .before .before .next-link .ensures) (c .before .before .before .later .ensures) _
     (c .before .before .in-slot .ensures) _ (c .before .if4 .left)
-    (c .before .before .before .before .before .before .before .before .before .before .if2 .taken) (c .advance .ensures)
+    (c .before .before .before .before .before .before .before .before .before .before .before .if2 .taken) (c .advance .ensures)
 
 level-nothing-requires-2 : (t : ℕ) → level-lts.Need-nothing-requires-2 (level-calls t) (level-at t) level.Post level-inv level-less
 level-nothing-requires-2 t c κs = search needs
@@ -353,6 +367,7 @@ pub +in-slot+level-spec : {M : Type 1} → statement M
     (level-play-out-requires t)
     (level-returns t)
     (level-loop-holds t)
+    (level-away-requires t)
     (level-at-risk-requires t)
     (level-sub-losses t)
     (level-losses-requires t)

@@ -8,10 +8,10 @@ use Rattle.search.proofs.first_list.Statement.{statement}
 use Rattle.search.proofs.first_list.Tie as tie
 
 abbrev Inv-loop : tie.InvT-loop
-Inv-loop row table touchEnds stripEnds weights most a ps low k p hits n₀ n = Hunting row a low k n
+Inv-loop row table touchSets stripSets weights most a ps low k p hits n₀ n = Hunting row a low k n
 
 abbrev μ-loop : tie.MeasureT-loop
-μ-loop row table touchEnds stripEnds weights most a ps low k p hits n₀ n = k + 1 - n
+μ-loop row table touchSets stripSets weights most a ps low k p hits n₀ n = k + 1 - n
 
 loop-holds : tie.Need-loop-holds Inv-loop μ-loop
 loop-holds c = hunt-first _ _ _ _ _ _ _ _ _ _ (c .before .before .before .before .before .before .before .before .pre)

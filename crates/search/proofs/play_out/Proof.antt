@@ -2,7 +2,7 @@
 use Prim.Native.Nat.{_-_}
 use native.Mathlib.Omega.{arith}
 use mathlib.Core.Path.{refl}
-use Rattle.search.proofs.Playing.{settled-none, settled-some, Ending, ends-first, ends-may, ends-count, ends-more, ends-light, ends-over}
+use Rattle.search.proofs.Playing.{settled-none, settled-some, Ending, ends-first, ends-may, ends-more, ends-light, ends-over}
 use borrow.Author.Needs.{needs}
 use Rattle.search.proofs.play_out.Statement.{statement}
 use Rattle.search.proofs.play_out.Tie as tie
@@ -16,35 +16,37 @@ abbrev μ-loop : tie.MeasureT-loop
 loop-holds : tie.Need-loop-holds Inv-loop μ-loop
 loop-holds c = ends-first _ _ _ _ _ _ (c .before .before .pre)
 
-at-risk-requires : tie.Need-at-risk-requires Inv-loop μ-loop
-at-risk-requires c κs = ends-count _ _ _ _ _ _ (c .before .before .before .before .before .pre) _ _ (c .before .before .loop .inv)
+away-requires : tie.Need-away-requires Inv-loop μ-loop
+away-requires c κs = c .before .before .loop .inv .stand .next .stand .few
 
 returns : tie.Need-returns Inv-loop μ-loop
 returns c =
-    ends-light _ _ _ _ _ _ (c .before .before .before .before .before .before .before .before .before .pre) _ _
-    (c .before .before .before .before .before .before .loop .inv) _ _ _ (c .nothing .ensures)
-    (c .before .before .before .at-risk .ensures) (c .before .before .too-few .ensures) (c .before .if2 .taken)
+    ends-light _ _ _ _ _ _ (c .before .before .before .before .before .before .before .before .before .before .pre) _ _
+    (c .before .before .before .before .before .before .before .loop .inv) _ _ _ _ (c .nothing .ensures)
+    (c .before .before .before .before .away .ensures) (c .before .before .before .at-risk .ensures)
+    (c .before .before .too-few .ensures) (c .before .if2 .taken)
 
 advance-requires : tie.Need-advance-requires Inv-loop μ-loop
 advance-requires c κs =
-    ends-may _ _ _ _ _ _ (c .before .before .before .before .before .before .before .before .pre) _ _
-    (c .before .before .before .before .before .loop .inv) (c .before .before .before .if1 .taken)
+    ends-may _ _ _ _ _ _ (c .before .before .before .before .before .before .before .before .before .pre) _ _
+    (c .before .before .before .before .before .before .loop .inv) (c .before .before .before .before .if1 .taken)
 
 add-i : tie.Need-add-i Inv-loop μ-loop
 add-i c =
     omega (
       arith,
-      c .before .before .before .before .if1 .taken,
-      c .before .before .before .before .before .before .before .before .before .pre .play .short,
+      c .before .before .before .before .before .if1 .taken,
+      c .before .before .before .before .before .before .before .before .before .before .pre .play .short,
     )
 
 loop-less : tie.Need-loop-less Inv-loop μ-loop
-loop-less c = omega (arith, c .before .before .before .before .if1 .taken)
+loop-less c = omega (arith, c .before .before .before .before .before .if1 .taken)
 
 loop-again : tie.Need-loop-again Inv-loop μ-loop
 loop-again c =
-    ends-more _ _ _ _ _ _ (c .before .before .before .before .before .before .before .before .before .pre) _ _
-    (c .before .before .before .before .before .before .loop .inv) _ (c .before .before .before .before .if1 .taken) (c .advance .ensures)
+    ends-more _ _ _ _ _ _ (c .before .before .before .before .before .before .before .before .before .before .pre) _ _
+    (c .before .before .before .before .before .before .before .loop .inv) _ (c .before .before .before .before .before .if1 .taken)
+    (c .advance .ensures)
 
 count-home-requires : tie.Need-count-home-requires Inv-loop μ-loop
 count-home-requires c κs = c .before .before .loop .inv .stand .next .stand .few
@@ -70,5 +72,5 @@ returns-3 c =
 pub play-out-spec : {M : Type 1} → statement M
 play-out-spec =
     tie.close
-    (tie.spec Inv-loop μ-loop loop-holds at-risk-requires (λ c κs. search needs) (λ c κs. search needs) returns advance-requires add-i loop-less
-    loop-again count-home-requires (λ c κs. search needs) (λ c κs. search needs) returns-2 returns-3)
+    (tie.spec Inv-loop μ-loop loop-holds away-requires (λ c κs. search needs) (λ c κs. search needs) (λ c κs. search needs) returns
+    advance-requires add-i loop-less loop-again count-home-requires (λ c κs. search needs) (λ c κs. search needs) returns-2 returns-3)
