@@ -1,4 +1,4 @@
--- The three weights one table after another: sums, and the loop that adds two of them.
+-- The three weights one plane after another: sums, and the loop that adds two of them.
 use Prim.Native.Nat.{ℕ, _+_, _-_, _*_, _/_, _%_, _≤_, _<_}
 use native.Mathlib.Omega.{arith}
 use mathlib.Core.Path.{_≡_, refl, sym, _∙_, ap, ap₂}
@@ -11,7 +11,7 @@ use lib.Dec.{eqb}
 use borrow.Author.Count.{below-more}
 use borrow.Author.Tests.{eqb-true, eqb-false}
 use native.Mathlib.Numerals.{add-one}
-use Rattle.scope.specs.Limits.{mostSlots, mostLinks, mostMessages, tableSize, weightsSize, topsSize}
+use Rattle.scope.specs.Limits.{mostSlots, mostLinks, mostMessages, planeSize, weightsSize, topsSize}
 use Rattle.table.specs.Table.{indexOf}
 use Rattle.sets.specs.Sums.{sumOf}
 use Rattle.bound.specs.Seconds.{secondIn, onLink}
@@ -71,32 +71,35 @@ module _ (seconds links : List ℕ) where
     counting-done h = record { numbers = g .numbers; is = λ d l. g .is d (omega arith) }
 
 -- a loop over the third weights, at index k
-pub record Adding (old new : List ℕ) (k : ℕ) : Type 0 where
+pub record Adding (slots : ℕ) (old new : List ℕ) (k : ℕ) : Type 0 where
   pub long : length new ≡ weightsSize
-  pub same : (j : ℕ) → j < 2 * tableSize → getD new j 0 ≡ getD old j 0
-  pub sum : (j : ℕ) → j < k → getD new (2 * tableSize + j) 0 ≡ getD old j 0 + getD old (tableSize + j) 0
+  pub same : (j : ℕ) → j < 2 * planeSize → getD new j 0 ≡ getD old j 0
+  pub sum : (j : ℕ) → j < k → getD new (2 * planeSize + j) 0 ≡ getD old j 0 + getD old (planeSize + j) 0
 
-module _ (old : List ℕ) (may : MayAdd old) where
-  pub adding-none : Adding old old 0
+module _ (slots : ℕ) (old : List ℕ) (may : MayAdd slots old) where
+  pub adding-none : Adding slots old old 0
   adding-none = record { long = may .long; same = λ j h. refl; sum = λ j h. absurd (omega arith) }
 
-  module _ (new : List ℕ) (k : ℕ) (g : Adding old new k) where
-    pub adding-small : k < tableSize → getD new k 0 + getD new (tableSize + k) 0 < 65536
-    adding-small h = omega (arith, may .few k h, g .same k (omega arith), g .same (tableSize + k) (omega arith))
+  module _ (new : List ℕ) (k : ℕ) (g : Adding slots old new k) where
+    pub adding-small : k < slots * mostLinks → getD new k 0 + getD new (planeSize + k) 0 < 65536
+    adding-small h =
+        let within = may .within in
+        omega (arith, may .few k h, g .same k (omega arith), g .same (planeSize + k) (omega arith))
 
-    pub adding-more : (v : ℕ) → k < tableSize → v ≡ getD new k 0 + getD new (tableSize + k) 0 →
-        Adding old (set new (2 * tableSize + k) v) (k + 1)
+    pub adding-more : (v : ℕ) → k < slots * mostLinks → v ≡ getD new k 0 + getD new (planeSize + k) 0 →
+        Adding slots old (set new (2 * planeSize + k) v) (k + 1)
     adding-more v h is =
+        let within = may .within in
         record {
-          long = length-set new (2 * tableSize + k) v ∙ g .long;
-          same = λ j l. getD-set-other new (2 * tableSize + k) j v 0 (λ q. omega arith) ∙ g .same j l;
-          sum = below-more (λ j. getD (set new (2 * tableSize + k) v) (2 * tableSize + j) 0 ≡ getD old j 0 + getD old (tableSize + j) 0) k
-              (λ j l. getD-set-other new (2 * tableSize + k) (2 * tableSize + j) v 0 (λ q. omega arith) ∙ g .sum j l)
-              (getD-set-same new (2 * tableSize + k) v 0 (omega (arith, g .long)) ∙ is ∙
-              ap₂ _+_ (g .same k (omega arith)) (g .same (tableSize + k) (omega arith)));
+          long = length-set new (2 * planeSize + k) v ∙ g .long;
+          same = λ j l. getD-set-other new (2 * planeSize + k) j v 0 (λ q. omega arith) ∙ g .same j l;
+          sum = below-more (λ j. getD (set new (2 * planeSize + k) v) (2 * planeSize + j) 0 ≡ getD old j 0 + getD old (planeSize + j) 0) k
+              (λ j l. getD-set-other new (2 * planeSize + k) (2 * planeSize + j) v 0 (λ q. omega arith) ∙ g .sum j l)
+              (getD-set-same new (2 * planeSize + k) v 0 (omega (arith, g .long)) ∙ is ∙
+              ap₂ _+_ (g .same k (omega arith)) (g .same (planeSize + k) (omega arith)));
         }
 
-    pub adding-done : tableSize ≤ k → Added old new
+    pub adding-done : slots * mostLinks ≤ k → Added slots old new
     adding-done h = record { long = g .long; same = g .same; sum = λ j l. g .sum j (omega arith) }
 
 -- a part of a list, and a list with a part put in its place
@@ -134,23 +137,22 @@ put-front k xs ys there long i h =
     let at : i ≡ 0 + i = omega arith in ap (λ (n : ℕ). getD (putMid 0 k xs ys) n 0) at ∙ put-in 0 k xs ys (omega arith) long i h
 
 -- the first j of the three have their numbers
-pub record Topped (weights most : List ℕ) (j : ℕ) : Type 0 where
+pub record Topped (weights : List ℕ) (slots : ℕ) (most : List ℕ) (j : ℕ) : Type 0 where
   pub long : length most ≡ topsSize
-  pub later : (p s i e : ℕ) → p < j → s ≤ i → i < mostSlots → e < mostLinks → weightIn weights p i e ≤ topIn most p s
+  pub later : (p s i e : ℕ) → p < j → s ≤ i → i < slots → e < mostLinks → weightIn weights p i e ≤ topIn most p s
 
-module _ (weights most : List ℕ) (size : length weights ≡ weightsSize) where
-  pub topped-none : length most ≡ topsSize → Topped weights most 0
+module _ (weights : List ℕ) (slots : ℕ) (most : List ℕ) where
+  pub topped-none : length most ≡ topsSize → Topped weights slots most 0
   topped-none l = record { long = l; later = λ p s i e h. absurd (omega arith) }
 
-  pub topped-more : (j k l : ℕ) (tops : List ℕ) → Topped weights most j → j < 3 → k ≡ tableSize → l ≡ mostSlots →
-      Tops (midOf (j * tableSize) k weights) tops → Topped weights (putMid (j * mostSlots) l most tops) (j + 1)
-  topped-more j k l tops g h ek el t =
+  pub topped-more : (j k l : ℕ) (tops : List ℕ) → slots ≤ mostSlots → Topped weights slots most j → j < 3 → k ≡ planeSize → l ≡ mostSlots →
+      Tops (midOf (j * planeSize) k weights) slots tops → Topped weights slots (putMid (j * mostSlots) l most tops) (j + 1)
+  topped-more j k l tops few g h ek el t =
       record {
         long = put-long (j * mostSlots) l most tops (omega (arith, g .long)) (t .long ∙ sym el) ∙ g .long;
         later =
             λ p s i e b. below-more
-            (λ p. (s i e : ℕ) → s ≤ i → i < mostSlots → e < mostLinks → weightIn weights p i e ≤ topIn (putMid (j * mostSlots) l most tops) p s)
-            j
+            (λ p. (s i e : ℕ) → s ≤ i → i < slots → e < mostLinks → weightIn weights p i e ≤ topIn (putMid (j * mostSlots) l most tops) p s) j
             (λ p b s i e a c d. omega (
               arith,
               g .later p s i e b a c d,
@@ -160,75 +162,72 @@ module _ (weights most : List ℕ) (size : length weights ≡ weightsSize) where
             (λ s i e a c d. omega (
               arith,
               t .later s i e a c d,
-              in-part (j * tableSize) k weights (indexOf i e) (omega arith),
+              in-part (j * planeSize) k weights (indexOf i e) (omega arith),
               put-in (j * mostSlots) l most tops (omega (arith, g .long)) (t .long ∙ sym el) s (omega arith),
             )) p b s i e;
       }
 
-  pub topped-done : (j : ℕ) → Topped weights most j → 3 ≤ j → TopsEach weights most
+  pub topped-done : (j : ℕ) → Topped weights slots most j → 3 ≤ j → TopsEach weights slots most
   topped-done j g h = record { long = g .long; later = λ p s i e l. g .later p s i e (omega arith) }
 
 -- the three weights, one after another
-pub weighs-all : (table fragile seconds old one two new : List ℕ) → length old ≡ weightsSize → Weighs table one →
-    WeighsStrips fragile seconds two →
-    Added (putMid tableSize tableSize (putMid 0 tableSize old one) two) new → WeighsAll table fragile seconds new
-weighs-all table fragile seconds old one two new size a b c =
-    record { long = c .long; touches = λ s e hs he. touch s e hs he ∙ from s e hs he table; strips = strip; both = both }
-  where
-    first : List ℕ
-    first = putMid 0 tableSize old one
+module _ (table fragile seconds : List ℕ) (slots : ℕ) (old one two : List ℕ) (few : slots ≤ mostSlots) (size : length old ≡ weightsSize)
+    (a : Weighs table slots one) (b : WeighsStrips fragile seconds slots two) where
+  abbrev first : List ℕ
+  first = putMid 0 planeSize old one
 
-    long : length first ≡ weightsSize
-    long = put-long 0 tableSize old one (omega arith) (a .long) ∙ size
+  long : length first ≡ weightsSize
+  long = put-long 0 planeSize old one (omega arith) (a .long) ∙ size
 
-    from : (s e : ℕ) → s < mostSlots → e < mostLinks → (t : List ℕ) → below t (indexOf s e) ≡ entriesFrom t s e
-    from s e hs he t =
-        let slot : indexOf s e / mostLinks ≡ s = omega arith in
-        let link : indexOf s e % mostLinks ≡ e = omega arith in
-        ap₂ (entriesFrom t) slot link
+  in-first : (k : ℕ) → k < planeSize → getD (putMid planeSize planeSize first two) k 0 ≡ getD one k 0
+  in-first k h =
+      put-before planeSize planeSize first two (omega (arith, long)) (b .long) k h ∙ put-front planeSize old one (omega arith) (a .long) k h
 
-    touch : (s e : ℕ) → s < mostSlots → e < mostLinks → weightIn new 0 s e ≡ below table (indexOf s e)
-    touch s e hs he =
-        let k = indexOf s e in
-        let i : 0 * tableSize + k ≡ k = omega arith in
-        ap (λ (n : ℕ). getD new n 0) i ∙ c .same k (omega arith) ∙
-        put-before tableSize tableSize first two (omega (arith, long)) (b .long) k (omega arith) ∙
-        put-front tableSize old one (omega arith) (a .long) k (omega arith) ∙ a .is k (omega arith)
+  in-second : (k : ℕ) → k < planeSize → getD (putMid planeSize planeSize first two) (planeSize + k) 0 ≡ getD two k 0
+  in-second = put-in planeSize planeSize first two (omega (arith, long)) (b .long)
 
-    second : (s e : ℕ) → s < mostSlots → e < mostLinks → weightIn new 1 s e ≡ getD two (indexOf s e) 0
-    second s e hs he =
-        let k = indexOf s e in
-        c .same (1 * tableSize + k) (omega arith) ∙ put-in tableSize tableSize first two (omega (arith, long)) (b .long) k (omega arith)
+  -- they may be added
+  pub may-add : MayAdd slots (putMid planeSize planeSize first two)
+  may-add =
+      record {
+        long = put-long planeSize planeSize first two (omega (arith, long)) (b .long) ∙ long;
+        within = few;
+        few = λ k h.
+            omega (
+              arith,
+              in-first k (omega arith),
+              in-second k (omega arith),
+              a .is k h,
+              below-small table slots k,
+              b .few k h,
+            );
+      }
 
-    strip : (s e : ℕ) → s < mostSlots → e < mostLinks → weightIn new 1 s e ≡ entriesFrom fragile s e + onLink seconds e
-    strip s e hs he =
-        let k = indexOf s e in
-        let link : k % mostLinks ≡ e = omega arith in
-        second s e hs he ∙ b .is k (omega arith) ∙ ap₂ (λ (x l : ℕ). x + onLink seconds l) (from s e hs he fragile) link
+  pub weighs-all : (new : List ℕ) → Added slots (putMid planeSize planeSize first two) new → WeighsAll table fragile seconds slots new
+  weighs-all new c = record { long = c .long; touches = touch; strips = strip; both = both }
+    where
+      from : (s e : ℕ) → s < slots → e < mostLinks → (t : List ℕ) → below t slots (indexOf s e) ≡ entriesFrom t slots s e
+      from s e hs he t =
+          let slot : indexOf s e / mostLinks ≡ s = omega arith in
+          let link : indexOf s e % mostLinks ≡ e = omega arith in
+          ap₂ (entriesFrom t slots) slot link
 
-    both : (s e : ℕ) → s < mostSlots → e < mostLinks → weightIn new 2 s e ≡ weightIn new 0 s e + weightIn new 1 s e
-    both s e hs he =
-        let k = indexOf s e in
-        let i : 0 * tableSize + k ≡ k = omega arith in
-        c .sum k (omega arith) ∙ ap₂ _+_ (sym (c .same k (omega arith)) ∙ ap (λ (n : ℕ). getD new n 0) (sym i))
-        (sym (c .same (tableSize + k) (omega arith)))
+      touch : (s e : ℕ) → s < slots → e < mostLinks → weightIn new 0 s e ≡ entriesFrom table slots s e
+      touch s e hs he =
+          let k = indexOf s e in
+          let i : 0 * planeSize + k ≡ k = omega arith in
+          ap (λ (n : ℕ). getD new n 0) i ∙ c .same k (omega arith) ∙ in-first k (omega arith) ∙ a .is k (omega arith) ∙ from s e hs he table
 
--- and they may be added
-pub may-add : (table fragile seconds old one two : List ℕ) → length old ≡ weightsSize → Weighs table one → WeighsStrips fragile seconds two →
-    MayAdd (putMid tableSize tableSize (putMid 0 tableSize old one) two)
-may-add table fragile seconds old one two size a b =
-    record {
-      long = put-long tableSize tableSize (putMid 0 tableSize old one) two (omega (arith, long)) (b .long) ∙ long;
-      few = λ k h. omega (
-        arith,
-        put-before tableSize tableSize (putMid 0 tableSize old one) two (omega (arith, long)) (b .long) k h,
-        put-front tableSize old one (omega arith) (a .long) k h,
-        a .is k h,
-        below-small table k,
-        put-in tableSize tableSize (putMid 0 tableSize old one) two (omega (arith, long)) (b .long) k h,
-        b .few k h,
-      );
-    }
-  where
-    long : length (putMid 0 tableSize old one) ≡ weightsSize
-    long = put-long 0 tableSize old one (omega arith) (a .long) ∙ size
+      strip : (s e : ℕ) → s < slots → e < mostLinks → weightIn new 1 s e ≡ entriesFrom fragile slots s e + onLink seconds e
+      strip s e hs he =
+          let k = indexOf s e in
+          let link : k % mostLinks ≡ e = omega arith in
+          c .same (1 * planeSize + k) (omega arith) ∙ in-second k (omega arith) ∙ b .is k (omega arith) ∙
+          ap₂ (λ (x l : ℕ). x + onLink seconds l) (from s e hs he fragile) link
+
+      both : (s e : ℕ) → s < slots → e < mostLinks → weightIn new 2 s e ≡ weightIn new 0 s e + weightIn new 1 s e
+      both s e hs he =
+          let k = indexOf s e in
+          let i : 0 * planeSize + k ≡ k = omega arith in
+          c .sum k (omega arith) ∙ ap₂ _+_ (sym (c .same k (omega arith)) ∙ ap (λ (n : ℕ). getD new n 0) (sym i))
+          (sym (c .same (planeSize + k) (omega arith)))

@@ -1,100 +1,142 @@
--- The loops that fill the tables from their ends: from index k on they are done.
+-- The loops that fill the tables from their last slot: from index k on they are done.
 use Prim.Native.Nat.{ℕ, zero, suc, _+_, _-_, _*_, _/_, _%_, _≤_, _<_}
 use native.Mathlib.Omega.{arith}
-use mathlib.Core.Path.{_≡_, refl, _∙_, ap, ap₂}
-use mathlib.Core.Bool.{Bool, true, false, cond}
+use mathlib.Core.Path.{_≡_, refl, sym, _∙_, ap, ap₂}
+use mathlib.Core.Bool.{Bool, true, false}
 use mathlib.Core.List.{List}
 use lib.ListN.{length, getD, set, replicate, length-set, length-replicate, getD-replicate, List·getD-eq-default}
 use lib.Seq.{getD-set-same, getD-set-other}
 use lib.Dec.{ltb, eqb}
-use borrow.Author.Tests.{ltb-true, ltb-false, eqb-true, eqb-false, lt-ltb}
-use Rattle.scope.specs.Limits.{mostSlots, mostLinks, tableSize}
-use Rattle.table.specs.Table.{entryAt}
+use borrow.Author.Count.{below-more}
+use borrow.Author.Tests.{ltb-true, ltb-false, eqb-true, eqb-false}
+use Rattle.scope.specs.Limits.{mostSlots, mostLinks, planeSize}
+use Rattle.table.specs.Table.{indexOf, entryAt}
+use Rattle.table.proofs.Entries.{entry-is}
 use Rattle.sets.specs.Sums.{sumOf, oneIf}
 use Rattle.bound.specs.Touch.{touchedIn}
-use Rattle.bound.specs.Weights.{entriesFrom, below, mostOnLink, laterIn, ForLinks, OnLinks, WeighsFrom, Weighs, WeighsStrips, Tops}
+use Rattle.bound.specs.Weights.{entriesFrom, below, mostOnLink, ForLinks, OnLinks, Behind, WeighsFrom, Weighs, WeighsStrips, TopOf, Tops}
+use Rattle.bound.specs.Fronts.{Larger}
 use Rattle.sets.proofs.Sums.{sum-same, sum-first, tests-few}
 
-from-more : (table : List ℕ) (s e : ℕ) → s < mostSlots → entriesFrom table s e ≡ oneIf (ltb 0 (entryAt table s e)) + entriesFrom table (s + 1) e
-from-more table s e h =
-    let n : mostSlots - s ≡ suc (mostSlots - (s + 1)) = omega arith in
-    let z : s + 0 ≡ s = omega arith in
-    ap (λ (n : ℕ). touchedIn (entryAt table) n s e) n ∙ sum-first (λ i. oneIf (ltb 0 (entryAt table (s + i) e))) (mostSlots - (s + 1)) ∙
-    ap₂ _+_ (ap (λ (i : ℕ). oneIf (ltb 0 (entryAt table i e))) z)
-    (sum-same (λ i. oneIf (ltb 0 (entryAt table (s + suc i) e))) (λ i. oneIf (ltb 0 (entryAt table (s + 1 + i) e))) (mostSlots - (s + 1))
-    (λ i l. let t : s + suc i ≡ s + 1 + i = omega arith in ap (λ (j : ℕ). oneIf (ltb 0 (entryAt table j e))) t))
+module _ (table : List ℕ) (slots : ℕ) where
+  from-more : (s e : ℕ) → s < slots → entriesFrom table slots s e ≡ oneIf (ltb 0 (entryAt table s e)) + entriesFrom table slots (s + 1) e
+  from-more s e h =
+      let n : slots - s ≡ suc (slots - (s + 1)) = omega arith in
+      let z : s + 0 ≡ s = omega arith in
+      ap (λ (n : ℕ). touchedIn (entryAt table) n s e) n ∙ sum-first (λ i. oneIf (ltb 0 (entryAt table (s + i) e))) (slots - (s + 1)) ∙
+      ap₂ _+_ (ap (λ (i : ℕ). oneIf (ltb 0 (entryAt table i e))) z)
+      (sum-same (λ i. oneIf (ltb 0 (entryAt table (s + suc i) e))) (λ i. oneIf (ltb 0 (entryAt table (s + 1 + i) e))) (slots - (s + 1))
+      (λ i l. let t : s + suc i ≡ s + 1 + i = omega arith in ap (λ (j : ℕ). oneIf (ltb 0 (entryAt table j e))) t))
 
--- fewer come from a later slot on
-pub entries-fall : (table : List ℕ) (s e d : ℕ) → s + d ≤ mostSlots → entriesFrom table (s + d) e ≤ entriesFrom table s e
-entries-fall table s e zero h = let z : s + 0 ≡ s = omega arith in rw z (omega arith)
-entries-fall table s e (suc d) h =
-    let t : s + suc d ≡ s + d + 1 = omega arith in
-    rw t (omega (arith, from-more table (s + d) e (omega arith), entries-fall table s e d (omega arith)))
+  -- fewer come from a later slot on
+  pub entries-fall : (s e d : ℕ) → s + d ≤ slots → entriesFrom table slots (s + d) e ≤ entriesFrom table slots s e
+  entries-fall s e zero h = let z : s + 0 ≡ s = omega arith in rw z (omega arith)
+  entries-fall s e (suc d) h =
+      let t : s + suc d ≡ s + d + 1 = omega arith in
+      rw t (omega (arith, from-more (s + d) e (omega arith), entries-fall s e d (omega arith)))
 
-below-more : (table : List ℕ) (k : ℕ) → k < tableSize →
-    below table k ≡ oneIf (ltb 0 (entryAt table (k / mostLinks) (k % mostLinks))) + below table (k + mostLinks)
-below-more table k h =
-    let s : k / mostLinks + 1 ≡ (k + mostLinks) / mostLinks = omega arith in
-    let e : k % mostLinks ≡ (k + mostLinks) % mostLinks = omega arith in
-    from-more table (k / mostLinks) (k % mostLinks) (omega arith) ∙
-    ap (λ (n : ℕ). oneIf (ltb 0 (entryAt table (k / mostLinks) (k % mostLinks))) + n) (ap₂ (entriesFrom table) s e)
+  next-below : (k : ℕ) → slots ≤ mostSlots → k < slots * mostLinks →
+      below table slots k ≡ oneIf (ltb 0 (getD table k 0)) + below table slots (k + mostLinks)
+  next-below k few h =
+      let s : k / mostLinks + 1 ≡ (k + mostLinks) / mostLinks = omega arith in
+      let e : k % mostLinks ≡ (k + mostLinks) % mostLinks = omega arith in
+      let here : getD table k 0 ≡ entryAt table (k / mostLinks) (k % mostLinks) =
+      entry-is table (k / mostLinks) (k % mostLinks) (omega arith) (omega arith) k (omega arith) in
+      from-more (k / mostLinks) (k % mostLinks) (omega arith) ∙
+      ap₂ (λ (x n : ℕ). oneIf (ltb 0 x) + n) (sym here) (ap₂ (entriesFrom table slots) s e)
 
-below-past : (table : List ℕ) (k : ℕ) → tableSize ≤ k → below table k ≡ 0
-unfolding sumOf
-below-past table k h =
-    let e : mostSlots - k / mostLinks ≡ zero = omega arith in
-    ap (λ (n : ℕ). touchedIn (entryAt table) n (k / mostLinks) (k % mostLinks)) e
+  below-past : (k : ℕ) → slots * mostLinks ≤ k → below table slots k ≡ 0
+  unfolding sumOf
+  below-past k h =
+      let e : slots - k / mostLinks ≡ zero = omega arith in
+      ap (λ (n : ℕ). touchedIn (entryAt table) n (k / mostLinks) (k % mostLinks)) e
 
-pub below-small : (table : List ℕ) (k : ℕ) → below table k ≤ mostSlots
-below-small table k =
-    let s = k / mostLinks in
-    omega (arith, tests-few (λ i. ltb 0 (entryAt table (s + i) (k % mostLinks))) (mostSlots - s))
+  pub below-small : (k : ℕ) → below table slots k ≤ slots
+  below-small k =
+      let s = k / mostLinks in
+      omega (arith, tests-few (λ i. ltb 0 (entryAt table (s + i) (k % mostLinks))) (slots - s))
+
+-- a loop over the links, at link e
+pub record Putting (links : List ℕ) (slots : ℕ) (weights : List ℕ) (e : ℕ) : Type 0 where
+  pub long : length weights ≡ planeSize
+  pub is : (d : ℕ) → d < e → getD weights (indexOf slots d) 0 ≡ getD links d 0
+
+module _ (links : List ℕ) (slots : ℕ) (weights : List ℕ) where
+  pub putting-none : length weights ≡ planeSize → Putting links slots weights 0
+  putting-none l = record { long = l; is = λ d h. absurd (omega arith) }
+
+  module _ (e : ℕ) (g : Putting links slots weights e) where
+    pub putting-more : slots ≤ mostSlots → e < mostLinks → Putting links slots (set weights (indexOf slots e) (getD links e 0)) (e + 1)
+    putting-more few h =
+        let k = indexOf slots e in
+        let v = getD links e 0 in
+        record {
+          long = length-set weights k v ∙ g .long;
+          is = below-more (λ d. getD (set weights k v) (indexOf slots d) 0 ≡ getD links d 0) e
+              (λ d l. getD-set-other weights k (indexOf slots d) v 0 (λ q. omega arith) ∙ g .is d l)
+              (getD-set-same weights k v 0 (omega (arith, g .long)));
+        }
+
+    pub putting-done : mostLinks ≤ e → Behind links slots weights
+    putting-done h = record { long = g .long; is = λ d l. g .is d (omega arith) }
 
 -- what the weight at an index is
-abbrev whole : List ℕ → List ℕ → ℕ → ℕ
-whole table links k = below table k + getD links (k % mostLinks) 0
+abbrev whole : List ℕ → List ℕ → ℕ → ℕ → ℕ
+whole table links slots k = below table slots k + getD links (k % mostLinks) 0
 
-pub record Weighing (table links weights : List ℕ) (k : ℕ) : Type 0 where
-  pub few : k ≤ tableSize
-  pub long : length weights ≡ tableSize
-  pub is : (j : ℕ) → k ≤ j → j < tableSize → getD weights j 0 ≡ whole table links j
+pub record Weighing (table links : List ℕ) (slots : ℕ) (weights : List ℕ) (k : ℕ) : Type 0 where
+  pub few : k ≤ slots * mostLinks
+  pub long : length weights ≡ planeSize
+  pub is : (j : ℕ) → k ≤ j → j < (slots + 1) * mostLinks → getD weights j 0 ≡ whole table links slots j
 
-module _ (table links : List ℕ) (numbers : ForLinks links) where
-  pub whole-small : (k : ℕ) → whole table links k ≤ mostSlots + mostOnLink
-  whole-small k = omega (arith, below-small table k, numbers .few (k % mostLinks))
+module _ (table links : List ℕ) (slots : ℕ) (few : slots ≤ mostSlots) (numbers : ForLinks links) where
+  pub whole-small : (k : ℕ) → whole table links slots k ≤ mostSlots + mostOnLink
+  whole-small k = omega (arith, below-small table slots k, numbers .few (k % mostLinks))
 
-  pub weighing-none : (weights : List ℕ) → length weights ≡ tableSize → Weighing table links weights tableSize
-  weighing-none weights l = record { few = omega arith; long = l; is = λ j h m. absurd (omega arith) }
+  pub weighing-none : (weights : List ℕ) → Behind links slots weights → Weighing table links slots weights (slots * mostLinks)
+  weighing-none weights b =
+      record {
+        few = omega arith;
+        long = b .long;
+        is =
+            λ j h m.
+            let at : j ≡ indexOf slots (j % mostLinks) = omega arith in
+            omega (
+              arith,
+              ap (λ (i : ℕ). getD weights i 0) at,
+              b .is (j % mostLinks) (omega arith),
+              below-past table slots j h,
+            );
+      }
 
-  module _ (weights : List ℕ) (k : ℕ) (g : Weighing table links weights k) where
-    later-is : 0 < k → laterIn weights links (k - 1) ≡ below table (k - 1 + mostLinks) + getD links ((k - 1) % mostLinks) 0
-    later-is h = by (ltb (k - 1 + mostLinks) tableSize) refl
-      where
-        by : (b : Bool) → ltb (k - 1 + mostLinks) tableSize ≡ b →
-            cond b (getD weights (k - 1 + mostLinks) 0) (getD links ((k - 1) % mostLinks) 0) ≡ below table (k - 1 + mostLinks) +
-            getD links ((k - 1) % mostLinks) 0
-        by true t =
-            let link : (k - 1 + mostLinks) % mostLinks ≡ (k - 1) % mostLinks = omega arith in
-            g .is (k - 1 + mostLinks) (omega arith) (ltb-true (k - 1 + mostLinks) tableSize t) ∙
-            ap (λ (e : ℕ). below table (k - 1 + mostLinks) + getD links e 0) link
-        by false t = omega (arith, below-past table (k - 1 + mostLinks) (ltb-false (k - 1 + mostLinks) tableSize t))
+  module _ (weights : List ℕ) (k : ℕ) (g : Weighing table links slots weights k) where
+    pub weighing-small : 0 < k → getD weights (k - 1 + mostLinks) 0 ≤ mostSlots + mostOnLink
+    weighing-small h =
+        let next = k - 1 + mostLinks in
+        omega (arith, g .is next (omega arith) (omega (arith, g .few)), whole-small next)
 
-    pub weighing-small : 0 < k → laterIn weights links (k - 1) ≤ mostSlots + mostOnLink
-    weighing-small h = omega (arith, later-is h, below-small table (k - 1 + mostLinks), numbers .few ((k - 1) % mostLinks))
-
-    put : (v : ℕ) → 0 < k → v ≡ oneIf (ltb 0 (entryAt table ((k - 1) / mostLinks) ((k - 1) % mostLinks))) + laterIn weights links (k - 1) →
-        Weighing table links (set weights (k - 1) v) (k - 1)
-    put v h e =
+    pub weighing-more : (v : ℕ) → 0 < k → v ≡ getD weights (k - 1 + mostLinks) 0 + oneIf (ltb 0 (getD table (k - 1) 0)) →
+        Weighing table links slots (set weights (k - 1) v) (k - 1)
+    weighing-more v h e =
         record {
           few = omega (arith, g .few);
           long = length-set weights (k - 1) v ∙ g .long;
           is = λ j l m. by j l m (eqb j (k - 1)) refl;
         }
       where
-        here : v ≡ whole table links (k - 1)
-        here = omega (arith, e, later-is h, below-more table (k - 1) (omega (arith, g .few)))
+        here : v ≡ whole table links slots (k - 1)
+        here =
+            let link : (k - 1 + mostLinks) % mostLinks ≡ (k - 1) % mostLinks = omega arith in
+            omega (
+              arith,
+              e,
+              g .is (k - 1 + mostLinks) (omega arith) (omega (arith, g .few)),
+              ap (λ (d : ℕ). getD links d 0) link,
+              next-below table slots (k - 1) few (omega (arith, g .few)),
+            )
 
-        by : (j : ℕ) → k - 1 ≤ j → j < tableSize → (b : Bool) → eqb j (k - 1) ≡ b → getD (set weights (k - 1) v) j 0 ≡ whole table links j
+        by : (j : ℕ) → k - 1 ≤ j → j < (slots + 1) * mostLinks → (b : Bool) → eqb j (k - 1) ≡ b →
+            getD (set weights (k - 1) v) j 0 ≡ whole table links slots j
         by j l m true b =
             let same : j ≡ k - 1 = eqb-true j (k - 1) b in
             rw same (getD-set-same weights (k - 1) v 0 (omega (arith, g .few, g .long)) ∙ here)
@@ -102,18 +144,8 @@ module _ (table links : List ℕ) (numbers : ForLinks links) where
             let other : j ≡ k - 1 → ⊥ = eqb-false j (k - 1) b in
             getD-set-other weights (k - 1) j v 0 other ∙ g .is j (omega (arith, other)) m
 
-    pub weighing-zero : (v : ℕ) → 0 < k → entryAt table ((k - 1) / mostLinks) ((k - 1) % mostLinks) ≡ 0 → v ≡ laterIn weights links (k - 1) →
-        Weighing table links (set weights (k - 1) v) (k - 1)
-    weighing-zero v h e f = put v h (rw e (omega arith))
-
-    pub weighing-one : (v : ℕ) → 0 < k → (entryAt table ((k - 1) / mostLinks) ((k - 1) % mostLinks) ≡ 0 → ⊥) → v ≡
-        laterIn weights links (k - 1) → Weighing table links (set weights (k - 1) (v + 1)) (k - 1)
-    weighing-one v h e f =
-        let some : 0 < entryAt table ((k - 1) / mostLinks) ((k - 1) % mostLinks) = omega (arith, e) in
-        put (v + 1) h (rw (lt-ltb 0 (entryAt table ((k - 1) / mostLinks) ((k - 1) % mostLinks)) some) (omega arith))
-
-    pub weighing-done : k ≤ 0 → WeighsFrom table links weights
-    weighing-done h = record { long = g .long; is = λ j l. g .is j (omega arith) l }
+    pub weighing-done : k ≤ 0 → WeighsFrom table links slots weights
+    weighing-done h = record { long = g .long; is = λ j l. g .is j (omega arith) (omega arith) }
 
 -- no number for any link
 none-of : (links : List ℕ) → links ≡ replicate mostLinks 0 → (e : ℕ) → getD links e 0 ≡ 0
@@ -127,58 +159,77 @@ none-of links z e = ap (λ (l : List ℕ). getD l e 0) z ∙ by (ltb e mostLinks
 pub no-links : (links : List ℕ) → links ≡ replicate mostLinks 0 → ForLinks links
 no-links links e = record { long = ap length e ∙ length-replicate {A = ℕ} mostLinks 0; few = λ l. omega (arith, none-of links e l) }
 
-pub weighs-alone : (table links weights : List ℕ) → links ≡ replicate mostLinks 0 → WeighsFrom table links weights → Weighs table weights
-weighs-alone table links weights e w = record { long = w .long; is = λ k l. omega (arith, w .is k l, none-of links e (k % mostLinks)) }
+pub weighs-alone : (table links : List ℕ) (slots : ℕ) (weights : List ℕ) → links ≡ replicate mostLinks 0 →
+    WeighsFrom table links slots weights → Weighs table slots weights
+weighs-alone table links slots weights e w =
+    record { long = w .long; is = λ k l. omega (arith, w .is k l, none-of links e (k % mostLinks)) }
 
-pub weighs-strips : (fragile seconds links weights : List ℕ) → OnLinks seconds links → WeighsFrom fragile links weights →
-    WeighsStrips fragile seconds weights
-weighs-strips fragile seconds links weights o w =
+pub weighs-strips : (fragile seconds links : List ℕ) (slots : ℕ) (weights : List ℕ) → slots ≤ mostSlots → OnLinks seconds links →
+    WeighsFrom fragile links slots weights → WeighsStrips fragile seconds slots weights
+weighs-strips fragile seconds links slots weights few o w =
     record {
       long = w .long;
       is = λ k l. omega (arith, w .is k l, o .is (k % mostLinks) (omega arith));
-      few = λ k l. omega (arith, w .is k l, whole-small fragile links (o .numbers) k);
+      few = λ k l. omega (arith, w .is k l, whole-small fragile links slots few (o .numbers) k);
     }
 
-pub record Topping (weights most : List ℕ) (top k : ℕ) : Type 0 where
-  pub few : k ≤ tableSize
+-- a loop over the links of a slot, at link e
+pub record TopBelow (weights : List ℕ) (s top e : ℕ) : Type 0 where
+  pub most : (d : ℕ) → d < e → getD weights (indexOf s d) 0 ≤ top
+
+pub top-none : (weights : List ℕ) (s : ℕ) → TopBelow weights s 0 0
+top-none weights s = record { most = λ d h. absurd (omega arith) }
+
+module _ (weights : List ℕ) (s top e : ℕ) (g : TopBelow weights s top e) where
+  pub top-more : (v : ℕ) → Larger top (getD weights (indexOf s e) 0) v → TopBelow weights s v (e + 1)
+  top-more v l =
+      record { most = below-more (λ d. getD weights (indexOf s d) 0 ≤ v) e (λ d h. omega (arith, g .most d h, l .first)) (l .second) }
+
+  pub top-done : mostLinks ≤ e → TopOf weights s top
+  top-done h d l = g .most d (omega arith)
+
+-- a loop over the slots, from the last one down
+pub record Topping (weights : List ℕ) (slots : ℕ) (most : List ℕ) (top k : ℕ) : Type 0 where
+  pub few : k ≤ slots
   pub long : length most ≡ mostSlots
-  pub all : (j : ℕ) → k ≤ j → getD weights j 0 ≤ top
-  pub tops : (s j : ℕ) → k ≤ s * mostLinks → s * mostLinks ≤ j → getD weights j 0 ≤ getD most s 0
+  pub all : (i e : ℕ) → k ≤ i → i < slots → e < mostLinks → getD weights (indexOf i e) 0 ≤ top
+  pub tops : (s i e : ℕ) → k ≤ s → s ≤ i → i < slots → e < mostLinks → getD weights (indexOf i e) 0 ≤ getD most s 0
 
-pub topping-none : (weights most : List ℕ) → length weights ≡ tableSize → length most ≡ mostSlots → Topping weights most 0 tableSize
-topping-none weights most l m =
-    record {
-      few = omega arith;
-      long = m;
-      all = λ j h. omega (arith, none j h);
-      tops = λ s j h i. omega (arith, none j (omega arith));
-    }
-  where
-    none : (j : ℕ) → tableSize ≤ j → getD weights j 0 ≡ 0
-    none j h = List·getD-eq-default weights 0 (omega arith)
-
-module _ (weights most : List ℕ) (top k : ℕ) (g : Topping weights most top k) where
-  pub topping-more : (v : ℕ) → 0 < k → top ≤ v → getD weights (k - 1) 0 ≤ v → Topping weights (set most ((k - 1) / mostLinks) v) v (k - 1)
-  topping-more v h a b =
+module _ (weights : List ℕ) (slots : ℕ) (most : List ℕ) where
+  pub topping-none : length most ≡ mostSlots → Topping weights slots most 0 slots
+  topping-none l =
       record {
-        few = omega (arith, g .few);
-        long = length-set most ((k - 1) / mostLinks) v ∙ g .long;
-        all = λ j l. all j l (eqb j (k - 1)) refl;
-        tops = λ s j l i. by s j l i (eqb s ((k - 1) / mostLinks)) refl;
+        few = omega arith;
+        long = l;
+        all = λ i e h m. absurd (omega arith);
+        tops = λ s i e h j m. absurd (omega arith);
       }
-    where
-      all : (j : ℕ) → k - 1 ≤ j → (t : Bool) → eqb j (k - 1) ≡ t → getD weights j 0 ≤ v
-      all j l true e = rw (eqb-true j (k - 1) e) b
-      all j l false e = omega (arith, eqb-false j (k - 1) e, g .all j (omega (arith, eqb-false j (k - 1) e)))
 
-      by : (s j : ℕ) → k - 1 ≤ s * mostLinks → s * mostLinks ≤ j → (t : Bool) → eqb s ((k - 1) / mostLinks) ≡ t → getD weights j 0 ≤
-          getD (set most ((k - 1) / mostLinks) v) s 0
-      by s j l i true e =
-          let same : s ≡ (k - 1) / mostLinks = eqb-true s ((k - 1) / mostLinks) e in
-          rw (same, getD-set-same most ((k - 1) / mostLinks) v 0 (omega (arith, g .few, g .long))) (all j (omega arith) (eqb j (k - 1)) refl)
-      by s j l i false e =
-          let other : s ≡ (k - 1) / mostLinks → ⊥ = eqb-false s ((k - 1) / mostLinks) e in
-          rw (getD-set-other most ((k - 1) / mostLinks) s v 0 other) (g .tops s j (omega (arith, other)) i)
+  module _ (top k : ℕ) (g : Topping weights slots most top k) where
+    pub topping-more : (x v : ℕ) → slots ≤ mostSlots → 0 < k → TopOf weights (k - 1) x → Larger top x v →
+        Topping weights slots (set most (k - 1) v) v (k - 1)
+    topping-more x v room h t l =
+        record {
+          few = omega (arith, g .few);
+          long = length-set most (k - 1) v ∙ g .long;
+          all = λ i e a b c. all i e a b c (eqb i (k - 1)) refl;
+          tops = λ s i e a b c d. by s i e a b c d (eqb s (k - 1)) refl;
+        }
+      where
+        all : (i e : ℕ) → k - 1 ≤ i → i < slots → e < mostLinks → (q : Bool) → eqb i (k - 1) ≡ q → getD weights (indexOf i e) 0 ≤ v
+        all i e a b c true q = rw (eqb-true i (k - 1) q) (omega (arith, t e c, l .second))
+        all i e a b c false q =
+            let other : i ≡ k - 1 → ⊥ = eqb-false i (k - 1) q in
+            omega (arith, g .all i e (omega (arith, other)) b c, l .first)
 
-  pub topping-done : k ≤ 0 → Tops weights most
-  topping-done h = record { long = g .long; later = λ s i e a b c. g .tops s (i * mostLinks + e) (omega arith) (omega arith) }
+        by : (s i e : ℕ) → k - 1 ≤ s → s ≤ i → i < slots → e < mostLinks → (q : Bool) → eqb s (k - 1) ≡ q →
+            getD weights (indexOf i e) 0 ≤ getD (set most (k - 1) v) s 0
+        by s i e a b c d true q =
+            rw (eqb-true s (k - 1) q, getD-set-same most (k - 1) v 0 (omega (arith, g .few, g .long)))
+            (all i e (omega arith) c d (eqb i (k - 1)) refl)
+        by s i e a b c d false q =
+            let other : s ≡ k - 1 → ⊥ = eqb-false s (k - 1) q in
+            rw (getD-set-other most (k - 1) s v 0 other) (g .tops s i e (omega (arith, other)) b c d)
+
+    pub topping-done : k ≤ 0 → Tops weights slots most
+    topping-done h = record { long = g .long; later = λ s i e a b c. g .tops s i e (omega arith) a b c }

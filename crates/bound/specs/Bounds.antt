@@ -6,7 +6,7 @@ use mathlib.Core.Path.{_≡_}
 use mathlib.Core.Bool.{true}
 use mathlib.Core.List.{List, _++_}
 use lib.ListN.{length, getD}
-use Rattle.scope.specs.Limits.{mostSlots, mostMessages, tableSize, frontSize}
+use Rattle.scope.specs.Limits.{mostSlots, mostMessages, planeSize, frontSize}
 use Rattle.scope.specs.Plan.{Plan}
 use Rattle.table.specs.Table.{indexOf}
 use Rattle.scope.specs.Cuts.{cutLink, isCutList}
@@ -15,9 +15,9 @@ use Rattle.bound.specs.Touch.{harm}
 use Rattle.bound.specs.Harmed.{harmed, NotBefore}
 use Rattle.bound.specs.Strips.{bared, lost}
 
--- the weight of a pair, from lists of all slots and links one after another, and the most from a slot on, from lists of all slots
+-- the weight of a pair, from planes of all slots and links one after another, and the most from a slot on, from lists of all slots
 abbrev pub weightIn : List ℕ → ℕ → ℕ → ℕ → ℕ
-weightIn weights j s e = getD weights (j * tableSize + indexOf s e) 0
+weightIn weights j s e = getD weights (j * planeSize + indexOf s e) 0
 
 abbrev pub topIn : List ℕ → ℕ → ℕ → ℕ
 topIn most j s = getD most (j * mostSlots + s) 0

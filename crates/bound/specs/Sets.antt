@@ -5,10 +5,11 @@ use mathlib.Core.Path.{_≡_}
 use mathlib.Core.Bool.{true}
 use mathlib.Core.List.{List}
 use lib.ListN.{length, getD}
-use Rattle.scope.specs.Limits.{mostSlots, mostLinks, mostMessages, tableSize, planeSize, secondsSize}
+use Rattle.scope.specs.Limits.{mostSlots, mostLinks, mostMessages, planeSize, secondsSize}
 use Rattle.table.specs.Table.{indexOf, entryAt}
 use Rattle.sets.specs.Sets.{has}
 use Rattle.bound.specs.Seconds.{secondIn}
+use Rattle.bound.specs.Weights.{HasRoom}
 
 -- the set of slot s and link e
 abbrev pub setIn : List ℕ → ℕ → ℕ → ℕ
@@ -25,13 +26,7 @@ pub record StripSetsOf (fragile seconds : List ℕ) (slots : ℕ) (sets : List �
   pub from : (s i e m : ℕ) → s ≤ i → i < slots → e < mostLinks → m < mostMessages → entryAt fragile i e ≡ m + 1 → has (setIn sets s e) m ≡ true
   pub always : (s e m : ℕ) → s < slots → e < mostLinks → m < mostMessages → 0 < secondIn seconds e m → has (setIn sets s e) m ≡ true
 
--- the sets of a table's first slots may be put
-pub record MayGather (table : List ℕ) (slots : ℕ) (sets : List ℕ) : Type 0 where
-  pub entries : length table ≡ tableSize
-  pub few : slots ≤ mostSlots
-  pub long : length sets ≡ planeSize
-
--- and so they are, and who was in a set of the row behind the last slot is in those of its link
+-- the sets of a table's first slots are put, and who was in a set of the row behind the last slot is in those of its link
 pub record Gathered (table : List ℕ) (slots : ℕ) (old new : List ℕ) : Type 0 where
   pub sets : SetsOf table slots new
   pub last : (s e m : ℕ) → s ≤ slots → e < mostLinks → has (setIn old slots e) m ≡ true → has (setIn new s e) m ≡ true
@@ -50,7 +45,7 @@ pub record ThroughRow (seconds : List ℕ) (s : ℕ) (sets : List ℕ) : Type 0 
   pub long : length sets ≡ planeSize
   pub is : (e : ℕ) → e < mostLinks → Through seconds e (setIn sets s e)
 
--- both may be
+-- the sets of a table of fragile places, and of those rows, may be put
 pub record MayGatherStrips (fragile seconds : List ℕ) (slots : ℕ) (sets : List ℕ) : Type 0 where
-  pub table : MayGather fragile slots sets
+  pub table : HasRoom fragile slots sets
   pub bytes : length seconds ≡ secondsSize

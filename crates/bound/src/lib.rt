@@ -4,9 +4,9 @@
 // the theorems of `laws`.
 use scope::limits::ENTRIES;
 use scope::limits::FRONT;
-use scope::limits::FRONTS;
 use scope::limits::LINKS;
 use scope::limits::MESSAGES;
+use scope::limits::PLANE;
 use scope::limits::SECONDS;
 use scope::limits::SLOTS;
 use scope::limits::TABLE;
@@ -14,52 +14,57 @@ use scope::limits::TOPS;
 ghost use mathlib.Core.Path.{_≡_};
 ghost use Prim.Native.Nat.{_+_, _-_, min, _≤_, _<_};
 ghost use lib.ListN.{length};
-ghost use Rattle.scope.specs.Limits.{mostSlots, mostLinks, tableSize, secondsSize, weightsSize, topsSize, frontsSize, endsSize};
+ghost use lib.Dec.{ltb};
+ghost use Rattle.scope.specs.Limits.{mostSlots, mostLinks, secondsSize, planeSize, topsSize, frontsSize, endsSize};
+ghost use Rattle.sets.specs.Sums.{oneIf};
 ghost use Rattle.bound.specs.Seconds.{onLink};
-ghost use Rattle.bound.specs.Weights.{mostOnLink, laterIn, ForLinks, OnLinks, WeighsFrom, Weighs, WeighsStrips, MayAdd, Added};
-ghost use Rattle.bound.specs.Weights.{MayWeigh, WeighsAll, Tops, TopsEach, TopsAll};
+ghost use Rattle.bound.specs.Weights.{mostOnLink, ForLinks, OnLinks, HasRoom, Behind, WeighsFrom, Weighs, WeighsStrips, MayAdd, Added};
+ghost use Rattle.bound.specs.Weights.{MayWeigh, WeighsAll, TopOf, Tops, MayTop, TopsEach, TopsAll};
 ghost use Rattle.bound.specs.Bounds.{frontOf, frontIn};
 ghost use Rattle.bound.specs.Fronts.{Larger, MayFront, Bucketed, Carried, RunsDown, Fronts};
 ghost use Rattle.bound.specs.Ends.{hitsIn, EndsOf, MayStripEnds, StripsEndsOf};
 ghost use Rattle.bound.specs.Marks.{MayMark, Marked};
-ghost use Rattle.bound.specs.Sets.{SetsOf, StripSetsOf, MayGather, Gathered, Through, MayRow, ThroughRow, MayGatherStrips};
+ghost use Rattle.bound.specs.Sets.{SetsOf, StripSetsOf, Gathered, Through, MayRow, ThroughRow, MayGatherStrips};
 
-// The weight a slot later, or a link's number where there is none.
-fn later(weights: &[u16], links: &[u16], k: usize) -> u16
-    requires { ⌜ (length (now weights) ≡ tableSize) × (length (now links) ≡ mostLinks) × (k < tableSize) ⌝ }
-    ensures { λ r. ⌜ r ≡ laterIn (now (weights .entry)) (now (links .entry)) k ⌝ }
+// The links' numbers, behind the last slot.
+fn put_links(links: &[u16], slots: usize, weights: &mut [u16])
+    requires { ⌜ ForLinks (now links) × (slots ≤ mostSlots) × (length (now weights) ≡ planeSize) ⌝ }
+    ensures { λ _. ⌜ Behind (now (links .entry)) slots (now (weights .exit)) ⌝ }
 {
-    if k + LINKS < TABLE {
-        weights[k + LINKS]
-    } else {
-        links[k % LINKS]
+    let mut e = 0;
+    while e < LINKS {
+        weights[slots * LINKS + e] = links[e];
+        e += 1;
     }
 }
 
-// The weight of each slot and link: the entries of the table on that link from that slot on, and a number for the link.
-fn weigh_from(table: &[u8], links: &[u16], weights: &mut [u16])
-    requires { ⌜ (length (now weights) ≡ tableSize) × ForLinks (now links) ⌝ }
-    ensures { λ _. ⌜ WeighsFrom (now (table .entry)) (now (links .entry)) (now (weights .exit)) ⌝ }
+// One where a table has an entry, else 0.
+fn one_if(entry: u8) -> u16
+    ensures { λ r. ⌜ (r ≡ oneIf (ltb 0 entry)) × (r ≤ 1) ⌝ }
 {
-    let mut k = TABLE;
+    if entry == 0 { 0 } else { 1 }
+}
+
+// The weight of each slot and link: the entries of the table on that link from that slot on, and a number for the link.
+fn weigh_from(table: &[u8], links: &[u16], slots: usize, weights: &mut [u16])
+    requires { ⌜ HasRoom (now table) slots (now weights) × ForLinks (now links) ⌝ }
+    ensures { λ _. ⌜ WeighsFrom (now (table .entry)) (now (links .entry)) slots (now (weights .exit)) ⌝ }
+{
+    put_links(links, slots, weights);
+    let mut k = slots * LINKS;
     while 0 < k {
         k -= 1;
-        let w = later(weights, links, k);
-        if table::entry(table, k / LINKS, k % LINKS) == 0 {
-            weights[k] = w;
-        } else {
-            weights[k] = w + 1;
-        }
+        weights[k] = weights[k + LINKS] + one_if(table[k]);
     }
 }
 
 // Of entries alone.
-fn weigh(table: &[u8], weights: &mut [u16])
-    requires { ⌜ length (now weights) ≡ tableSize ⌝ }
-    ensures { λ _. ⌜ Weighs (now (table .entry)) (now (weights .exit)) ⌝ }
+fn weigh(table: &[u8], slots: usize, weights: &mut [u16])
+    requires { ⌜ HasRoom (now table) slots (now weights) ⌝ }
+    ensures { λ _. ⌜ Weighs (now (table .entry)) slots (now (weights .exit)) ⌝ }
 {
     let links = [0u16; LINKS];
-    weigh_from(table, &links, weights);
+    weigh_from(table, &links, slots, weights);
 }
 
 // How many messages have link e on the second path of a robust place.
@@ -89,63 +94,82 @@ fn on_links(seconds: &[u8], links: &mut [u16])
 }
 
 // What a pair strips: the fragile entries, and the second paths of robust places.
-fn weigh_strips(fragile: &[u8], seconds: &[u8], weights: &mut [u16])
-    requires { ⌜ (length (now seconds) ≡ secondsSize) × (length (now weights) ≡ tableSize) ⌝ }
-    ensures { λ _. ⌜ WeighsStrips (now (fragile .entry)) (now (seconds .entry)) (now (weights .exit)) ⌝ }
+fn weigh_strips(fragile: &[u8], seconds: &[u8], slots: usize, weights: &mut [u16])
+    requires { ⌜ (length (now seconds) ≡ secondsSize) × HasRoom (now fragile) slots (now weights) ⌝ }
+    ensures { λ _. ⌜ WeighsStrips (now (fragile .entry)) (now (seconds .entry)) slots (now (weights .exit)) ⌝ }
 {
     let mut links = [0u16; LINKS];
     on_links(seconds, &mut links);
-    weigh_from(fragile, &links, weights);
+    weigh_from(fragile, &links, slots, weights);
 }
 
 // Both together.
-fn weigh_both(weights: &mut [u16])
-    requires { ⌜ MayAdd (now weights) ⌝ }
-    ensures { λ _. ⌜ Added (now (weights .entry)) (now (weights .exit)) ⌝ }
+fn weigh_both(slots: usize, weights: &mut [u16])
+    requires { ⌜ MayAdd slots (now weights) ⌝ }
+    ensures { λ _. ⌜ Added slots (now (weights .entry)) (now (weights .exit)) ⌝ }
 {
+    let end = slots * LINKS;
     let mut k = 0;
-    while k < TABLE {
-        weights[2 * TABLE + k] = weights[k] + weights[TABLE + k];
+    while k < end {
+        weights[2 * PLANE + k] = weights[k] + weights[PLANE + k];
         k += 1;
     }
 }
 
 // The three weights of each slot and link: what a pair touches, what it strips, and both together.
-pub fn weigh_all(table: &[u8], fragile: &[u8], seconds: &[u8], weights: &mut [u16])
-    requires { ⌜ MayWeigh (now seconds) (now weights) ⌝ }
-    ensures { λ _. ⌜ WeighsAll (now (table .entry)) (now (fragile .entry)) (now (seconds .entry)) (now (weights .exit)) ⌝ }
+pub fn weigh_all(table: &[u8], fragile: &[u8], seconds: &[u8], slots: usize, weights: &mut [u16])
+    requires { ⌜ MayWeigh (now table) (now fragile) (now seconds) slots (now weights) ⌝ }
+    ensures { λ _. ⌜ WeighsAll (now (table .entry)) (now (fragile .entry)) (now (seconds .entry)) slots (now (weights .exit)) ⌝ }
 {
-    weigh(table, &mut weights[0..TABLE]);
-    weigh_strips(fragile, seconds, &mut weights[TABLE..2 * TABLE]);
-    weigh_both(weights);
+    weigh(table, slots, &mut weights[0..PLANE]);
+    weigh_strips(fragile, seconds, slots, &mut weights[PLANE..2 * PLANE]);
+    weigh_both(slots, weights);
+}
+
+fn larger(a: u16, b: u16) -> u16
+    ensures { λ r. ⌜ Larger a b r ⌝ }
+{
+    if a < b { b } else { a }
+}
+
+// The most that a pair of slot s weighs.
+fn top_of(weights: &[u16], s: usize) -> u16
+    requires { ⌜ (length (now weights) ≡ planeSize) × (s < mostSlots) ⌝ }
+    ensures { λ r. ⌜ TopOf (now (weights .entry)) s r ⌝ }
+{
+    let mut top = 0u16;
+    let mut e = 0;
+    while e < LINKS {
+        top = larger(top, weights[s * LINKS + e]);
+        e += 1;
+    }
+    top
 }
 
 // For each slot the most that a pair from there on weighs.
-fn tops(weights: &[u16], most: &mut [u16])
-    requires { ⌜ (length (now weights) ≡ tableSize) × (length (now most) ≡ mostSlots) ⌝ }
-    ensures { λ _. ⌜ Tops (now (weights .entry)) (now (most .exit)) ⌝ }
+fn tops(weights: &[u16], slots: usize, most: &mut [u16])
+    requires { ⌜ (length (now weights) ≡ planeSize) × (slots ≤ mostSlots) × (length (now most) ≡ mostSlots) ⌝ }
+    ensures { λ _. ⌜ Tops (now (weights .entry)) slots (now (most .exit)) ⌝ }
 {
     let mut top = 0u16;
-    let mut k = TABLE;
-    while 0 < k {
-        k -= 1;
-        let w = weights[k];
-        if top < w {
-            top = w;
-        }
-        most[k / LINKS] = top;
+    let mut s = slots;
+    while 0 < s {
+        s -= 1;
+        top = larger(top, top_of(weights, s));
+        most[s] = top;
     }
 }
 
 // Of each of the three weights.
-fn tops_each(weights: &[u16], most: &mut [u16])
-    requires { ⌜ (length (now weights) ≡ weightsSize) × (length (now most) ≡ topsSize) ⌝ }
-    ensures { λ _. ⌜ TopsEach (now (weights .entry)) (now (most .exit)) ⌝ }
+fn tops_each(weights: &[u16], slots: usize, most: &mut [u16])
+    requires { ⌜ MayTop (now weights) slots (now most) ⌝ }
+    ensures { λ _. ⌜ TopsEach (now (weights .entry)) slots (now (most .exit)) ⌝ }
 {
     let mut j = 0;
     while j < 3 {
         tops(
-            &weights[j * TABLE..(j + 1) * TABLE],
+            &weights[j * PLANE..(j + 1) * PLANE],
+            slots,
             &mut most[j * SLOTS..(j + 1) * SLOTS],
         );
         j += 1;
@@ -172,21 +196,16 @@ pub fn front(most: &[u16], s: usize, x: usize) -> usize
     most[3 * SLOTS + front_of(s, x)] as usize
 }
 
-fn larger(a: u16, b: u16) -> u16
-    ensures { λ r. ⌜ Larger a b r ⌝ }
-{
-    if a < b { b } else { a }
-}
-
 // For each slot and each count of messages the most that a pair strips which touches so many; no number falls.
-fn bucket(weights: &[u16], fronts: &mut [u16])
-    requires { ⌜ MayFront (now weights) (now fronts) ⌝ }
-    ensures { λ _. ⌜ Bucketed (now (weights .entry)) (now (fronts .exit)) ⌝ }
+fn bucket(weights: &[u16], slots: usize, fronts: &mut [u16])
+    requires { ⌜ MayFront (now weights) slots (now fronts) ⌝ }
+    ensures { λ _. ⌜ Bucketed (now (weights .entry)) slots (now (fronts .exit)) ⌝ }
 {
+    let end = slots * LINKS;
     let mut k = 0;
-    while k < TABLE {
+    while k < end {
         let at = front_of(k / LINKS, weights[k] as usize);
-        fronts[at] = larger(fronts[at], weights[TABLE + k]);
+        fronts[at] = larger(fronts[at], weights[PLANE + k]);
         k += 1;
     }
 }
@@ -206,34 +225,33 @@ fn carried(fronts: &[u16], k: usize) -> u16
 }
 
 // Each number at least those for more messages in its slot.
-fn run_down(fronts: &mut [u16])
-    requires { ⌜ length (now fronts) ≡ frontsSize ⌝ }
-    ensures { λ _. ⌜ RunsDown (now (fronts .entry)) (now (fronts .exit)) ⌝ }
+fn run_down(slots: usize, fronts: &mut [u16])
+    requires { ⌜ (slots ≤ mostSlots) × (length (now fronts) ≡ frontsSize) ⌝ }
+    ensures { λ _. ⌜ RunsDown slots (now (fronts .entry)) (now (fronts .exit)) ⌝ }
 {
-    let mut k = FRONTS - 1;
-    while 0 < k {
-        let v = carried(fronts, k);
+    let mut k = slots * FRONT;
+    while 1 < k {
         k -= 1;
-        fronts[k] = v;
+        fronts[k - 1] = carried(fronts, k);
     }
 }
 
 // For each slot and each count of messages the most that a pair strips which touches at least so many, where the numbers are 0 before.
-fn fronts(weights: &[u16], fronts: &mut [u16])
-    requires { ⌜ MayFront (now weights) (now fronts) ⌝ }
-    ensures { λ _. ⌜ Fronts (now (weights .entry)) (now (fronts .exit)) ⌝ }
+fn fronts(weights: &[u16], slots: usize, fronts: &mut [u16])
+    requires { ⌜ MayFront (now weights) slots (now fronts) ⌝ }
+    ensures { λ _. ⌜ Fronts (now (weights .entry)) slots (now (fronts .exit)) ⌝ }
 {
-    bucket(weights, fronts);
-    run_down(fronts);
+    bucket(weights, slots, fronts);
+    run_down(slots, fronts);
 }
 
 // All that a search asks of later pairs.
-pub fn tops_all(weights: &[u16], most: &mut [u16])
-    requires { ⌜ (length (now weights) ≡ weightsSize) × (length (now most) ≡ topsSize) ⌝ }
-    ensures { λ _. ⌜ TopsAll (now (weights .entry)) (now (most .exit)) ⌝ }
+pub fn tops_all(weights: &[u16], slots: usize, most: &mut [u16])
+    requires { ⌜ MayTop (now weights) slots (now most) ⌝ }
+    ensures { λ _. ⌜ TopsAll (now (weights .entry)) slots (now (most .exit)) ⌝ }
 {
-    tops_each(weights, most);
-    fronts(weights, &mut most[3 * SLOTS..TOPS]);
+    tops_each(weights, slots, most);
+    fronts(weights, slots, &mut most[3 * SLOTS..TOPS]);
 }
 
 // What a list must weigh at least that leaves fewer than `least` of so many messages.
@@ -304,7 +322,7 @@ pub fn mark(ends: &[u16], s: usize, e: usize, marks: &mut [u8])
 
 // The set of each slot and link: those in the set of the next slot, and whom the table names.
 fn gather(table: &[u8], slots: usize, sets: &mut [u32])
-    requires { ⌜ MayGather (now table) slots (now sets) ⌝ }
+    requires { ⌜ HasRoom (now table) slots (now sets) ⌝ }
     ensures { λ _. ⌜ Gathered (now (table .entry)) slots (now (sets .entry)) (now (sets .exit)) ⌝ }
 {
     let mut k = slots * LINKS;
@@ -316,7 +334,7 @@ fn gather(table: &[u8], slots: usize, sets: &mut [u32])
 
 // The sets of those that a pair touches.
 pub fn touch_sets(table: &[u8], slots: usize, sets: &mut [u32])
-    requires { ⌜ MayGather (now table) slots (now sets) ⌝ }
+    requires { ⌜ HasRoom (now table) slots (now sets) ⌝ }
     ensures { λ _. ⌜ SetsOf (now (table .entry)) slots (now (sets .exit)) ⌝ }
 {
     gather(table, slots, sets);

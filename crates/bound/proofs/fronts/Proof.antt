@@ -5,7 +5,7 @@ use Rattle.bound.proofs.fronts.Statement.{statement}
 use Rattle.bound.proofs.fronts.Tie as tie
 
 returns : tie.Need-returns
-returns c = fronts-both _ _ _ (c .before .before .before .before .before .before .bucket .ensures) (c .before .before .run-down .ensures)
+returns c = fronts-both _ _ _ _ (c .before .before .before .before .before .before .bucket .ensures) (c .before .before .run-down .ensures)
 
 pub fronts-spec : {M : Type 1} → statement M
 fronts-spec =

@@ -5,7 +5,9 @@ use Rattle.bound.proofs.tops_all.Statement.{statement}
 use Rattle.bound.proofs.tops_all.Tie as tie
 
 returns : tie.Need-returns
-returns c = tops-and-fronts _ _ _ (c .before .before .before .before .before .before .tops-each .ensures) (c .before .before .fronts .ensures)
+returns c =
+    let d = c .before .before .before .before .before .before in
+    tops-and-fronts _ _ _ _ (d .before .before .before .before .pre .few) (d .tops-each .ensures) (c .before .before .fronts .ensures)
 
 pub tops-all-spec : {M : Type 1} → statement M
 tops-all-spec =

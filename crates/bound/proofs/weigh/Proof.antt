@@ -9,7 +9,7 @@ weigh-from-requires : tie.Need-weigh-from-requires
 weigh-from-requires c κs = (c .before .before .before .before .pre, no-links _ refl)
 
 returns : tie.Need-returns
-returns c = weighs-alone _ _ _ refl (c .before .before .weigh-from .ensures)
+returns c = weighs-alone _ _ _ _ refl (c .before .before .weigh-from .ensures)
 
 pub weigh-spec : {M : Type 1} → statement M
 weigh-spec =

@@ -14,7 +14,9 @@ weigh-from-requires c κs =
 
 returns : tie.Need-returns
 returns c =
-    weighs-strips _ _ _ _ (c .before .before .before .before .before .before .on-links .ensures) (c .before .before .weigh-from .ensures)
+    let d = c .before .before .before .before .before .before in
+    weighs-strips _ _ _ _ _ (d .before .before .before .before .before .pre .1 .few) (d .on-links .ensures)
+    (c .before .before .weigh-from .ensures)
 
 pub weigh-strips-spec : {M : Type 1} → statement M
 weigh-strips-spec =
