@@ -8,7 +8,7 @@ use mathlib.Core.List.{List, _∷_, _++_}
 use lib.ListN.{length, getD}
 use lib.Dec.{ltb}
 use borrow.Author.Tests.{ltb-true, lt-ltb, le-ltb, eq-eqb, ne-eqb}
-use Rattle.scope.specs.Limits.{mostSlots, mostLinks, tableSize}
+use Rattle.scope.specs.Limits.{mostSlots, mostLinks, planeSize}
 use Rattle.scope.specs.Plan.{Plan}
 use Rattle.scope.specs.Cuts.{pairs, cutSlot, cutLink, isCutList}
 use Rattle.scope.proofs.Cuts.{slot-below, link-below}
@@ -77,12 +77,12 @@ module _ (rest : Rest) (most : List ℕ) (need s touches strips : ℕ) where
   strips-more other = rw (ne-eqb (rest .pairs) 1 other) refl
 
 pub weighed-is : (rest : Rest) (weights most : List ℕ) (need s e x y z w : ℕ) → x ≡ getD weights (s * mostLinks + e) 0 →
-    y ≡ getD weights (tableSize + (s * mostLinks + e)) 0 → z ≡ getD weights (2 * tableSize + (s * mostLinks + e)) 0 →
+    y ≡ getD weights (planeSize + (s * mostLinks + e)) 0 → z ≡ getD weights (2 * planeSize + (s * mostLinks + e)) 0 →
     w ≡ stripsWith rest most need s x y →
     _≡_ {A = Loss} (record { touches = rest .touches + x; strips = w; both = rest .both + z }) (lossWith rest weights most need s e)
 weighed-is rest weights most need s e x y z w a b c d =
-    let i : 0 * tableSize + (s * mostLinks + e) ≡ s * mostLinks + e = omega arith in
-    let j : 1 * tableSize + (s * mostLinks + e) ≡ tableSize + (s * mostLinks + e) = omega arith in
+    let i : 0 * planeSize + (s * mostLinks + e) ≡ s * mostLinks + e = omega arith in
+    let j : 1 * planeSize + (s * mostLinks + e) ≡ planeSize + (s * mostLinks + e) = omega arith in
     rw (d, a, b, c, i, j) refl
 
 -- pairs that are not in a slot before s, since the first is not

@@ -5,8 +5,8 @@
 use scope::limits::CUT_NUMBERS;
 use scope::limits::LINKS;
 use scope::limits::MESSAGES;
+use scope::limits::PLANE;
 use scope::limits::SLOTS;
-use scope::limits::TABLE;
 use step::Position;
 use step::Standing;
 ghost use Prim.Native.Nat.{_+_, _-_, _*_, _<_, _≤_};
@@ -221,8 +221,8 @@ fn weighed(weights: &[u16], most: &[u16], need: usize, rest: Rest, s: usize, e: 
 {
     let k = s * LINKS + e;
     let touches = at(weights, k);
-    let strips = at(weights, TABLE + k);
-    let both = at(weights, 2 * TABLE + k);
+    let strips = at(weights, PLANE + k);
+    let both = at(weights, 2 * PLANE + k);
     let all = stripped(most, need, rest, s, touches, strips);
     Loss {
         touches: rest.touches + touches,

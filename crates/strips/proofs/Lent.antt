@@ -27,14 +27,12 @@ use Rattle.bound.proofs.Weights.{entries-fall}
 use Rattle.bound.proofs.Enough.{AtMost, bounds}
 use Rattle.strips.specs.Filled.{Filled}
 
--- the entries of a table are its owner's, and all its slots have no fewer
-entries-most : (owner : ℕ → ℕ → ℕ) (table : List ℕ) → Table owner table → (n s e : ℕ) → n ≤ mostSlots → e < mostLinks →
-    touchedIn owner (n - s) s e ≤ entriesFrom table s e
-entries-most owner table t n s e hn he =
-    let same : touchedIn owner (n - s) s e ≡ touchedIn (entryAt table) (n - s) s e =
+-- the entries of a table are its owner's
+entries-are : (owner : ℕ → ℕ → ℕ) (table : List ℕ) → Table owner table → (n s e : ℕ) → n ≤ mostSlots → e < mostLinks →
+    touchedIn owner (n - s) s e ≡ entriesFrom table n s e
+entries-are owner table t n s e hn he =
     sum-same (λ i. oneIf (ltb 0 (owner (s + i) e))) (λ i. oneIf (ltb 0 (entryAt table (s + i) e))) (n - s)
-    (λ i l. ap (λ (x : ℕ). oneIf (ltb 0 x)) (sym (t .is (s + i) e (omega arith) he))) in
-    omega (arith, same, sum-fewer (λ i. oneIf (ltb 0 (entryAt table (s + i) e))) (n - s) (mostSlots - s) (omega arith))
+    (λ i l. ap (λ (x : ℕ). oneIf (ltb 0 x)) (sym (t .is (s + i) e (omega arith) he)))
 
 -- those of a message stand before its number
 in-time : (owner : ℕ → ℕ → ℕ) (table ends : List ℕ) → Table owner table → EndsOf table ends → (n m s e : ℕ) → n ≤ mostSlots →
@@ -46,8 +44,8 @@ in-time owner table ends t o n m s e hn hm he =
     rw is at (o .after (s + i) e (omega arith) he (omega (arith, is))))
 
 -- fewer come from a later slot on
-fewer : (table : List ℕ) (s i e : ℕ) → s ≤ i → i < mostSlots → entriesFrom table i e ≤ entriesFrom table s e
-fewer table s i e l h = let d : s + (i - s) ≡ i = omega arith in rw d at (entries-fall table s e (i - s) (omega arith))
+fewer : (table : List ℕ) (n s i e : ℕ) → s ≤ i → i < n → entriesFrom table n i e ≤ entriesFrom table n s e
+fewer table n s i e l h = let d : s + (i - s) ≡ i = omega arith in rw d at (entries-fall table n s e (i - s) (omega arith))
 
 module _ (plan : Plan) (time : plan .timeout ≤ mostSlots) (links : length (plan .links) ≤ mostLinks)
     (messages : length (plan .messages) ≤ mostMessages) where
@@ -86,10 +84,10 @@ module _ (plan : Plan) (time : plan .timeout ≤ mostSlots) (links : length (pla
             )
 
     -- and all messages no more often than the tables count
-    bares-most : (s e : ℕ) → e < length (plan .links) → bares plan s e ≤ entriesFrom fragile s e + onLink seconds e
+    bares-most : (s e : ℕ) → e < length (plan .links) → bares plan s e ≤ entriesFrom fragile (plan .timeout) s e + onLink seconds e
     bares-most s e he =
         let through : ℕ → ℕ = λ m. oneIf (throughRobust plan m e (pathOf plan m)) in
-        let fragile-count = entries-most (tableOf (fragilePlan plan)) fragile (f .table) (plan .timeout) s e time (omega arith) in
+        let fragile-count = entries-are (tableOf (fragilePlan plan)) fragile (f .table) (plan .timeout) s e time (omega arith) in
         let same : sumOf through (length (plan .messages)) ≡ sumOf (secondIn seconds e) (length (plan .messages)) =
         sum-same through (secondIn seconds e) (length (plan .messages)) (λ m l. sym (f .bytes .is m e (omega arith) (omega arith))) in
         omega (
@@ -100,31 +98,33 @@ module _ (plan : Plan) (time : plan .timeout ≤ mostSlots) (links : length (pla
           sum-fewer (secondIn seconds e) (length (plan .messages)) mostMessages messages,
         )
 
-    module _ (table weights : List ℕ) (t : Table (tableOf plan) table) (w : WeighsAll table fragile seconds weights) where
+    module _ (table weights : List ℕ) (t : Table (tableOf plan) table)
+        (w : WeighsAll table fragile seconds (plan .timeout) weights) where
       touched : AtMost plan (touches plan) (weightIn weights 0)
       touched s e hs he =
           omega (
             arith,
             touches-most plan s e,
-            entries-most (tableOf plan) table t (plan .timeout) s e time (omega arith),
-            w .touches s e (omega arith) (omega arith),
+            entries-are (tableOf plan) table t (plan .timeout) s e time (omega arith),
+            w .touches s e hs (omega arith),
           )
 
       stripped : AtMost plan (bares plan) (weightIn weights 1)
-      stripped s e hs he = omega (arith, bares-most s e he, w .strips s e (omega arith) (omega arith))
+      stripped s e hs he = omega (arith, bares-most s e he, w .strips s e hs (omega arith))
 
       both : AtMost plan (λ s e. touches plan s e + bares plan s e) (weightIn weights 2)
-      both s e hs he = omega (arith, touched s e hs he, stripped s e hs he, w .both s e (omega arith) (omega arith))
+      both s e hs he = omega (arith, touched s e hs he, stripped s e hs he, w .both s e hs (omega arith))
 
       -- on one link a pair of a later slot weighs no more
-      falls : (j s i e : ℕ) → j < 3 → s ≤ i → i < mostSlots → e < mostLinks → weightIn weights j i e ≤ weightIn weights j s e
-      falls zero s i e h l hi he = omega (arith, fewer table s i e l hi, w .touches i e hi he, w .touches s e (omega arith) he)
-      falls (suc zero) s i e h l hi he = omega (arith, fewer fragile s i e l hi, w .strips i e hi he, w .strips s e (omega arith) he)
+      falls : (j s i e : ℕ) → j < 3 → s ≤ i → i < plan .timeout → e < mostLinks → weightIn weights j i e ≤ weightIn weights j s e
+      falls zero s i e h l hi he = omega (arith, fewer table (plan .timeout) s i e l hi, w .touches i e hi he, w .touches s e (omega arith) he)
+      falls (suc zero) s i e h l hi he =
+          omega (arith, fewer fragile (plan .timeout) s i e l hi, w .strips i e hi he, w .strips s e (omega arith) he)
       falls (suc (suc zero)) s i e h l hi he =
           omega (
             arith,
-            fewer table s i e l hi,
-            fewer fragile s i e l hi,
+            fewer table (plan .timeout) s i e l hi,
+            fewer fragile (plan .timeout) s i e l hi,
             w .both i e hi he,
             w .touches i e hi he,
             w .strips i e hi he,
@@ -134,8 +134,8 @@ module _ (plan : Plan) (time : plan .timeout ≤ mostSlots) (links : length (pla
           )
       falls (suc (suc (suc j))) s i e h l hi he = absurd (omega arith)
 
-      pub lent : (l need : ℕ) (most : List ℕ) → rules plan ≡ gives 0 → TopsAll weights most → need ≡ length (plan .messages) + 1 - l →
-          Bounds plan (Fails plan l) need weights most
+      pub lent : (l need : ℕ) (most : List ℕ) → rules plan ≡ gives 0 → TopsAll weights (plan .timeout) most →
+          need ≡ length (plan .messages) + 1 - l → Bounds plan (Fails plan l) need weights most
       lent l need most g m e =
-          bounds plan l need weights most g e touched stripped both (λ j s i f a b c d. m .tops .later j s i f a b (omega arith) (omega arith))
-          (λ j s i f a b c d. falls j s i f a b (omega arith) (omega arith)) (λ s f x a b c. m .fronts s f x (omega arith) (omega arith) c)
+          bounds plan l need weights most g e touched stripped both (λ j s i f a b c d. m .tops .later j s i f a b c (omega arith))
+          (λ j s i f a b c d. falls j s i f a b c (omega arith)) (λ s f x a b c. m .fronts s f x a (omega arith) c)
