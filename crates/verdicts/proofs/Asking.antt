@@ -4,7 +4,7 @@ use native.Mathlib.Omega.{arith}
 use mathlib.Core.Path.{_≡_, sym, _∙_, ap}
 use mathlib.Core.List.{List, map}
 use lib.ListN.{length, getD, replicate, length-replicate}
-use Rattle.scope.specs.Limits.{mostCuts, mostSlots, mostLinks, mostMessages, tableSize, secondsSize, longestRow}
+use Rattle.scope.specs.Limits.{mostCuts, mostSlots, mostLinks, mostMessages, tableSize, secondsSize, weightsSize, longestRow}
 use Rattle.scope.specs.Plan.{messageCount, linkCount, timeoutOf, firstMessage, messagesAt, planOf}
 use Rattle.scope.specs.Slot.{onFirst}
 use Rattle.scope.specs.Cycle.{tableOf, positions}
@@ -12,7 +12,7 @@ use Rattle.rows.specs.Lies.{PlanLies}
 use Rattle.rows.proofs.Parts.{message-count, link-count, timeout-is}
 use Rattle.rows.proofs.Walked.{walked}
 use Rattle.table.specs.Table.{Table}
-use Rattle.bound.specs.Weights.{WeighsAll, TopsAll}
+use Rattle.bound.specs.Weights.{MayWeigh, WeighsAll, TopsAll}
 use Rattle.bound.specs.Ends.{EndsOf, StripsEndsOf}
 use Rattle.strips.specs.Filled.{MayFill, Filled}
 use Rattle.strips.proofs.Lent.{touch-hits, strip-hits, lent as bounds-of}
@@ -48,9 +48,21 @@ module _ (row : List ℕ) (good : GoodRow row) where
         none = λ k. ap (λ (l : List ℕ). getD l k 0) zeros ∙ noughts secondsSize k;
       }
 
-  module _ (table fragile seconds touchEnds stripEnds weights most : List ℕ) (tab : Table (tableOf (planOf row)) table)
-      (f : Filled (planOf row) fragile seconds) (te : EndsOf table touchEnds) (se : StripsEndsOf fragile seconds stripEnds)
-      (w : WeighsAll table fragile seconds weights) (m : TopsAll weights most) where
+  -- the table has the plan's slots
+  pub few-slots : (t : ℕ) → t ≡ timeoutOf row → t ≤ mostSlots
+  few-slots t is = omega (arith, lies .timeout)
+
+  pub may-weigh : (t : ℕ) (table fragile seconds weights : List ℕ) → t ≡ timeoutOf row → Table (tableOf (planOf row)) table →
+      Filled (planOf row) fragile seconds → length weights ≡ weightsSize → MayWeigh table fragile seconds t weights
+  may-weigh t table fragile seconds weights is tab f heavy =
+      record { entries = tab .long; others = f .table .long; bytes = f .bytes .long; few = few-slots t is; long = heavy }
+
+  module _ (t : ℕ) (ht : t ≡ timeoutOf row) (table fragile seconds touchEnds stripEnds weights most : List ℕ)
+      (tab : Table (tableOf (planOf row)) table) (f : Filled (planOf row) fragile seconds) (te : EndsOf table touchEnds)
+      (se : StripsEndsOf fragile seconds stripEnds) (w : WeighsAll table fragile seconds t weights) (m : TopsAll weights t most) where
+    slots : t ≡ planOf row .timeout
+    slots = ht ∙ sym (timeout-is row)
+
     time : planOf row .timeout ≤ mostSlots
     time = omega (arith, timeout-is row, lies .timeout)
 
@@ -60,15 +72,15 @@ module _ (row : List ℕ) (good : GoodRow row) where
     many : length (planOf row .messages) ≤ mostMessages
     many = omega (arith, message-count row, lies .messages)
 
-    pub lends : (t e n l d : ℕ) (ps : Standing) → t ≡ timeoutOf row → e ≡ linkCount row → n ≡ messageCount row → Begins row n ps →
+    pub lends : (e n l d : ℕ) (ps : Standing) → e ≡ linkCount row → n ≡ messageCount row → Begins row n ps →
         Lent row table touchEnds stripEnds weights most
         (record { asked = record { timeout = t; links = e; messages = n; least = l; need = d }; standing = ps })
     unfolding positions
-    lends t e n l d ps ht he hn b =
+    lends e n l d ps he hn b =
         record {
           play =
               record {
-                timeout = ht ∙ sym (timeout-is row);
+                timeout = slots;
                 short = omega (arith, lies .timeout);
                 links = he ∙ sym (link-count row);
                 few = omega (arith, lies .links);
@@ -86,8 +98,8 @@ module _ (row : List ℕ) (good : GoodRow row) where
           heavy = w .long;
           tops = m .tops .long;
           bounds = λ l need h.
-              bounds-of (planOf row) time ways many fragile seconds f table weights tab w l need most (good .keeps) m
-              (omega (arith, message-count row));
+              bounds-of (planOf row) time ways many fragile seconds f table weights tab (rw slots at w) l need most (good .keeps)
+              (rw slots at m) (omega (arith, message-count row));
           stand =
               record {
                 time = b .time;

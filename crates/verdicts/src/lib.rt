@@ -47,14 +47,15 @@ pub fn lend(
     let mut seconds = [0u8; SECONDS];
     table::fill_table(row, table);
     strips::fill(row, &mut fragile, &mut seconds);
+    let slots = rows::timeout(row);
     bound::ends(table, touches);
     bound::strip_ends(&fragile, &seconds, strips);
-    bound::weigh_all(table, &fragile, &seconds, weights);
-    bound::tops_all(weights, most);
+    bound::weigh_all(table, &fragile, &seconds, slots, weights);
+    bound::tops_all(weights, slots, most);
     let messages = rows::messages(row);
     let standing = cycle::start_all(row, messages);
     let asked = Asked {
-        timeout: rows::timeout(row),
+        timeout: slots,
         links: rows::links(row),
         messages,
         least: 0,
