@@ -20,11 +20,8 @@ add-weights-2 : tie.Need-add-weights-2 Inv-loop μ-loop
 add-weights-2 c =
     let d = c .before .before .before .before in
     let s = d .before .before .before .before .before .before .before .before .pre in
-    omega (
-      arith,
-      weighing-small _ _ _ (s .0 .few) (s .1) _ _ (d .loop .inv) (c .before .before .before .loop-test .taken),
-      c .one-if .ensures .1,
-    )
+    let small = weighing-small _ _ _ (s .0 .few) (s .1) _ _ (d .loop .inv) (c .before .before .before .loop-test .taken) in
+    record { fits = omega (arith, small, c .one-if .ensures .1) }
 
 loop-again : tie.Need-loop-again Inv-loop μ-loop
 loop-again c =
