@@ -51,18 +51,18 @@ pub record Descending (row : List ℕ) (o : Opening) (k : ℕ) (entry : List ℕ
   pub each : (m : ℕ) → l < m → m ≤ length (planOf row .messages) → Says (planOf row) k m (seven m out)
   pub rest : drop (needed (planOf row)) out ≡ drop (needed (planOf row)) entry
 
-module _ (row table touchEnds stripEnds weights most : List ℕ) (o : Opening) (k : ℕ) (entry : List ℕ)
-    (f : MayFill row table touchEnds stripEnds weights most o k (length entry)) where
+module _ (row table touchSets stripSets weights most : List ℕ) (o : Opening) (k : ℕ) (entry : List ℕ)
+    (f : MayFill row table touchSets stripSets weights most o k (length entry)) where
   -- any l may be asked
   asking : (l low : ℕ) → l ≤ o .asked .messages → low ≤ k + 1 → ((i : ℕ) → i < low → NoneOf (planOf row) (Fails (planOf row) l) [] i) →
-      MayAskOn row table touchEnds stripEnds weights most o l low k
+      MayAskOn row table touchSets stripSets weights most o l low k
   asking l low least within before =
       record { lent = f .ask .lent; least = least; few = f .ask .few; within = within; before = before }
 
   count : o .asked .messages ≡ length (planOf row .messages)
   count = f .ask .lent .play .messages
 
-  pub ask-first : (l : ℕ) → l ≡ o .asked .messages → MayAskOn row table touchEnds stripEnds weights most o l 0 k
+  pub ask-first : (l : ℕ) → l ≡ o .asked .messages → MayAskOn row table touchSets stripSets weights most o l 0 k
   ask-first l e = asking l 0 (omega arith) (omega arith) (λ i z. absurd (omega arith))
 
   pub descend-first : (l : ℕ) (h : Hunted) → l ≡ o .asked .messages → Hunts row l k h → Descending row o k entry l h entry
@@ -92,7 +92,7 @@ module _ (row table touchEnds stripEnds weights most : List ℕ) (o : Opening) (
           enough = omega (arith, g .same, g .within, f .enough, count);
         }
 
-    pub ask-next : (m : ℕ) → h .found ≡ true → m ≡ h .arrivals → MayAskOn row table touchEnds stripEnds weights most o m (h .pairs) k
+    pub ask-next : (m : ℕ) → h .found ≡ true → m ≡ h .arrivals → MayAskOn row table touchSets stripSets weights most o m (h .pairs) k
     ask-next m t e =
         asking m (h .pairs) (omega (arith, less t, g .within)) (omega (arith, g .hunts .few))
         (λ i z x long good fails. g .hunts .fewer t i z x long good (omega (arith, less t)))

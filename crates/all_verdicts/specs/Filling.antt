@@ -17,8 +17,8 @@ pub record Filled (from to head : ℕ) (numbers entry exit : List ℕ) : Type 0 
   pub above : (l : ℕ) → to ≤ l → drop (answerSize * l) exit ≡ drop (answerSize * l) entry
 
 -- the search may be asked for every l, and there is room for the answers
-pub record MayFill (row table touchEnds stripEnds weights most : List ℕ) (o : Opening) (k room : ℕ) : Type 0 where
-  pub ask : MayAskOn row table touchEnds stripEnds weights most o 0 0 k
+pub record MayFill (row table touchSets stripSets weights most : List ℕ) (o : Opening) (k room : ℕ) : Type 0 where
+  pub ask : MayAskOn row table touchSets stripSets weights most o 0 0 k
   pub enough : needed (planOf row) ≤ room
 
 -- a list that was found may be put as the answer for l

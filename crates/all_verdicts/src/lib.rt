@@ -5,7 +5,7 @@
 use scope::Answer;
 use scope::limits::CUT_NUMBERS;
 use scope::limits::CUTS;
-use scope::limits::ENDS;
+use scope::limits::PLANE;
 use scope::limits::TABLE;
 use scope::limits::TOPS;
 use scope::limits::WEIGHTS;
@@ -61,8 +61,8 @@ fn put_failing(out: &mut [u16], l: usize, h: Hunted)
 fn descend(
     row: &[u16],
     table: &[u8],
-    touches: &[u16],
-    strips: &[u16],
+    touches: &[u32],
+    strips: &[u32],
     weights: &[u16],
     most: &[u16],
     o: Opening,
@@ -91,8 +91,8 @@ fn fill(row: &[u16], k: usize, out: &mut [u16])
     ensures { λ _. ⌜ AllSaid (planOf (now (row .entry))) k (now (out .entry)) (now (out .exit)) ⌝ }
 {
     let mut table = [0u8; TABLE];
-    let mut touches = [0u16; ENDS];
-    let mut strips = [0u16; ENDS];
+    let mut touches = [0u32; PLANE];
+    let mut strips = [0u32; PLANE];
     let mut weights = [0u16; WEIGHTS];
     let mut most = [0u16; TOPS];
     let o = verdicts::lend(

@@ -1,5 +1,5 @@
 -- Sums: term by term, in either order, and of the one test that holds.
-use Prim.Native.Nat.{ℕ, zero, suc, _+_, _-_, _≤_, _<_}
+use Prim.Native.Nat.{ℕ, zero, suc, _+_, _≤_, _<_}
 use native.Mathlib.Omega.{arith}
 use mathlib.Core.Path.{_≡_, refl, ap₂}
 use mathlib.Core.Bool.{Bool, true, false}
@@ -65,16 +65,16 @@ tests-few test (suc n) = by (test n) (tests-few test n)
     by true more = omega arith
     by false more = omega arith
 
--- and no more than there are numbers from s on before an end, where each test that holds is
-pub tests-before : (test : ℕ → Bool) (end s n : ℕ) → ((i : ℕ) → i < n → test i ≡ true → s + i < end) →
-    sumOf (λ i. oneIf (test i)) n ≤ end - s
+-- what each of them gives where it holds is given where their sum is not 0
+pub some-test : (Given : Type 0) (test : ℕ → Bool) (n : ℕ) → ((i : ℕ) → i < n → test i ≡ true → Given) →
+    0 < sumOf (λ i. oneIf (test i)) n → Given
 unfolding sumOf
-tests-before test end s zero h = omega arith
-tests-before test end s (suc n) h = by (test n) refl (tests-before test end s n (λ i l. h i (omega arith)))
+some-test Given test zero h some = absurd (omega arith)
+some-test Given test (suc n) h some = by (test n) refl some (some-test Given test n (λ i l. h i (omega arith)))
   where
-    by : (b : Bool) → test n ≡ b → sumOf (λ i. oneIf (test i)) n ≤ end - s → sumOf (λ i. oneIf (test i)) n + oneIf b ≤ end - s
-    by true t more = omega (arith, tests-few test n, h n (omega arith) t)
-    by false t more = omega arith
+    by : (b : Bool) → test n ≡ b → 0 < sumOf (λ i. oneIf (test i)) n + oneIf b → (0 < sumOf (λ i. oneIf (test i)) n → Given) → Given
+    by true t some more = h n (omega arith) t
+    by false t some more = more (omega arith)
 
 pub sum-plus : (f g : ℕ → ℕ) (n : ℕ) → sumOf (λ i. f i + g i) n ≡ sumOf f n + sumOf g n
 unfolding sumOf

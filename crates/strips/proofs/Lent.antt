@@ -1,4 +1,5 @@
--- What a search is lent of a plan is what its bounds ask for: the weights and the hits of the filled tables are no less than the plan's own.
+-- What a search is lent of a plan is what its bounds ask for: the weights of the filled tables are no less than the plan's own, and
+-- whom a pair touches or strips is in its sets.
 use Prim.Native.Nat.{ℕ, zero, suc, _+_, _-_, _≤_, _<_}
 use native.Mathlib.Omega.{arith}
 use mathlib.Core.Path.{_≡_, sym, _∙_, ap}
@@ -14,14 +15,15 @@ use Rattle.scope.specs.Good.{rules}
 use Rattle.scope.specs.Cycle.{tableOf}
 use Rattle.table.specs.Table.{Table, entryAt}
 use Rattle.sets.specs.Sums.{sumOf, oneIf}
+use Rattle.sets.specs.Sets.{has}
 use Rattle.bound.specs.Touch.{touchedIn, touches}
 use Rattle.bound.specs.Harmed.{hersIn, hers}
 use Rattle.bound.specs.Strips.{fragilePlan, throughRobust, strips, bares}
 use Rattle.bound.specs.Seconds.{secondIn, onLink}
 use Rattle.bound.specs.Weights.{entriesFrom, WeighsAll, TopsAll}
-use Rattle.bound.specs.Ends.{endIn, hitsIn, EndsOf, StripsEndsOf}
+use Rattle.bound.specs.Sets.{setIn, SetsOf, StripSetsOf}
 use Rattle.bound.specs.Bounds.{Fails, weightIn, Bounds}
-use Rattle.sets.proofs.Sums.{sum-same, sum-fewer, tests-few, tests-before}
+use Rattle.sets.proofs.Sums.{sum-same, sum-fewer, some-test}
 use Rattle.bound.proofs.OneLink.{hers-most, touches-most}
 use Rattle.bound.proofs.Weights.{entries-fall}
 use Rattle.bound.proofs.Enough.{AtMost, bounds}
@@ -34,14 +36,13 @@ entries-are owner table t n s e hn he =
     sum-same (λ i. oneIf (ltb 0 (owner (s + i) e))) (λ i. oneIf (ltb 0 (entryAt table (s + i) e))) (n - s)
     (λ i l. ap (λ (x : ℕ). oneIf (ltb 0 x)) (sym (t .is (s + i) e (omega arith) he)))
 
--- those of a message stand before its number
-in-time : (owner : ℕ → ℕ → ℕ) (table ends : List ℕ) → Table owner table → EndsOf table ends → (n m s e : ℕ) → n ≤ mostSlots →
-    m < mostMessages → e < mostLinks → hersIn owner (n - s) m s e ≤ hitsIn ends m s e
-in-time owner table ends t o n m s e hn hm he =
-    tests-before (λ i. eqb (owner (s + i) e) (m + 1)) (endIn ends e (m + 1)) s (n - s)
+-- who has one is in the set
+in-set : (owner : ℕ → ℕ → ℕ) (table sets : List ℕ) (n : ℕ) → Table owner table → SetsOf table n sets → n ≤ mostSlots → (m s e : ℕ) →
+    m < mostMessages → e < mostLinks → 0 < hersIn owner (n - s) m s e → has (setIn sets s e) m ≡ true
+in-set owner table sets n t o hn m s e hm he =
+    some-test (has (setIn sets s e) m ≡ true) (λ i. eqb (owner (s + i) e) (m + 1)) (n - s)
     (λ i l h.
-    let is : entryAt table (s + i) e ≡ m + 1 = t .is (s + i) e (omega arith) he ∙ eqb-true (owner (s + i) e) (m + 1) h in
-    rw is at (o .after (s + i) e (omega arith) he (omega (arith, is))))
+    o .from s (s + i) e m (omega arith) (omega arith) he hm (t .is (s + i) e (omega arith) he ∙ eqb-true (owner (s + i) e) (m + 1) h))
 
 -- fewer come from a later slot on
 fewer : (table : List ℕ) (n s i e : ℕ) → s ≤ i → i < n → entriesFrom table n i e ≤ entriesFrom table n s e
@@ -49,39 +50,23 @@ fewer table n s i e l h = let d : s + (i - s) ≡ i = omega arith in rw d at (en
 
 module _ (plan : Plan) (time : plan .timeout ≤ mostSlots) (links : length (plan .links) ≤ mostLinks)
     (messages : length (plan .messages) ≤ mostMessages) where
-  -- the pair touches message m no more often than there are slots from its own on before the number
-  pub touch-hits : (table ends : List ℕ) → Table (tableOf plan) table → EndsOf table ends → (m s e : ℕ) → m < length (plan .messages) →
-      e < length (plan .links) → hers plan m s e ≤ hitsIn ends m s e
-  touch-hits table ends t o m s e hm he =
-      omega (arith, hers-most plan m s e, in-time (tableOf plan) table ends t o (plan .timeout) m s e time (omega arith) (omega arith))
+  -- whom a pair touches is in its set
+  pub touched-in-set : (table sets : List ℕ) → Table (tableOf plan) table → SetsOf table (plan .timeout) sets → (m s e : ℕ) →
+      m < length (plan .messages) → s < plan .timeout → e < length (plan .links) → 0 < hers plan m s e → has (setIn sets s e) m ≡ true
+  touched-in-set table sets t o m s e hm hs he some =
+      in-set (tableOf plan) table sets (plan .timeout) t o time m s e (omega arith) (omega arith) (omega (arith, hers-most plan m s e))
 
   module _ (fragile seconds : List ℕ) (f : Filled plan fragile seconds) where
-    -- and strips it no more often
-    pub strip-hits : (ends : List ℕ) → StripsEndsOf fragile seconds ends → (m s e : ℕ) → m < length (plan .messages) → s < plan .timeout →
-        e < length (plan .links) → strips plan m s e ≤ hitsIn ends m s e
-    strip-hits ends o m s e hm hs he = by (throughRobust plan m e (pathOf plan m)) (f .bytes .is m e (omega arith) (omega arith))
+    -- and whom it strips
+    pub stripped-in-set : (sets : List ℕ) → StripSetsOf fragile seconds (plan .timeout) sets → (m s e : ℕ) → m < length (plan .messages) →
+        s < plan .timeout → e < length (plan .links) → 0 < strips plan m s e → has (setIn sets s e) m ≡ true
+    stripped-in-set sets o m s e hm hs he = by (throughRobust plan m e (pathOf plan m)) (f .bytes .is m e (omega arith) (omega arith))
       where
-        owner : ℕ → ℕ → ℕ
-        owner = tableOf (fragilePlan plan)
-
-        most : hers (fragilePlan plan) m s e ≤ hersIn owner (plan .timeout - s) m s e
-        most = hers-most (fragilePlan plan) m s e
-
-        by : (b : Bool) → secondIn seconds e m ≡ oneIf b → hers (fragilePlan plan) m s e + oneIf b ≤ hitsIn ends m s e
-        by true is =
-            omega (
-              arith,
-              most,
-              tests-few (λ i. eqb (owner (s + i) e) (m + 1)) (plan .timeout - s),
-              o .always e m (omega arith) (omega arith) (omega arith),
-            )
-        by false is =
-            omega (
-              arith,
-              most,
-              in-time owner fragile ends (f .table) (record { long = o .long; after = o .after }) (plan .timeout) m s e time (omega arith)
-                  (omega arith),
-            )
+        by : (b : Bool) → secondIn seconds e m ≡ oneIf b → 0 < hers (fragilePlan plan) m s e + oneIf b → has (setIn sets s e) m ≡ true
+        by true is some = o .always s e m hs (omega arith) (omega arith) (omega arith)
+        by false is some =
+            in-set (tableOf (fragilePlan plan)) fragile sets (plan .timeout) (f .table) (record { long = o .long; from = o .from }) time m s e
+            (omega arith) (omega arith) (omega (arith, hers-most (fragilePlan plan) m s e))
 
     -- and all messages no more often than the tables count
     bares-most : (s e : ℕ) → e < length (plan .links) → bares plan s e ≤ entriesFrom fragile (plan .timeout) s e + onLink seconds e

@@ -4,7 +4,7 @@ use native.Mathlib.Omega.{arith}
 use mathlib.Core.Path.{_≡_, sym, _∙_, ap}
 use mathlib.Core.List.{List, map}
 use lib.ListN.{length, getD, replicate, length-replicate}
-use Rattle.scope.specs.Limits.{mostCuts, mostSlots, mostLinks, mostMessages, tableSize, secondsSize, weightsSize, longestRow}
+use Rattle.scope.specs.Limits.{mostCuts, mostSlots, mostLinks, mostMessages, tableSize, planeSize, secondsSize, weightsSize, longestRow}
 use Rattle.scope.specs.Plan.{messageCount, linkCount, timeoutOf, firstMessage, messagesAt, planOf}
 use Rattle.scope.specs.Slot.{onFirst}
 use Rattle.scope.specs.Cycle.{tableOf, positions}
@@ -12,10 +12,10 @@ use Rattle.rows.specs.Lies.{PlanLies}
 use Rattle.rows.proofs.Parts.{message-count, link-count, timeout-is}
 use Rattle.rows.proofs.Walked.{walked}
 use Rattle.table.specs.Table.{Table}
-use Rattle.bound.specs.Weights.{MayWeigh, WeighsAll, TopsAll}
-use Rattle.bound.specs.Ends.{EndsOf, StripsEndsOf}
+use Rattle.bound.specs.Weights.{HasRoom, MayWeigh, WeighsAll, TopsAll}
+use Rattle.bound.specs.Sets.{SetsOf, StripSetsOf, MayGatherStrips}
 use Rattle.strips.specs.Filled.{MayFill, Filled}
-use Rattle.strips.proofs.Lent.{touch-hits, strip-hits, lent as bounds-of}
+use Rattle.strips.proofs.Lent.{touched-in-set, stripped-in-set, lent as bounds-of}
 use Rattle.forms.proofs.Theorems.{row-most}
 use Rattle.plan.specs.Answers.{GoodRow}
 use Rattle.step.specs.declared.Standing.{Standing}
@@ -52,14 +52,21 @@ module _ (row : List ℕ) (good : GoodRow row) where
   pub few-slots : (t : ℕ) → t ≡ timeoutOf row → t ≤ mostSlots
   few-slots t is = omega (arith, lies .timeout)
 
-  pub may-weigh : (t : ℕ) (table fragile seconds weights : List ℕ) → t ≡ timeoutOf row → Table (tableOf (planOf row)) table →
-      Filled (planOf row) fragile seconds → length weights ≡ weightsSize → MayWeigh table fragile seconds t weights
-  may-weigh t table fragile seconds weights is tab f heavy =
-      record { entries = tab .long; others = f .table .long; bytes = f .bytes .long; few = few-slots t is; long = heavy }
+  module _ (t : ℕ) (is : t ≡ timeoutOf row) (table : List ℕ) (tab : Table (tableOf (planOf row)) table) where
+    pub may-touch : (sets : List ℕ) → length sets ≡ planeSize → HasRoom table t sets
+    may-touch sets long = record { entries = tab .long; few = few-slots t is; long = long }
 
-  module _ (t : ℕ) (ht : t ≡ timeoutOf row) (table fragile seconds touchEnds stripEnds weights most : List ℕ)
-      (tab : Table (tableOf (planOf row)) table) (f : Filled (planOf row) fragile seconds) (te : EndsOf table touchEnds)
-      (se : StripsEndsOf fragile seconds stripEnds) (w : WeighsAll table fragile seconds t weights) (m : TopsAll weights t most) where
+    module _ (fragile seconds : List ℕ) (f : Filled (planOf row) fragile seconds) where
+      pub may-strip : (sets : List ℕ) → length sets ≡ planeSize → MayGatherStrips fragile seconds t sets
+      may-strip sets long = record { table = record { entries = f .table .long; few = few-slots t is; long = long }; bytes = f .bytes .long }
+
+      pub may-weigh : (weights : List ℕ) → length weights ≡ weightsSize → MayWeigh table fragile seconds t weights
+      may-weigh weights heavy =
+          record { entries = tab .long; others = f .table .long; bytes = f .bytes .long; few = few-slots t is; long = heavy }
+
+  module _ (t : ℕ) (ht : t ≡ timeoutOf row) (table fragile seconds touchSets stripSets weights most : List ℕ)
+      (tab : Table (tableOf (planOf row)) table) (f : Filled (planOf row) fragile seconds) (ts : SetsOf table t touchSets)
+      (ss : StripSetsOf fragile seconds t stripSets) (w : WeighsAll table fragile seconds t weights) (m : TopsAll weights t most) where
     slots : t ≡ planOf row .timeout
     slots = ht ∙ sym (timeout-is row)
 
@@ -73,7 +80,7 @@ module _ (row : List ℕ) (good : GoodRow row) where
     many = omega (arith, message-count row, lies .messages)
 
     pub lends : (e n l d : ℕ) (ps : Standing) → e ≡ linkCount row → n ≡ messageCount row → Begins row n ps →
-        Lent row table touchEnds stripEnds weights most
+        Lent row table touchSets stripSets weights most
         (record { asked = record { timeout = t; links = e; messages = n; least = l; need = d }; standing = ps })
     unfolding positions
     lends e n l d ps he hn b =
@@ -81,7 +88,7 @@ module _ (row : List ℕ) (good : GoodRow row) where
           play =
               record {
                 timeout = slots;
-                short = omega (arith, lies .timeout);
+                short = few-slots t ht;
                 links = he ∙ sym (link-count row);
                 few = omega (arith, lies .links);
                 messages = hn ∙ sym (message-count row);
@@ -90,10 +97,10 @@ module _ (row : List ℕ) (good : GoodRow row) where
           many = omega (arith, lies .messages);
           hit =
               record {
-                touch = te .long;
-                strip = se .long;
-                touched = touch-hits (planOf row) time ways many table touchEnds tab te;
-                stripped = strip-hits (planOf row) time ways many fragile seconds f stripEnds se;
+                touch = ts .long;
+                strip = ss .long;
+                touched = touched-in-set (planOf row) time ways many table touchSets tab (rw slots at ts);
+                stripped = stripped-in-set (planOf row) time ways many fragile seconds f stripSets (rw slots at ss);
               };
           heavy = w .long;
           tops = m .tops .long;
@@ -112,19 +119,19 @@ module _ (row : List ℕ) (good : GoodRow row) where
         }
 
 -- the list of k pairs that is asked for first
-pub may-ask-on : (row table touchEnds stripEnds weights most : List ℕ) (o : Opening) → Lent row table touchEnds stripEnds weights most o →
-    (l k : ℕ) → l ≤ o .asked .messages → k ≤ mostCuts → MayAskOn row table touchEnds stripEnds weights most o l 0 k
-may-ask-on row table touchEnds stripEnds weights most o is l k least few =
+pub may-ask-on : (row table touchSets stripSets weights most : List ℕ) (o : Opening) → Lent row table touchSets stripSets weights most o →
+    (l k : ℕ) → l ≤ o .asked .messages → k ≤ mostCuts → MayAskOn row table touchSets stripSets weights most o l 0 k
+may-ask-on row table touchSets stripSets weights most o is l k least few =
     record { lent = is; least = least; few = few; within = omega arith; before = λ i z. absurd (omega arith) }
 
-module _ (row table touchEnds stripEnds weights most : List ℕ) (o : Opening) (l low k : ℕ)
-    (m : MayAskOn row table touchEnds stripEnds weights most o l low k) where
+module _ (row table touchSets stripSets weights most : List ℕ) (o : Opening) (l low k : ℕ)
+    (m : MayAskOn row table touchSets stripSets weights most o l low k) where
   -- every list leaves 0 arrivals
   pub asks-nought : (h : Hunted) → l ≡ 0 → h ≡ noHunted → Hunts row l k h
   asks-nought h z is = hunts-none row l k h is (λ i le x long good fails. omega arith)
 
   pub asks : (need : ℕ) → need ≡ o .asked .messages + 1 - l →
-      MayHunt row table touchEnds stripEnds weights most
+      MayHunt row table touchSets stripSets weights most
       (record { timeout = o .asked .timeout; links = o .asked .links; messages = o .asked .messages; least = l; need = need }) (o .standing)
       low k
   asks need e =

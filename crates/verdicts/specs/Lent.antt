@@ -3,7 +3,7 @@ use Prim.Native.Nat.{ℕ, _+_, _-_, _≤_, _<_}
 use mathlib.Core.Path.{_≡_}
 use mathlib.Core.List.{List, []}
 use lib.ListN.{length}
-use Rattle.scope.specs.Limits.{mostMessages, mostCuts, tableSize, endsSize, weightsSize, topsSize}
+use Rattle.scope.specs.Limits.{mostMessages, mostCuts, tableSize, planeSize, weightsSize, topsSize}
 use Rattle.scope.specs.Plan.{planOf}
 use Rattle.order.specs.Search.{NoneOf}
 use Rattle.bound.specs.Bounds.{Fails, Bounds}
@@ -12,27 +12,27 @@ use Rattle.search.specs.Hunt.{Playable, Hittable, StandAt}
 use Rattle.verdicts.specs.declared.Opening.{Opening}
 
 -- a good row, and room for what is lent
-pub record MayLend (row table touchEnds stripEnds weights most : List ℕ) : Type 0 where
+pub record MayLend (row table touchSets stripSets weights most : List ℕ) : Type 0 where
   pub good : GoodRow row
   pub entries : length table ≡ tableSize
-  pub touches : length touchEnds ≡ endsSize
-  pub strips : length stripEnds ≡ endsSize
+  pub touches : length touchSets ≡ planeSize
+  pub strips : length stripSets ≡ planeSize
   pub heavy : length weights ≡ weightsSize
   pub tops : length most ≡ topsSize
 
 -- the tables and the weights are right, whatever l is asked, and the messages stand at their sources
-pub record Lent (row table touchEnds stripEnds weights most : List ℕ) (o : Opening) : Type 0 where
+pub record Lent (row table touchSets stripSets weights most : List ℕ) (o : Opening) : Type 0 where
   pub play : Playable row table (o .asked)
   pub many : o .asked .messages ≤ mostMessages
-  pub hit : Hittable row touchEnds stripEnds
+  pub hit : Hittable row touchSets stripSets
   pub heavy : length weights ≡ weightsSize
   pub tops : length most ≡ topsSize
   pub bounds : (l need : ℕ) → need ≡ o .asked .messages + 1 - l → Bounds (planOf row) (Fails (planOf row) l) need weights most
   pub stand : StandAt row (o .asked .messages) [] 0 (o .standing)
 
 -- lists of at most k pairs may be asked for, where those of fewer than `low` pairs leave l arrivals
-pub record MayAskOn (row table touchEnds stripEnds weights most : List ℕ) (o : Opening) (l low k : ℕ) : Type 0 where
-  pub lent : Lent row table touchEnds stripEnds weights most o
+pub record MayAskOn (row table touchSets stripSets weights most : List ℕ) (o : Opening) (l low k : ℕ) : Type 0 where
+  pub lent : Lent row table touchSets stripSets weights most o
   pub least : l ≤ o .asked .messages
   pub few : k ≤ mostCuts
   pub within : low ≤ k + 1

@@ -4,7 +4,7 @@
 use scope::Answer;
 use scope::Refusal;
 use scope::limits::CUTS;
-use scope::limits::ENDS;
+use scope::limits::PLANE;
 use scope::limits::SECONDS;
 use scope::limits::TABLE;
 use scope::limits::TOPS;
@@ -30,12 +30,12 @@ pub struct Opening {
     pub standing: Standing,
 }
 
-// What the search is lent of a good row: its table, the slots in which a pair touches or strips a message, the weights, and how it begins.
+// What the search is lent of a good row: its table, whom each pair touches and strips, the weights, and how it begins.
 pub fn lend(
     row: &[u16],
     table: &mut [u8],
-    touches: &mut [u16],
-    strips: &mut [u16],
+    touches: &mut [u32],
+    strips: &mut [u32],
     weights: &mut [u16],
     most: &mut [u16],
 ) -> Opening
@@ -48,8 +48,8 @@ pub fn lend(
     table::fill_table(row, table);
     strips::fill(row, &mut fragile, &mut seconds);
     let slots = rows::timeout(row);
-    bound::ends(table, touches);
-    bound::strip_ends(&fragile, &seconds, strips);
+    bound::touch_sets(table, slots, touches);
+    bound::strip_sets(&fragile, &seconds, slots, strips);
     bound::weigh_all(table, &fragile, &seconds, slots, weights);
     bound::tops_all(weights, slots, most);
     let messages = rows::messages(row);
@@ -68,8 +68,8 @@ pub fn lend(
 pub fn ask(
     row: &[u16],
     table: &[u8],
-    touches: &[u16],
-    strips: &[u16],
+    touches: &[u32],
+    strips: &[u32],
     weights: &[u16],
     most: &[u16],
     o: Opening,
@@ -101,8 +101,8 @@ fn decide(row: &[u16], k: usize, l: usize) -> Hunted
     ensures { λ r. ⌜ Hunts (now (row .entry)) l k r ⌝ }
 {
     let mut table = [0u8; TABLE];
-    let mut touches = [0u16; ENDS];
-    let mut strips = [0u16; ENDS];
+    let mut touches = [0u32; PLANE];
+    let mut strips = [0u32; PLANE];
     let mut weights = [0u16; WEIGHTS];
     let mut most = [0u16; TOPS];
     let o = lend(

@@ -7,10 +7,10 @@ use Rattle.all_verdicts.proofs.descend.Statement.{statement}
 use Rattle.all_verdicts.proofs.descend.Tie as tie
 
 abbrev Inv-loop : tie.InvT-loop
-Inv-loop row table touchEnds stripEnds weights most o k out₀ l₀ h₀ out l h = Descending row o k out₀ l h out
+Inv-loop row table touchSets stripSets weights most o k out₀ l₀ h₀ out l h = Descending row o k out₀ l h out
 
 abbrev μ-loop : tie.MeasureT-loop
-μ-loop row table touchEnds stripEnds weights most o k out₀ l₀ h₀ out l h = l
+μ-loop row table touchSets stripSets weights most o k out₀ l₀ h₀ out l h = l
 
 ask-requires : tie.Need-ask-requires Inv-loop μ-loop
 ask-requires c κs =
