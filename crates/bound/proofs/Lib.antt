@@ -10,6 +10,4 @@ pub mod OneLink
 pub mod Weights
 pub mod Planes
 pub mod Fronting
-pub mod Ending
-pub mod Marking
 pub mod Gathering

@@ -6,6 +6,4 @@ pub mod Bounds
 pub mod Seconds
 pub mod Weights
 pub mod Fronts
-pub mod Ends
-pub mod Marks
 pub mod Sets

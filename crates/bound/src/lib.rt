@@ -2,28 +2,23 @@
 // that it leaves without what would help them, and a list loses only messages that it both touches and strips (specs/Touch, specs/Strips). A
 // search needs no more of this than specs/Bounds says, so that a sharper bound can take its place. It leans on the table of `table` and on
 // the theorems of `laws`.
-use scope::limits::ENTRIES;
 use scope::limits::FRONT;
 use scope::limits::LINKS;
 use scope::limits::MESSAGES;
 use scope::limits::PLANE;
-use scope::limits::SECONDS;
 use scope::limits::SLOTS;
-use scope::limits::TABLE;
 use scope::limits::TOPS;
 ghost use mathlib.Core.Path.{_≡_};
-ghost use Prim.Native.Nat.{_+_, _-_, min, _≤_, _<_};
+ghost use Prim.Native.Nat.{_+_, _-_, _≤_, _<_};
 ghost use lib.ListN.{length};
 ghost use lib.Dec.{ltb};
-ghost use Rattle.scope.specs.Limits.{mostSlots, mostLinks, secondsSize, planeSize, topsSize, frontsSize, endsSize};
+ghost use Rattle.scope.specs.Limits.{mostSlots, mostLinks, secondsSize, planeSize, topsSize, frontsSize};
 ghost use Rattle.sets.specs.Sums.{oneIf};
 ghost use Rattle.bound.specs.Seconds.{onLink};
 ghost use Rattle.bound.specs.Weights.{mostOnLink, ForLinks, OnLinks, HasRoom, Behind, WeighsFrom, Weighs, WeighsStrips, MayAdd, Added};
 ghost use Rattle.bound.specs.Weights.{MayWeigh, WeighsAll, TopOf, Tops, MayTop, TopsEach, TopsAll};
 ghost use Rattle.bound.specs.Bounds.{frontOf, frontIn};
 ghost use Rattle.bound.specs.Fronts.{Larger, MayFront, Bucketed, Carried, RunsDown, Fronts};
-ghost use Rattle.bound.specs.Ends.{hitsIn, EndsOf, MayStripEnds, StripsEndsOf};
-ghost use Rattle.bound.specs.Marks.{MayMark, Marked};
 ghost use Rattle.bound.specs.Sets.{SetsOf, StripSetsOf, Gathered, Through, MayRow, ThroughRow, MayGatherStrips};
 
 // The links' numbers, behind the last slot.
@@ -260,64 +255,6 @@ pub fn need(messages: usize, least: usize) -> usize
     ensures { λ r. ⌜ r ≡ messages + 1 - least ⌝ }
 {
     messages + 1 - least
-}
-
-// For each link and entry of a table a number that the slots of its places are before, where the numbers are 0 before.
-pub fn ends(table: &[u8], numbers: &mut [u16])
-    requires { ⌜ length (now numbers) ≡ endsSize ⌝ }
-    ensures { λ _. ⌜ EndsOf (now (table .entry)) (now (numbers .exit)) ⌝ }
-{
-    let mut k = 0;
-    while k < TABLE {
-        let i = k / LINKS;
-        let e = k % LINKS;
-        let w = table::entry(table, i, e) as usize;
-        k += 1;
-        if w < ENTRIES {
-            numbers[e * ENTRIES + w] = (i + 1) as u16;
-        }
-    }
-}
-
-// Of the fragile entries, and beyond all slots where a link is on the second path of a robust place.
-pub fn strip_ends(fragile: &[u8], seconds: &[u8], numbers: &mut [u16])
-    requires { ⌜ MayStripEnds (now seconds) (now numbers) ⌝ }
-    ensures { λ _. ⌜ StripsEndsOf (now (fragile .entry)) (now (seconds .entry)) (now (numbers .exit)) ⌝ }
-{
-    ends(fragile, numbers);
-    let mut k = 0;
-    while k < SECONDS {
-        let there = seconds[k];
-        let at = k / MESSAGES * ENTRIES + k % MESSAGES + 1;
-        k += 1;
-        if there != 0 {
-            numbers[at] = (SLOTS + 1) as u16;
-        }
-    }
-}
-
-// A slot as a number of 16 bits: none is before a later one that has more.
-fn narrow(s: usize) -> u16
-    ensures { λ r. ⌜ r ≡ min s 65535 ⌝ }
-{
-    if s < 65535 { s as u16 } else { 65535 }
-}
-
-// Marks each message that link e matters to in slot s or later.
-pub fn mark(ends: &[u16], s: usize, e: usize, marks: &mut [u8])
-    requires { ⌜ MayMark (now ends) e (now marks) ⌝ }
-    ensures { λ _. ⌜ Marked (hitsIn (now (ends .entry))) s e (now (marks .entry)) (now (marks .exit)) ⌝ }
-{
-    let from = narrow(s);
-    let mut m = 0;
-    while m < MESSAGES {
-        m += 1;
-        let mut v = marks[m];
-        if from < ends[e * ENTRIES + m] {
-            v = 1;
-        }
-        marks[m] = v;
-    }
 }
 
 // The set of each slot and link: those in the set of the next slot, and whom the table names.

@@ -26,14 +26,6 @@ tableSize = 4096
 abbrev pub secondsSize : ℕ
 secondsSize = 2048
 
--- the marks of messages, each at its number plus one, in bytes that are copied at once
-abbrev pub mostEntries : ℕ
-mostEntries = 64
-
--- a number for each link and entry, link by link
-abbrev pub endsSize : ℕ
-endsSize = 4096
-
 -- a number for each slot and link, slot by slot, and a row of links behind the last slot
 abbrev pub planeSize : ℕ
 planeSize = 4160

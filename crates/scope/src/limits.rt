@@ -15,13 +15,8 @@ pub const PLACES: usize = 16;
 // A number for each slot and link, slot by slot.
 pub const TABLE: usize = SLOTS * LINKS;
 
-// A byte for each link and message, link by link; the marks of messages, each at its number plus one, in bytes that are copied at once.
+// A byte for each link and message, link by link.
 pub const SECONDS: usize = LINKS * MESSAGES;
-
-pub const ENTRIES: usize = 64;
-
-// A number for each link and entry, link by link.
-pub const ENDS: usize = LINKS * ENTRIES;
 
 // A number for each slot and link, slot by slot, and a row of links behind the last slot; three weights for each.
 pub const PLANE: usize = TABLE + LINKS;
