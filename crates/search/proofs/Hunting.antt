@@ -20,7 +20,7 @@ use Rattle.search.specs.declared.Found.{Found}
 use Rattle.search.specs.declared.Hunted.{Hunted}
 use Rattle.order.specs.Search.{NoneOf}
 use Rattle.bound.specs.Bounds.{Fails}
-use Rattle.search.specs.Hunt.{noPair, noHits, Seeks, noHunted, Holding, MaySeek, Sought, MayHunt, Hunts}
+use Rattle.search.specs.Hunt.{noPair, noHits, Seeks, noHunted, Holding, AreAway, MaySeek, Sought, MayHunt, Hunts}
 use Rattle.order.proofs.Pairs.{is-cut-list}
 use Rattle.search.proofs.Answer.{first-failing}
 use Rattle.search.proofs.Risks.{noughts, covers-none}
@@ -69,14 +69,15 @@ module _ (row table touchSets stripSets weights most : List ℕ) (a : Asked) (ps
   pub hunt-first : Hunting row a low k low
   hunt-first = record { within = m .within; leave = m .before }
 
-  pub may-seek : (n : ℕ) (p : Picked) (hits : Hits) → n ≤ k → p ≡ noPair → hits ≡ noHits →
-      MaySeek row table touchSets stripSets weights most a hits ps p n
-  may-seek n p hits h is none =
+  pub may-seek : (n : ℕ) (p : Picked) (hits : Hits) (left : ℕ) → n ≤ k → p ≡ noPair → hits ≡ noHits →
+      AreAway (ps .positions) (a .messages) left → MaySeek row table touchSets stripSets weights most a hits ps left p n
+  may-seek n p hits left h is none are =
       record {
         ready = m .ready;
         holding = rw is (holding-none row a);
         covers = rw (is, none) (covers-none row);
         stand = rw is (m .stand);
+        away = are;
         few = rw is (omega (arith, m .few));
       }
 

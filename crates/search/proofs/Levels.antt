@@ -24,13 +24,13 @@ use Rattle.search.specs.declared.Rest.{Rest}
 use Rattle.search.specs.declared.Found.{Found}
 use Rattle.order.specs.Search.{code, Not, NoneOf, NoneIn}
 use Rattle.search.specs.Hunt.{cutsOf, withPair, restOf, lossWith, tooLight, passes, Seeks, Fits, noFound, Ready, Holding}
-use Rattle.search.specs.Hunt.{StandAt, Leaves}
+use Rattle.search.specs.Hunt.{StandAt, AreAway, Leaves}
 use Rattle.search.specs.Hunt.{MayPlayOut, MayAdvance, MaySeek, MaySeekIn, Sought, SoughtIn}
 use Rattle.order.proofs.Steps.{after, no-more, none-before, passed, cut-already, no-list-here, first-here, slot-over, joined, first-in-slot}
 use Rattle.order.proofs.Steps.{all-over, first-of-all}
 use Rattle.search.proofs.Weigh.{which, not-before, too-light}
 use Rattle.search.proofs.Telling.{tells-none, tells-more}
-use Rattle.search.specs.Risks.{AreAway, risksOf, MayHit, IsHit, MayWeigh, MayTry}
+use Rattle.search.specs.Risks.{risksOf, MayHit, IsHit, MayWeigh, MayTry}
 use Rattle.search.proofs.Picking.{named, cuts-more, holding-more, stand-more}
 use Rattle.search.proofs.Risks.{covers-more, counted, may-weigh}
 
@@ -41,10 +41,11 @@ pub record Looking (row weights most : List ℕ) (a : Asked) (p : Picked) (n s e
   pub within : i ≤ a .links
   pub may : i < a .links → passes (p .down) weights most (a .need) rest s i ≡ true
 
--- over the slots: the lists whose next pair comes before slot s and link e leave enough
-pub record Climbing (row : List ℕ) (a : Asked) (p : Picked) (n s e : ℕ) (qs : Standing) : Type 0 where
+-- over the slots: the lists whose next pair comes before slot s and link e leave enough, and those of a set are still away
+pub record Climbing (row : List ℕ) (a : Asked) (p : Picked) (n s e : ℕ) (qs : Standing) (still : ℕ) : Type 0 where
   pub leave : NoneIn (planOf row) (Seeks row a) (cutsOf p) (n - 1) 0 (code s e)
   pub stand : StandAt row (a .messages) (cutsOf p) s qs
+  pub away : AreAway (qs .positions) (a .messages) still
   pub from : p .slot ≤ s
   pub early : s ≤ a .timeout
   pub link : e ≤ a .links
@@ -174,11 +175,13 @@ module _ (row table touchSets stripSets weights most : List ℕ) (a : Asked) (p 
         (slot-over (planOf row) (Seeks row a) few (cutsOf p) (p .count) (code (p .slot) (p .link)) (h .chosen) (n - 1) (code s e) s
         (subst (λ (j : ℕ). NoneIn (planOf row) (Seeks row a) (cutsOf p) (n - 1) (code s e) (code s j)) end (g .leave)))
 
-  pub climb-first : (ps : Standing) → StandAt row (a .messages) (cutsOf p) (p .slot) ps → Climbing row a p n (p .slot) (p .link) ps
-  climb-first ps stand =
+  pub climb-first : (ps : Standing) (left : ℕ) → StandAt row (a .messages) (cutsOf p) (p .slot) ps →
+      AreAway (ps .positions) (a .messages) left → Climbing row a p n (p .slot) (p .link) ps left
+  climb-first ps left stand are =
       record {
         leave = none-before (planOf row) (Seeks row a) few (cutsOf p) (p .count) (code (p .slot) (p .link)) (h .chosen) (n - 1);
         stand = stand;
+        away = are;
         from = omega arith;
         early = h .slot;
         link = h .link;
@@ -188,7 +191,7 @@ module _ (row table touchSets stripSets weights most : List ℕ) (a : Asked) (p 
   whole : 1 + (n - 1) ≡ n
   whole = omega arith
 
-  module _ (s e : ℕ) (qs : Standing) (g : Climbing row a p n s e qs) where
+  module _ (s e : ℕ) (qs : Standing) (still : ℕ) (g : Climbing row a p n s e qs still) where
     -- no link of this slot may be tried
     pub climb-stop : (r : Found) (rest : Rest) (f : ℕ) → r ≡ noFound → Leaves row (cutsOf p) most s (n - 1) rest →
         f ≡ seek (passes (p .down) weights most (a .need) rest s) (a .links - 0) 0 → a .links ≤ f → Sought row a p n r
@@ -206,7 +209,7 @@ module _ (row table touchSets stripSets weights most : List ℕ) (a : Asked) (p 
 
     -- no list goes on with a link of this slot before the first that may be tried
     pub climb-skip : (rest : Rest) (f j : ℕ) → Leaves row (cutsOf p) most s (n - 1) rest →
-        f ≡ seek (passes (p .down) weights most (a .need) rest s) (a .links - 0) 0 → j ≡ e + (f - e) → Climbing row a p n s j qs
+        f ≡ seek (passes (p .down) weights most (a .need) rest s) (a .links - 0) 0 → j ≡ e + (f - e) → Climbing row a p n s j qs still
     climb-skip rest f j v found is =
         let test = passes (p .down) weights most (a .need) rest s in
         let within : j ≤ a .links = omega (arith, g .link, seek-most test (a .links - 0) 0) in
@@ -214,6 +217,7 @@ module _ (row table touchSets stripSets weights most : List ℕ) (a : Asked) (p 
           leave =
               skipped 0 s e j rest v within (λ b u w. seek-low test (a .links - 0) 0 b (omega arith) (omega arith)) (g .leave);
           stand = g .stand;
+          away = g .away;
           from = g .from;
           early = g .early;
           link = within;
@@ -239,15 +243,16 @@ module _ (row table touchSets stripSets weights most : List ℕ) (a : Asked) (p 
           (first-in-slot (planOf row) (Seeks row a) few (cutsOf p) (p .count) (code (p .slot) (p .link)) (h .chosen) (n - 1) 0 (code s e)
           (take (2 * (p .count + n)) (r .numbers)) (g .leave) first)))
 
-      pub climb-on : (rs : Standing) → r .found ≡ false → s < a .timeout → StandAt row (a .messages) (cutsOf p) (s + 1) rs →
-          Climbing row a p n (s + 1) 0 rs
-      climb-on rs t early stand =
+      pub climb-on : (rs : Standing) (then : ℕ) → r .found ≡ false → s < a .timeout → StandAt row (a .messages) (cutsOf p) (s + 1) rs →
+          AreAway (rs .positions) (a .messages) then → Climbing row a p n (s + 1) 0 rs then
+      climb-on rs then t early stand are =
           record {
             leave =
                 joined (planOf row) (Seeks row a) few (cutsOf p) (p .count) (code (p .slot) (p .link)) (h .chosen) (n - 1) 0 (code s e)
                 (code (s + 1) 0)
                 (g .leave) (f .none t .1);
             stand = stand;
+            away = are;
             from = omega (arith, g .from);
             early = omega arith;
             link = omega arith;
@@ -259,8 +264,8 @@ pub goes-up : (test : ℕ → Bool) (n i r : ℕ) → r ≡ seek test n (i + 1) 
 goes-up test n i r e = omega (arith, seek-from test n (i + 1))
 
 -- the calls
-module _ (row table touchSets stripSets weights most : List ℕ) (a : Asked) (hits : Hits) (ps : Standing) (p : Picked) (n s e : ℕ) (rest : Rest)
-    (m : MaySeekIn row table touchSets stripSets weights most a hits ps p n s e rest) where
+module _ (row table touchSets stripSets weights most : List ℕ) (a : Asked) (hits : Hits) (ps : Standing) (left : ℕ) (p : Picked) (n s e : ℕ)
+    (rest : Rest) (m : MaySeekIn row table touchSets stripSets weights most a hits ps left p n s e rest) where
   next-holds : (i : ℕ) → Looking row weights most a p n s e i rest → i < a .links → Holding row a (withPair p s i)
   next-holds i g l =
       holding-more row table a p (m .ready .play) (m .holding) s i (omega (arith, m .few, m .some)) (omega (arith, m .later, g .start))
@@ -287,7 +292,7 @@ module _ (row table touchSets stripSets weights most : List ℕ) (a : Asked) (hi
       }
 
   pub may-go-on : (i : ℕ) (q : Picked) (more : Hits) → Looking row weights most a p n s e i rest → i < a .links → q ≡ withPair p s i →
-      IsHit touchSets stripSets hits s i more → MaySeek row table touchSets stripSets weights most a more ps q (n - 1)
+      IsHit touchSets stripSets hits s i more → MaySeek row table touchSets stripSets weights most a more ps left q (n - 1)
   may-go-on i q more g l is hit =
       record {
         ready = m .ready;
@@ -298,6 +303,7 @@ module _ (row table touchSets stripSets weights most : List ℕ) (a : Asked) (hi
             (m .holding .chosen .long) (omega (arith, m .early, m .ready .play .timeout)) (omega (arith, m .ready .play .links)) (m .covers)
             hit);
         stand = rw is (stand-more row table a p (m .ready .play) (m .holding) s i (omega (arith, m .few, m .some)) (a .messages) ps (m .stand));
+        away = m .away;
         few = rw is (omega (arith, m .few, m .some));
       }
 
@@ -323,38 +329,39 @@ module _ (row table touchSets stripSets weights most : List ℕ) (a : Asked) (hi
         (omega (arith, g .start)) (omega arith)
         (look-on row table touchSets stripSets weights most a p n (m .ready) (m .holding) (m .some) (m .few) s e i rest g r l found t) next
 
-pub may-play-out : (row table touchSets stripSets weights most : List ℕ) (a : Asked) (hits : Hits) (ps : Standing) (p : Picked) (n : ℕ) →
-    MaySeek row table touchSets stripSets weights most a hits ps p n → MayPlayOut row table a hits ps p
-may-play-out row table touchSets stripSets weights most a hits ps p n m =
+pub may-play-out : (row table touchSets stripSets weights most : List ℕ) (a : Asked) (hits : Hits) (ps : Standing) (left : ℕ) (p : Picked)
+    (n : ℕ) → MaySeek row table touchSets stripSets weights most a hits ps left p n → MayPlayOut row table a hits ps left p
+may-play-out row table touchSets stripSets weights most a hits ps left p n m =
     record {
       play = m .ready .play;
       holding = m .holding;
       stand = m .stand;
+      away = m .away;
       covers = m .covers;
       weights = weights;
       most = most;
       bounds = m .ready .bounds;
     }
 
-module _ (row table touchSets stripSets weights most : List ℕ) (a : Asked) (hits : Hits) (ps : Standing) (p : Picked) (n : ℕ)
-    (m : MaySeek row table touchSets stripSets weights most a hits ps p n) (some : n ≡ 0 → ⊥) where
+module _ (row table touchSets stripSets weights most : List ℕ) (a : Asked) (hits : Hits) (ps : Standing) (left : ℕ) (p : Picked) (n : ℕ)
+    (m : MaySeek row table touchSets stripSets weights most a hits ps left p n) (some : n ≡ 0 → ⊥) where
   positive : 0 < n
   positive = omega (arith, some)
 
-  pub climbs-first : Climbing row a p n (p .slot) (p .link) ps
-  climbs-first = climb-first row table touchSets stripSets weights most a p n (m .ready) (m .holding) positive (m .few) ps (m .stand)
+  pub climbs-first : Climbing row a p n (p .slot) (p .link) ps left
+  climbs-first =
+      climb-first row table touchSets stripSets weights most a p n (m .ready) (m .holding) positive (m .few) ps left (m .stand) (m .away)
 
-  module _ (s e : ℕ) (qs : Standing) (g : Climbing row a p n s e qs) where
-    pub may-weigh-rest : (away : ℕ) (risk : Risk) → s < a .timeout → risk ≡ risksOf hits away → MayWeigh risk (n - 1) most s
-    may-weigh-rest away risk early is =
-        may-weigh hits away most s (n - 1) risk is (omega (arith, m .few)) (m .ready .tops) (omega (arith, m .ready .play .short))
+  module _ (s e : ℕ) (qs : Standing) (still : ℕ) (g : Climbing row a p n s e qs still) where
+    pub may-weigh-rest : (risk : Risk) → s < a .timeout → risk ≡ risksOf hits still → MayWeigh risk (n - 1) most s
+    may-weigh-rest risk early is =
+        may-weigh hits still most s (n - 1) risk is (omega (arith, m .few)) (m .ready .tops) (omega (arith, m .ready .play .short))
 
-    module _ (away : ℕ) (risk : Risk) (rest : Rest) (are : AreAway (qs .positions) (a .messages) away) (is : risk ≡ risksOf hits away)
-        (so : (rest ≡ restOf risk (n - 1) most s) × Fits rest) where
+    module _ (risk : Risk) (rest : Rest) (is : risk ≡ risksOf hits still) (so : (rest ≡ restOf risk (n - 1) most s) × Fits rest) where
       leaves : Leaves row (cutsOf p) most s (n - 1) rest
       leaves =
-          counted row (a .messages) (cutsOf p) s qs (g .stand) (m .ready .play .messages) away are hits (m .covers) most (n - 1) risk rest is
-          (so .0) (so .1)
+          counted row (a .messages) (cutsOf p) s qs (g .stand) (m .ready .play .messages) still (g .away) hits (m .covers) most (n - 1) risk
+          rest is (so .0) (so .1)
 
       pub may-try-all : s < a .timeout → MayTry weights most (a .need) rest s
       may-try-all early =
@@ -370,16 +377,17 @@ module _ (row table touchSets stripSets weights most : List ℕ) (a : Asked) (hi
       pub climbs-stop : (r : Found) (f : ℕ) → r ≡ noFound → f ≡ seek (passes (p .down) weights most (a .need) rest s) (a .links - 0) 0 →
           a .links ≤ f → Sought row a p n r
       climbs-stop r f none =
-          climb-stop row table touchSets stripSets weights most a p n (m .ready) (m .holding) positive (m .few) s e qs g r rest f none leaves
+          climb-stop row table touchSets stripSets weights most a p n (m .ready) (m .holding) positive (m .few) s e qs still g r rest f none
+          leaves
 
       -- from the first link of the slot that may be tried on, if that is a later one
       module _ (f j : ℕ) (found : f ≡ seek (passes (p .down) weights most (a .need) rest s) (a .links - 0) 0) (next : j ≡ e + (f - e)) where
-        here : Climbing row a p n s j qs
+        here : Climbing row a p n s j qs still
         here =
-            climb-skip row table touchSets stripSets weights most a p n (m .ready) (m .holding) positive (m .few) s e qs g rest f j leaves
+            climb-skip row table touchSets stripSets weights most a p n (m .ready) (m .holding) positive (m .few) s e qs still g rest f j leaves
             found next
 
-        pub may-look : s < a .timeout → MaySeekIn row table touchSets stripSets weights most a hits qs p n s j rest
+        pub may-look : s < a .timeout → MaySeekIn row table touchSets stripSets weights most a hits qs still p n s j rest
         may-look early =
             record {
               ready = m .ready;
@@ -387,6 +395,7 @@ module _ (row table touchSets stripSets weights most : List ℕ) (a : Asked) (hi
               covers = m .covers;
               leaves = leaves;
               stand = g .stand;
+              away = g .away;
               few = m .few;
               some = positive;
               early = early;
@@ -397,13 +406,14 @@ module _ (row table touchSets stripSets weights most : List ℕ) (a : Asked) (hi
         module _ (r : Found) (told : SoughtIn row a p n s j r) where
           pub climbs-some : r .found ≡ true → Sought row a p n r
           climbs-some =
-              climb-some row table touchSets stripSets weights most a p n (m .ready) (m .holding) positive (m .few) s j qs here r told
+              climb-some row table touchSets stripSets weights most a p n (m .ready) (m .holding) positive (m .few) s j qs still here r told
 
-          pub climbs-on : (rs : Standing) → r .found ≡ false → s < a .timeout → StandAt row (a .messages) (cutsOf p) (qs .time .0 + 1) rs →
-              Climbing row a p n (s + 1) 0 rs
-          climbs-on rs t early stand =
-              climb-on row table touchSets stripSets weights most a p n (m .ready) (m .holding) positive (m .few) s j qs here r told rs t early
-              (rw (g .stand .time) at stand)
+          pub climbs-on : (rs : Standing) (then : ℕ) → r .found ≡ false → s < a .timeout →
+              StandAt row (a .messages) (cutsOf p) (qs .time .0 + 1) rs → AreAway (rs .positions) (a .messages) then →
+              Climbing row a p n (s + 1) 0 rs then
+          climbs-on rs then t early stand =
+              climb-on row table touchSets stripSets weights most a p n (m .ready) (m .holding) positive (m .few) s j qs still here r told rs
+              then t early (rw (g .stand .time) at stand)
 
     pub may-advance : s < a .timeout → MayAdvance row table a qs p
     may-advance early =
@@ -416,4 +426,4 @@ module _ (row table touchSets stripSets weights most : List ℕ) (a : Asked) (hi
         }
 
     pub climbs-over : (r : Found) → r ≡ noFound → a .timeout ≤ s → Sought row a p n r
-    climbs-over = climb-over row table touchSets stripSets weights most a p n (m .ready) (m .holding) positive (m .few) s e qs g
+    climbs-over = climb-over row table touchSets stripSets weights most a p n (m .ready) (m .holding) positive (m .few) s e qs still g

@@ -24,8 +24,8 @@ use Rattle.search.specs.declared.Picked.{Picked}
 use Rattle.search.specs.declared.Hits.{Hits}
 use Rattle.search.specs.declared.Risk.{Risk}
 use Rattle.search.specs.declared.Found.{Found}
-use Rattle.search.specs.Hunt.{cutsOf, Seeks, noFound, Playable, Holding, StandAt, MayPlayOut, MayAdvance, Sought}
-use Rattle.search.specs.Risks.{AreAway, risksOf}
+use Rattle.search.specs.Hunt.{cutsOf, Seeks, noFound, Playable, Holding, StandAt, AreAway, MayPlayOut, MayAdvance, Sought}
+use Rattle.search.specs.Risks.{risksOf}
 use Rattle.search.proofs.Risks.{lost-counted}
 use Rattle.search.proofs.Telling.{tells-none, tells-some}
 
@@ -79,17 +79,19 @@ module _ (row table : List ℕ) (a : Asked) (p : Picked) (y : Playable row table
       (rw same (itself (planOf row) (Seeks row a) (cutsOf p) (h .chosen .good) (omega (arith, ltb-true n (a .least) (sym t ∙ so)))))
       (i ∙ e ∙ ap (arrivals (planOf row)) (sym same)) (λ j l. rw m (h .past j (omega arith)))
 
--- the list picked stands at time i
-pub record Ending (row : List ℕ) (a : Asked) (p : Picked) (i : ℕ) (qs : Standing) : Type 0 where
+-- the list picked stands at time i, and those of a set are still away
+pub record Ending (row : List ℕ) (a : Asked) (p : Picked) (i : ℕ) (qs : Standing) (still : ℕ) : Type 0 where
   pub stand : StandAt row (a .messages) (cutsOf p) i qs
+  pub away : AreAway (qs .positions) (a .messages) still
   pub from : p .slot ≤ i
   pub early : i ≤ a .timeout
 
-module _ (row table : List ℕ) (a : Asked) (hits : Hits) (ps : Standing) (p : Picked) (m : MayPlayOut row table a hits ps p) where
-  pub ends-first : Ending row a p (p .slot) ps
-  ends-first = record { stand = m .stand; from = omega arith; early = m .holding .slot }
+module _ (row table : List ℕ) (a : Asked) (hits : Hits) (ps : Standing) (left : ℕ) (p : Picked)
+    (m : MayPlayOut row table a hits ps left p) where
+  pub ends-first : Ending row a p (p .slot) ps left
+  ends-first = record { stand = m .stand; away = m .away; from = omega arith; early = m .holding .slot }
 
-  module _ (i : ℕ) (qs : Standing) (g : Ending row a p i qs) where
+  module _ (i : ℕ) (qs : Standing) (still : ℕ) (g : Ending row a p i qs still) where
     pub ends-may : i < a .timeout → MayAdvance row table a qs p
     ends-may l =
         record {
@@ -100,14 +102,16 @@ module _ (row table : List ℕ) (a : Asked) (hits : Hits) (ps : Standing) (p : P
           early = rw (g .stand .time) l;
         }
 
-    pub ends-more : (rs : Standing) → i < a .timeout → StandAt row (a .messages) (cutsOf p) (qs .time .0 + 1) rs → Ending row a p (i + 1) rs
-    ends-more rs l s = record { stand = rw (g .stand .time) at s; from = omega (arith, g .from); early = omega arith }
+    pub ends-more : (rs : Standing) (then : ℕ) → i < a .timeout → StandAt row (a .messages) (cutsOf p) (qs .time .0 + 1) rs →
+        AreAway (rs .positions) (a .messages) then → Ending row a p (i + 1) rs then
+    ends-more rs then l s are =
+        record { stand = rw (g .stand .time) at s; away = are; from = omega (arith, g .from); early = omega arith }
 
     -- too few can be lost
-    pub ends-light : (r : Found) (away : ℕ) (risk : Risk) (b : Bool) → r ≡ noFound → AreAway (qs .positions) (a .messages) away →
-        risk ≡ risksOf hits away → b ≡ ltb (risk .lost) (a .need) → b ≡ true → Sought row a p 0 r
-    ends-light r away risk b is are count t so =
-        let few = lost-counted row (a .messages) (cutsOf p) i qs (g .stand) (m .play .messages) away are hits (m .covers) in
+    pub ends-light : (r : Found) (risk : Risk) (b : Bool) → r ≡ noFound → risk ≡ risksOf hits still → b ≡ ltb (risk .lost) (a .need) →
+        b ≡ true → Sought row a p 0 r
+    ends-light r risk b is count t so =
+        let few = lost-counted row (a .messages) (cutsOf p) i qs (g .stand) (m .play .messages) still (g .away) hits (m .covers) in
         let light = ltb-true (risk .lost) (a .need) (sym t ∙ so) in
         tells-none row _ _ (p .count + 0) r is
         (nothing-more (planOf row) (Seeks row a) (cutsOf p)

@@ -33,8 +33,8 @@ use Rattle.order.proofs.Parts.{pairs-both}
 use Rattle.search.specs.declared.Hits.{Hits}
 use Rattle.search.specs.declared.Risk.{Risk}
 use Rattle.search.specs.declared.Rest.{Rest}
-use Rattle.search.specs.Hunt.{noHits, restOf, Fits, Hittable, StandAt, Covers, Leaves}
-use Rattle.search.specs.Risks.{AreAway, countIn, risksOf, IsHit, MayWeigh}
+use Rattle.search.specs.Hunt.{noHits, restOf, Fits, Hittable, StandAt, AreAway, Covers, Leaves}
+use Rattle.search.specs.Risks.{countIn, risksOf, IsHit, MayWeigh}
 
 -- zeros, and zeros past them
 pub noughts : (k w : ℕ) → _≡_ {A = ℕ} (getD {A = ℕ} (replicate {A = ℕ} k 0) w 0) 0

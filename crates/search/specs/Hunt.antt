@@ -12,8 +12,9 @@ use Rattle.scope.specs.Verdict.{FirstFailing}
 use Rattle.scope.specs.Cycle.{orderOf, tableOf, start, positions, arrivals}
 use Rattle.cuts.specs.Down.{isDown}
 use Rattle.table.specs.Table.{entryAt}
+use Rattle.step.specs.declared.Position.{Position}
 use Rattle.step.specs.declared.Standing.{Standing}
-use Rattle.step.specs.Stand.{Become}
+use Rattle.step.specs.Stand.{home, Become}
 use Rattle.sets.specs.Sets.{has}
 use Rattle.order.specs.Search.{code, Chosen, NoneOf, FirstOf, NoneIn, FirstFrom}
 use Rattle.bound.specs.Bounds.{Fails, weightIn, topIn, frontIn, harmedAndBared, Bounds}
@@ -144,6 +145,10 @@ pub record StandAt (row : List ℕ) (n : ℕ) (cuts : List ℕ) (s : ℕ) (ps : 
   pub next : Become row n (positions (orderOf (planOf row)) (isCut (planOf row) cuts) (tableOf (planOf row)) 0 s (start (planOf row)))
       (ps .positions)
 
+-- the set of the first n messages that are not at their targets
+abbrev pub AreAway : List Position → ℕ → ℕ → Type 0
+AreAway ps n set = (m : ℕ) → has set m ≡ (ltb m n && not (eqb (getD ps m home .left) 0))
+
 -- nobody is hit by no pair
 abbrev pub noHits : Hits
 noHits = record { touched = 0; stripped = 0 }
@@ -164,10 +169,11 @@ pub record Leaves (row cuts most : List ℕ) (s k : ℕ) (rest : Rest) : Type 0 
   pub fits : Fits rest
 
 -- a list may be played to the end, and one slot on
-pub record MayPlayOut (row table : List ℕ) (a : Asked) (hits : Hits) (ps : Standing) (p : Picked) : Type 0 where
+pub record MayPlayOut (row table : List ℕ) (a : Asked) (hits : Hits) (ps : Standing) (left : ℕ) (p : Picked) : Type 0 where
   pub play : Playable row table a
   pub holding : Holding row a p
   pub stand : StandAt row (a .messages) (cutsOf p) (p .slot) ps
+  pub away : AreAway (ps .positions) (a .messages) left
   pub covers : Covers row (cutsOf p) hits
   pub weights : List ℕ
   pub most : List ℕ
@@ -181,23 +187,24 @@ pub record MayAdvance (row table : List ℕ) (a : Asked) (ps : Standing) (p : Pi
   pub early : ps .time .0 < a .timeout
 
 -- n pairs more may be sought
-pub record MaySeek (row table touchSets stripSets weights most : List ℕ) (a : Asked) (hits : Hits) (ps : Standing) (p : Picked)
-    (n : ℕ) : Type 0 where
+pub record MaySeek (row table touchSets stripSets weights most : List ℕ) (a : Asked) (hits : Hits) (ps : Standing) (left : ℕ)
+    (p : Picked) (n : ℕ) : Type 0 where
   pub ready : Ready row table touchSets stripSets weights most a
   pub holding : Holding row a p
   pub covers : Covers row (cutsOf p) hits
   pub stand : StandAt row (a .messages) (cutsOf p) (p .slot) ps
+  pub away : AreAway (ps .positions) (a .messages) left
   pub few : p .count + n ≤ mostCuts
 
 -- in one slot, from a link on, where so much can be lost besides the pair of that slot
-pub record MaySeekIn (row table touchSets stripSets weights most : List ℕ) (a : Asked) (hits : Hits) (ps : Standing) (p : Picked) (n s e : ℕ)
-    (rest : Rest) :
-    Type 0 where
+pub record MaySeekIn (row table touchSets stripSets weights most : List ℕ) (a : Asked) (hits : Hits) (ps : Standing) (left : ℕ)
+    (p : Picked) (n s e : ℕ) (rest : Rest) : Type 0 where
   pub ready : Ready row table touchSets stripSets weights most a
   pub holding : Holding row a p
   pub covers : Covers row (cutsOf p) hits
   pub leaves : Leaves row (cutsOf p) most s (n - 1) rest
   pub stand : StandAt row (a .messages) (cutsOf p) s ps
+  pub away : AreAway (ps .positions) (a .messages) left
   pub few : p .count + n ≤ mostCuts
   pub some : 0 < n
   pub early : s < a .timeout

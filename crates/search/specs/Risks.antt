@@ -1,13 +1,10 @@
 -- How many messages can still be lost, as the code counts it: by sets of messages; and what the counts may be asked.
 use Prim.Native.Nat.{ℕ, _≤_, _<_}
 use mathlib.Core.Path.{_≡_}
-use mathlib.Core.Bool.{Bool, not, _&&_}
+use mathlib.Core.Bool.{Bool, _&&_}
 use mathlib.Core.List.{List}
-use lib.ListN.{length, getD}
-use lib.Dec.{ltb, eqb}
+use lib.ListN.{length}
 use Rattle.scope.specs.Limits.{mostCuts, mostSlots, mostLinks, mostMessages, planeSize, weightsSize, topsSize}
-use Rattle.step.specs.declared.Position.{Position}
-use Rattle.step.specs.Stand.{home}
 use Rattle.sets.specs.Sums.{sumOf, oneIf}
 use Rattle.sets.specs.Sets.{has, IsEither}
 use Rattle.bound.specs.Sets.{setIn}
@@ -15,10 +12,6 @@ use Rattle.search.specs.declared.Hits.{Hits}
 use Rattle.search.specs.declared.Risk.{Risk}
 use Rattle.search.specs.declared.Rest.{Rest}
 use Rattle.search.specs.Hunt.{Fits}
-
--- the set of the first n messages that are not at their targets
-abbrev pub AreAway : List Position → ℕ → ℕ → Type 0
-AreAway ps n set = (m : ℕ) → has set m ≡ (ltb m n && not (eqb (getD ps m home .left) 0))
 
 -- how many messages of a kind are in a set
 abbrev pub countIn : ℕ → (ℕ → Bool) → ℕ

@@ -16,9 +16,9 @@ ghost use lib.Dec.{ltb};
 ghost use Rattle.scope.specs.Limits.{mostCuts, mostSlots, mostLinks, mostMessages};
 ghost use Rattle.scope.specs.Lowest.{seek};
 ghost use Rattle.search.specs.Hunt.{cutsOf, withPair, noPair, noHits, restOf, stripsWith, lossWith, tooLight, passes, Fits, noFound};
-ghost use Rattle.search.specs.Hunt.{noHunted, StandAt};
+ghost use Rattle.search.specs.Hunt.{noHunted, StandAt, AreAway};
 ghost use Rattle.search.specs.Hunt.{MayPlayOut, MayAdvance, MaySeek, MaySeekIn, Sought, SoughtIn, MayHunt, Hunts};
-ghost use Rattle.search.specs.Risks.{AreAway, risksOf, MayHit, IsHit, MayWeigh, MayStrip, MayTry};
+ghost use Rattle.search.specs.Risks.{risksOf, MayHit, IsHit, MayWeigh, MayStrip, MayTry};
 
 // What is asked of a plan: its timeout, links and messages, the least number of arrivals, and what a list must weigh to leave fewer.
 pub struct Asked {
@@ -349,20 +349,30 @@ fn advance(row: &[u16], table: &[u8], a: Asked, standing: Standing, p: Picked) -
     standing.after(i, a.messages, row, table, &down)
 }
 
-// The list picked, played from its last pair on as long as enough messages can be lost.
-fn play_out(row: &[u16], table: &[u8], a: Asked, hits: Hits, ps: Standing, p: Picked) -> Found
-    requires { ⌜ MayPlayOut (now row) (now table) a hits ps p ⌝ }
+// The list picked, played from its last pair on as long as enough messages can be lost; those of `left` are away where it begins.
+fn play_out(
+    row: &[u16],
+    table: &[u8],
+    a: Asked,
+    hits: Hits,
+    ps: Standing,
+    left: u32,
+    p: Picked,
+) -> Found
+    requires { ⌜ MayPlayOut (now row) (now table) a hits ps left p ⌝ }
     ensures { λ r. ⌜ Sought (now (row .entry)) a p 0 r ⌝ }
 {
     let mut qs = ps;
+    let mut still = left;
     let mut i = p.slot;
     while i < a.timeout {
-        let risk = at_risk(hits, away(qs, a.messages));
+        let risk = at_risk(hits, still);
         if too_few(a.need, risk.lost) {
             return nothing();
         }
         let rs = advance(row, table, a, qs, p);
         qs = rs;
+        still = away(qs, a.messages);
         i += 1;
     }
     let arrivals = cycle::count_home(qs, a.messages);
@@ -389,13 +399,14 @@ fn in_slot(
     a: Asked,
     hits: Hits,
     ps: Standing,
+    left: u32,
     p: Picked,
     n: usize,
     s: usize,
     e: usize,
     rest: Rest,
 ) -> Found
-    requires { ⌜ MaySeekIn (now row) (now table) (now touches) (now strips) (now weights) (now most) a hits ps p n s e rest ⌝ }
+    requires { ⌜ MaySeekIn (now row) (now table) (now touches) (now strips) (now weights) (now most) a hits ps left p n s e rest ⌝ }
     ensures { λ r. ⌜ SoughtIn (now (row .entry)) a p n s e r ⌝ }
 {
     let down = p.down;
@@ -414,6 +425,7 @@ fn in_slot(
             a,
             more,
             ps,
+            left,
             q,
             n - 1,
         );
@@ -425,8 +437,8 @@ fn in_slot(
     nothing()
 }
 
-// All lists with n pairs more, where those picked touch and strip the messages of `hits`. Where no link of a slot may be tried, none of
-// a later slot may; and none before the first that may be is looked at again.
+// All lists with n pairs more, where those picked touch and strip the messages of `hits`, and those of `left` are away. Where no link of a
+// slot may be tried, none of a later slot may; and none before the first that may be is looked at again.
 fn level(
     row: &[u16],
     table: &[u8],
@@ -437,21 +449,23 @@ fn level(
     a: Asked,
     hits: Hits,
     ps: Standing,
+    left: u32,
     p: Picked,
     n: usize,
 ) -> Found
-    requires { ⌜ MaySeek (now row) (now table) (now touches) (now strips) (now weights) (now most) a hits ps p n ⌝ }
+    requires { ⌜ MaySeek (now row) (now table) (now touches) (now strips) (now weights) (now most) a hits ps left p n ⌝ }
     ensures { λ r. ⌜ Sought (now (row .entry)) a p n r ⌝ }
 {
     if n == 0 {
-        return play_out(row, table, a, hits, ps, p);
+        return play_out(row, table, a, hits, ps, left, p);
     }
     let down = p.down;
     let mut qs = ps;
+    let mut still = left;
     let mut s = p.slot;
     let mut e = p.link;
     while s < a.timeout {
-        let risk = at_risk(hits, away(qs, a.messages));
+        let risk = at_risk(hits, still);
         let rest = losses(risk, n - 1, most, s);
         let f = next_link(&down, weights, most, a.need, rest, s, 0, a.links);
         if a.links <= f {
@@ -468,6 +482,7 @@ fn level(
             a,
             hits,
             qs,
+            still,
             p,
             n,
             s,
@@ -479,6 +494,7 @@ fn level(
         }
         let rs = advance(row, table, a, qs, p);
         qs = rs;
+        still = away(qs, a.messages);
         s += 1;
         e = 0;
     }
@@ -503,6 +519,7 @@ pub fn first_list(
 {
     let p = no_pair();
     let hits = no_hits();
+    let left = away(ps, a.messages);
     let mut n = low;
     while n <= k {
         let r = level(
@@ -515,6 +532,7 @@ pub fn first_list(
             a,
             hits,
             ps,
+            left,
             p,
             n,
         );

@@ -29,10 +29,10 @@ use Rattle.search.proofs.+in_slot+level.{statement}
 use Rattle.search.proofs.+in_slot+level.Tie.{close}
 
 abbrev μ-in-slot : Measures 6 in-slot-kinds.ps ℕ
-μ-in-slot κs a = 2 * a .1 .1 .1 .1 .1 .1 .1 .1 .1 .1 .0
+μ-in-slot κs a = 2 * a .1 .1 .1 .1 .1 .1 .1 .1 .1 .1 .1 .0
 
 abbrev μ-level : Measures 6 level-kinds.ps ℕ
-μ-level κs a = 2 * a .1 .1 .1 .1 .1 .1 .1 .1 .1 .1 .0 + 1
+μ-level κs a = 2 * a .1 .1 .1 .1 .1 .1 .1 .1 .1 .1 .1 .0 + 1
 
 abbrev in-slot-at : ℕ → In 6 in-slot-kinds.ps
 in-slot-at t = and 6 in-slot-kinds.ps (is 6 in-slot-kinds.ps μ-in-slot t) in-slot.Pre
@@ -65,8 +65,6 @@ abbrev level-calls : ℕ → level-lts.Claims
 level-calls t = (
   play-out-reads.Asked,
   play-out-reads.Learnt,
-  away-reads.Asked,
-  away-reads.Learnt,
   at-risk-reads.Asked,
   at-risk-reads.Learnt,
   losses-reads.Asked,
@@ -81,27 +79,29 @@ level-calls t = (
   in-slot.Post,
   advance-reads.Asked,
   advance-reads.Learnt,
+  away-reads.Asked,
+  away-reads.Learnt,
 )
 
 abbrev in-inv : in-slot-lts.InvT-loop
-in-inv row table touchSets stripSets weights most a hits ps p n s e rest down links i₀ i = Looking row weights most a p n s e i rest
+in-inv row table touchSets stripSets weights most a hits ps left p n s e rest down links i₀ i = Looking row weights most a p n s e i rest
 
 abbrev in-less : in-slot-lts.MeasureT-loop
-in-less row table touchSets stripSets weights most a hits ps p n s e rest down links i₀ i = links - i
+in-less row table touchSets stripSets weights most a hits ps left p n s e rest down links i₀ i = links - i
 
 in-slot-slice-aggregate-next-link : (t : ℕ) → in-slot-lts.Need-slice-aggregate-next-link (in-calls t) (in-slot-at t) in-slot.Post in-inv in-less
 in-slot-slice-aggregate-next-link t c = search needs
 
 in-slot-next-link-requires : (t : ℕ) → in-slot-lts.Need-next-link-requires (in-calls t) (in-slot-at t) in-slot.Post in-inv in-less
 in-slot-next-link-requires t c κs = (
-  may-try _ _ _ _ _ _ _ _ _ _ _ _ _ _ (c .before .before .before .before .before .before .before .before .pre .1),
+  may-try _ _ _ _ _ _ _ _ _ _ _ _ _ _ _ (c .before .before .before .before .before .before .before .before .pre .1),
   c .before .before .before .before .before .before .before .before .pre .1 .link,
   c .before .before .before .before .before .before .before .before .pre .1 .ready .play .few,
 )
 
 in-slot-loop-holds : (t : ℕ) → in-slot-lts.Need-loop-holds (in-calls t) (in-slot-at t) in-slot.Post in-inv in-less
 in-slot-loop-holds t c =
-    looks-first _ _ _ _ _ _ _ _ _ _ _ _ _ _ (c .before .before .before .before .before .before .before .before .before .pre .1) _
+    looks-first _ _ _ _ _ _ _ _ _ _ _ _ _ _ _ (c .before .before .before .before .before .before .before .before .before .pre .1) _
     (c .next-link .ensures)
 
 in-slot-pick-requires : (t : ℕ) → in-slot-lts.Need-pick-requires (in-calls t) (in-slot-at t) in-slot.Post in-inv in-less
@@ -118,7 +118,7 @@ in-slot-pick-requires t c κs =
 
 in-slot-hit-requires : (t : ℕ) → in-slot-lts.Need-hit-requires (in-calls t) (in-slot-at t) in-slot.Post in-inv in-less
 in-slot-hit-requires t c κs =
-    may-hit _ _ _ _ _ _ _ _ _ _ _ _ _ _
+    may-hit _ _ _ _ _ _ _ _ _ _ _ _ _ _ _
     (c .before .before .before .before .before .before .before .before .before .before .before .before .pre .1) _ (c .before .loop-test .taken)
 
 in-slot-sub-level : (t : ℕ) → in-slot-lts.Need-sub-level (in-calls t) (in-slot-at t) in-slot.Post in-inv in-less
@@ -132,14 +132,14 @@ in-slot-level-requires t c κs = (
     c .before .before .before .before .before .before .before .before .before .before .before .before .before .pre .0,
     c .before .before .before .before .before .before .before .before .before .before .before .before .before .pre .1 .some,
   ),
-  may-go-on _ _ _ _ _ _ _ _ _ _ _ _ _ _
+  may-go-on _ _ _ _ _ _ _ _ _ _ _ _ _ _ _
       (c .before .before .before .before .before .before .before .before .before .before .before .before .before .pre .1) _ _ _
       (c .before .before .before .loop .inv) (c .before .before .loop-test .taken) (c .before .pick .ensures) (c .hit .ensures),
 )
 
 in-slot-returns : (t : ℕ) → in-slot-lts.Need-returns (in-calls t) (in-slot-at t) in-slot.Post in-inv in-less
 in-slot-returns t c =
-    looks-some _ _ _ _ _ _ _ _ _ _ _ _ _ _
+    looks-some _ _ _ _ _ _ _ _ _ _ _ _ _ _ _
     (c .before .before .before .before .before .before .before .before .before .before .before .before .before .before .before .pre .1) _ _ _
     (c .before .before .before .before .before .loop .inv) (c .before .before .before .before .loop-test .taken)
     (c .before .before .before .pick .ensures) (c .before .level .ensures) (c .if1 .taken)
@@ -161,7 +161,7 @@ in-slot-add-next-link t c =
 
 in-slot-next-link-requires-2 : (t : ℕ) → in-slot-lts.Need-next-link-requires-2 (in-calls t) (in-slot-at t) in-slot.Post in-inv in-less
 in-slot-next-link-requires-2 t c κs = (
-  may-try _ _ _ _ _ _ _ _ _ _ _ _ _ _
+  may-try _ _ _ _ _ _ _ _ _ _ _ _ _ _ _
       (c .before .before .before .before .before .before .before .before .before .before .before .before .before .before .before .before .pre
       .1),
   omega (arith, c .before .before .before .before .before .loop-test .taken),
@@ -175,7 +175,7 @@ in-slot-loop-less t c =
 
 in-slot-loop-again : (t : ℕ) → in-slot-lts.Need-loop-again (in-calls t) (in-slot-at t) in-slot.Post in-inv in-less
 in-slot-loop-again t c =
-    looks-on _ _ _ _ _ _ _ _ _ _ _ _ _ _
+    looks-on _ _ _ _ _ _ _ _ _ _ _ _ _ _ _
     (c .before .before .before .before .before .before .before .before .before .before .before .before .before .before .before .before .before
     .pre .1) _ _ _ (c .before .before .before .before .before .before .before .loop .inv)
     (c .before .before .before .before .before .before .loop-test .taken) (c .before .before .before .before .before .pick .ensures)
@@ -194,55 +194,49 @@ in-slot-returns-2 t c =
     (c .before .before .loop .inv) _ (c .before .loop-test .left) (c .nothing .ensures)
 
 abbrev level-inv : level-lts.InvT-loop
-level-inv row table touchSets stripSets weights most a hits p n down qs₀ s₀ e₀ qs s e = Climbing row a p n s e qs
+level-inv row table touchSets stripSets weights most a hits left p n down qs₀ still₀ s₀ e₀ qs still s e = Climbing row a p n s e qs still
 
 abbrev level-less : level-lts.MeasureT-loop
-level-less row table touchSets stripSets weights most a hits p n down qs₀ s₀ e₀ qs s e = a .timeout - s
+level-less row table touchSets stripSets weights most a hits left p n down qs₀ still₀ s₀ e₀ qs still s e = a .timeout - s
 
 level-play-out-requires : (t : ℕ) → level-lts.Need-play-out-requires (level-calls t) (level-at t) level.Post level-inv level-less
-level-play-out-requires t c κs = may-play-out _ _ _ _ _ _ _ _ _ _ _ (c .before .before .before .before .before .before .before .pre .1)
+level-play-out-requires t c κs = may-play-out _ _ _ _ _ _ _ _ _ _ _ _ (c .before .before .before .before .before .before .before .pre .1)
 
 level-returns : (t : ℕ) → level-lts.Need-returns (level-calls t) (level-at t) level.Post level-inv level-less
 level-returns t c = rw (c .before .if1 .taken) (c .play-out .ensures)
 
 level-loop-holds : (t : ℕ) → level-lts.Need-loop-holds (level-calls t) (level-at t) level.Post level-inv level-less
 level-loop-holds t c =
-    climbs-first _ _ _ _ _ _ _ _ _ _ _ (c .before .before .before .before .before .before .before .before .pre .1) (c .before .if1 .left)
-
-level-away-requires : (t : ℕ) → level-lts.Need-away-requires (level-calls t) (level-at t) level.Post level-inv level-less
-level-away-requires t c κs = c .before .before .loop .inv .stand .next .stand .few
+    climbs-first _ _ _ _ _ _ _ _ _ _ _ _ (c .before .before .before .before .before .before .before .before .pre .1) (c .before .if1 .left)
 
 level-at-risk-requires : (t : ℕ) → level-lts.Need-at-risk-requires (level-calls t) (level-at t) level.Post level-inv level-less
 level-at-risk-requires t c κs = search needs
 
 level-sub-losses : (t : ℕ) → level-lts.Need-sub-losses (level-calls t) (level-at t) level.Post level-inv level-less
-level-sub-losses t c = omega (arith, c .before .before .before .before .before .before .if1 .left)
+level-sub-losses t c = omega (arith, c .before .before .before .before .before .if1 .left)
 
 level-losses-requires : (t : ℕ) → level-lts.Need-losses-requires (level-calls t) (level-at t) level.Post level-inv level-less
 level-losses-requires t c κs =
-    may-weigh-rest _ _ _ _ _ _ _ _ _ _ _
-    (c .before .before .before .before .before .before .before .before .before .before .before .before .before .pre .1)
-    (c .before .before .before .before .before .before .if1 .left) _ _ _ (c .before .before .before .before .loop .inv) _ _
-    (c .before .before .if2 .taken)
+    may-weigh-rest _ _ _ _ _ _ _ _ _ _ _ _
+    (c .before .before .before .before .before .before .before .before .before .before .before .before .pre .1)
+    (c .before .before .before .before .before .if1 .left) _ _ _ _ (c .before .before .before .loop .inv) _ (c .before .if2 .taken)
     (c .at-risk .ensures)
 
 level-slice-aggregate-next-link : (t : ℕ) →
     level-lts.Need-slice-aggregate-next-link (level-calls t) (level-at t) level.Post level-inv level-less
 level-slice-aggregate-next-link t c =
-    sym (c .before .before .before .before .before .before .before .before .before .before .before .before .before .before
-    .before .pre .1 .holding .size)
+    sym
+    (c .before .before .before .before .before .before .before .before .before .before .before .before .before .before .pre .1 .holding .size)
 
 level-next-link-requires : (t : ℕ) → level-lts.Need-next-link-requires (level-calls t) (level-at t) level.Post level-inv level-less
 level-next-link-requires t c κs = (
-  may-try-all _ _ _ _ _ _ _ _ _ _ _
-      (c .before .before .before .before .before .before .before .before .before .before .before .before .before .before .before .pre .1)
-      (c .before .before .before .before .before .before .before .before .if1 .left) _ _ _
-      (c .before .before .before .before .before .before .loop .inv) _ _ _
-      (c .before .before .before .away .ensures)
-      (c .before .before .at-risk .ensures) (c .before .losses .ensures) (c .before .before .before .before .if2 .taken),
+  may-try-all _ _ _ _ _ _ _ _ _ _ _ _
+      (c .before .before .before .before .before .before .before .before .before .before .before .before .before .before .pre .1)
+      (c .before .before .before .before .before .before .before .if1 .left) _ _ _ _
+      (c .before .before .before .before .before .loop .inv) _ _
+      (c .before .before .at-risk .ensures) (c .before .losses .ensures) (c .before .before .before .if2 .taken),
   omega arith,
-  c .before .before .before .before .before .before .before .before .before .before .before .before .before .before
-      .before .pre .1 .ready .play .few,
+  c .before .before .before .before .before .before .before .before .before .before .before .before .before .before .pre .1 .ready .play .few,
 )
 
 level-nothing-requires : (t : ℕ) → level-lts.Need-nothing-requires (level-calls t) (level-at t) level.Post level-inv level-less
@@ -250,12 +244,10 @@ level-nothing-requires t c κs = search needs
 
 level-returns-2 : (t : ℕ) → level-lts.Need-returns-2 (level-calls t) (level-at t) level.Post level-inv level-less
 level-returns-2 t c =
-    climbs-stop _ _ _ _ _ _ _ _ _ _ _
-    (c .before .before .before .before .before .before .before .before .before .before .before .before .before .before .before .before
-    .before .before
-    .before .pre .1) (c .before .before .before .before .before .before .before .before .before .before .before .before .if1 .left) _ _ _
-    (c .before .before .before .before .before .before .before .before .before .before .loop .inv) _ _ _
-    (c .before .before .before .before .before .before .before .away .ensures)
+    climbs-stop _ _ _ _ _ _ _ _ _ _ _ _
+    (c .before .before .before .before .before .before .before .before .before .before .before .before .before .before .before .before .before
+    .before .pre .1) (c .before .before .before .before .before .before .before .before .before .before .before .if1 .left) _ _ _ _
+    (c .before .before .before .before .before .before .before .before .before .loop .inv) _ _
     (c .before .before .before .before .before .before .at-risk .ensures) (c .before .before .before .before .before .losses .ensures) _ _
     (c .nothing .ensures) (c .before .before .before .next-link .ensures) (c .before .if3 .taken)
 
@@ -266,28 +258,25 @@ level-in-slot-requires : (t : ℕ) → level-lts.Need-in-slot-requires (level-ca
 level-in-slot-requires t c κs = (
   omega (
     arith,
-    c .before .before .before .before .before .before .before .before .before .before .before .before .before .before .before .before
-        .before .before .before .pre .0,
+    c .before .before .before .before .before .before .before .before .before .before .before .before .before .before .before .before .before
+        .before .pre .0,
   ),
-  may-look _ _ _ _ _ _ _ _ _ _ _
-      (c .before .before .before .before .before .before .before .before .before .before .before .before .before .before .before .before
-      .before .before
-      .before .pre .1) (c .before .before .before .before .before .before .before .before .before .before .before .before .if1 .left) _ _ _
-      (c .before .before .before .before .before .before .before .before .before .before .loop .inv) _ _ _
-      (c .before .before .before .before .before .before .before .away .ensures)
+  may-look _ _ _ _ _ _ _ _ _ _ _ _
+      (c .before .before .before .before .before .before .before .before .before .before .before .before .before .before .before .before .before
+      .before .pre .1) (c .before .before .before .before .before .before .before .before .before .before .before .if1 .left) _ _ _ _
+      (c .before .before .before .before .before .before .before .before .before .loop .inv) _ _
       (c .before .before .before .before .before .before .at-risk .ensures) (c .before .before .before .before .before .losses .ensures) _ _
       (c .before .before .before .next-link .ensures) (c .later .ensures)
-      (c .before .before .before .before .before .before .before .before .if2 .taken),
+      (c .before .before .before .before .before .before .before .if2 .taken),
 )
 
 level-returns-3 : (t : ℕ) → level-lts.Need-returns-3 (level-calls t) (level-at t) level.Post level-inv level-less
 level-returns-3 t c =
-    climbs-some _ _ _ _ _ _ _ _ _ _ _
-    (c .before .before .before .before .before .before .before .before .before .before .before .before .before .before .before .before
-    .before .before .before .before .before .pre .1)
-    (c .before .before .before .before .before .before .before .before .before .before .before .before .before .before .if1 .left) _ _ _
-    (c .before .before .before .before .before .before .before .before .before .before .before .before .loop .inv) _ _ _
-    (c .before .before .before .before .before .before .before .before .before .away .ensures)
+    climbs-some _ _ _ _ _ _ _ _ _ _ _ _
+    (c .before .before .before .before .before .before .before .before .before .before .before .before .before .before .before .before .before
+    .before .before .before .pre .1)
+    (c .before .before .before .before .before .before .before .before .before .before .before .before .before .if1 .left) _ _ _ _
+    (c .before .before .before .before .before .before .before .before .before .before .before .loop .inv) _ _
     (c .before .before .before .before .before .before .before .before .at-risk .ensures)
     (c .before .before .before .before .before .before .before .losses .ensures) _ _
     (c .before .before .before .before .before .next-link .ensures) (c .before .before .later .ensures) _ (c .before .in-slot .ensures)
@@ -295,12 +284,15 @@ level-returns-3 t c =
 
 level-advance-requires : (t : ℕ) → level-lts.Need-advance-requires (level-calls t) (level-at t) level.Post level-inv level-less
 level-advance-requires t c κs =
-    may-advance _ _ _ _ _ _ _ _ _ _ _
-    (c .before .before .before .before .before .before .before .before .before .before .before .before .before .before .before .before
-    .before .before .before .before .before .pre .1)
-    (c .before .before .before .before .before .before .before .before .before .before .before .before .before .before .if1 .left) _ _ _
-    (c .before .before .before .before .before .before .before .before .before .before .before .before .loop .inv)
-    (c .before .before .before .before .before .before .before .before .before .before .if2 .taken)
+    may-advance _ _ _ _ _ _ _ _ _ _ _ _
+    (c .before .before .before .before .before .before .before .before .before .before .before .before .before .before .before .before .before
+    .before .before .before .pre .1)
+    (c .before .before .before .before .before .before .before .before .before .before .before .before .before .if1 .left) _ _ _ _
+    (c .before .before .before .before .before .before .before .before .before .before .before .loop .inv)
+    (c .before .before .before .before .before .before .before .before .before .if2 .taken)
+
+level-away-requires : (t : ℕ) → level-lts.Need-away-requires (level-calls t) (level-at t) level.Post level-inv level-less
+level-away-requires t c κs = c .advance .ensures .next .stand .few
 
 level-add-s : (t : ℕ) → level-lts.Need-add-s (level-calls t) (level-at t) level.Post level-inv level-less
 level-add-s t c =
@@ -316,26 +308,26 @@ level-loop-less t c = omega (arith, c .before .before .before .before .before .b
 
 level-loop-again : (t : ℕ) → level-lts.Need-loop-again (level-calls t) (level-at t) level.Post level-inv level-less
 level-loop-again t c =
-    climbs-on _ _ _ _ _ _ _ _ _ _ _
+    climbs-on _ _ _ _ _ _ _ _ _ _ _ _
     (c .before .before .before .before .before .before .before .before .before .before .before .before .before .before .before .before
     .before .before .before .before .before .before .pre .1)
     (c .before .before .before .before .before .before .before .before .before .before .before .before .before .before .before .if1 .left) _ _ _
-    (c .before .before .before .before .before .before .before .before .before .before .before .before .before .loop .inv) _ _ _
-    (c .before .before .before .before .before .before .before .before .before .before .away .ensures)
-    (c .before .before .before .before .before .before .before .before .before .at-risk .ensures)
-    (c .before .before .before .before .before .before .before .before .losses .ensures) _ _
-    (c .before .before .before .before .before .before .next-link .ensures) (c .before .before .before .later .ensures) _
-    (c .before .before .in-slot .ensures) _ (c .before .if4 .left)
-    (c .before .before .before .before .before .before .before .before .before .before .before .if2 .taken) (c .advance .ensures)
+    _ (c .before .before .before .before .before .before .before .before .before .before .before .before .before .loop .inv) _ _
+    (c .before .before .before .before .before .before .before .before .before .before .at-risk .ensures)
+    (c .before .before .before .before .before .before .before .before .before .losses .ensures) _ _
+    (c .before .before .before .before .before .before .before .next-link .ensures) (c .before .before .before .before .later .ensures) _
+    (c .before .before .before .in-slot .ensures) _ _ (c .before .before .if4 .left)
+    (c .before .before .before .before .before .before .before .before .before .before .before .if2 .taken) (c .before .advance .ensures)
+    (c .away .ensures)
 
 level-nothing-requires-2 : (t : ℕ) → level-lts.Need-nothing-requires-2 (level-calls t) (level-at t) level.Post level-inv level-less
 level-nothing-requires-2 t c κs = search needs
 
 level-returns-4 : (t : ℕ) → level-lts.Need-returns-4 (level-calls t) (level-at t) level.Post level-inv level-less
 level-returns-4 t c =
-    climbs-over _ _ _ _ _ _ _ _ _ _ _
+    climbs-over _ _ _ _ _ _ _ _ _ _ _ _
     (c .before .before .before .before .before .before .before .before .before .before .before .before .pre .1)
-    (c .before .before .before .before .before .if1 .left) _ _ _ (c .before .before .before .loop .inv) _ (c .nothing2 .ensures)
+    (c .before .before .before .before .before .if1 .left) _ _ _ _ (c .before .before .before .loop .inv) _ (c .nothing2 .ensures)
     (c .before .if2 .left)
 
 pub +in-slot+level-spec : {M : Type 1} → statement M
@@ -367,7 +359,6 @@ pub +in-slot+level-spec : {M : Type 1} → statement M
     (level-play-out-requires t)
     (level-returns t)
     (level-loop-holds t)
-    (level-away-requires t)
     (level-at-risk-requires t)
     (level-sub-losses t)
     (level-losses-requires t)
@@ -379,6 +370,7 @@ pub +in-slot+level-spec : {M : Type 1} → statement M
     (level-in-slot-requires t)
     (level-returns-3 t)
     (level-advance-requires t)
+    (level-away-requires t)
     (level-add-s t)
     (level-loop-less t)
     (level-loop-again t)
