@@ -1,7 +1,7 @@
 // The search over cut lists: lists are tried in the order of document 01's verdict, fewest pairs first; a list is played from its last
 // pair on, and lists that a bound shows not to answer are passed over. What is asked of a list only `answers` knows, and `hopeless` that
-// no list from here can answer. Of the bound it knows only specs/Bound of `bound`. It leans on `cycle` for a slot, on `order` for the
-// steps from pair to pair and on the theorems of `laws`.
+// no list from here can answer. Of the bound it knows only specs/Bounds of `bound`. It leans on `cycle` for a slot, on `sets` for
+// sets of messages, on `order` for the steps from pair to pair and on the theorems of `laws`.
 use scope::limits::CUT_NUMBERS;
 use scope::limits::LINKS;
 use scope::limits::MESSAGES;
