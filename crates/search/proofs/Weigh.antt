@@ -1,4 +1,4 @@
--- What the pairs still to come can add to the messages that a list marks, once over any weight; and which of the three bounds it is that fails.
+-- What the pairs still to come can add to the messages that a list hits, once over any weight; and which of the three bounds it is that fails.
 use Prim.Native.Nat.{ℕ, zero, suc, _+_, _-_, _*_, _≤_, _<_}
 use native.Mathlib.Omega.{arith}
 use native.Mathlib.Nat.{suc-mul}
