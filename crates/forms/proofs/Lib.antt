@@ -1,5 +1,3 @@
-pub mod Parts
-pub mod Passing
 pub mod Walk
 pub mod Tail
 pub mod Filling

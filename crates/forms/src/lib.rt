@@ -1,7 +1,6 @@
-// Files and rows of a plan: a walk over the fields of either, with refusals 1 to 4, and each written as the other. A file is walked by one
-// loop that asks `grammar` for the next field, and so is a row that becomes a file; a row is judged part by part, fields of one width at
-// once. proofs/Theorems.antt says what follows: files and rows give each other, and how long they can be. It leans on scope's `Row` and
-// `File`.
+// Files of a plan: the fields of one walked into its row, with refusals 1, 2 and 4, and a row written as its file, each by one loop that
+// asks `grammar` for the next field. `row_walk` judges a row's form. proofs/Theorems.antt says what follows: files and rows give each
+// other, and how long they can be. It leans on scope's `Row` and `File`.
 use grammar::opening;
 use grammar::step;
 use grammar::width;
@@ -9,162 +8,13 @@ use scope::Answer;
 use scope::refuse;
 ghost use mathlib.Core.Path.{_≡_};
 ghost use Prim.Native.Nat.{_*_, _^_, _≤_, _<_};
-ghost use lib.ListN.{length, drop};
+ghost use lib.ListN.{length};
 ghost use Rattle.scope.specs.Outcome.{outcomeOf};
-ghost use Rattle.scope.specs.Row.{walkRow};
-ghost use Rattle.scope.specs.Plan.{at};
-ghost use Rattle.scope.specs.Fields.{nextPlace, nextMessage};
-ghost use Rattle.scope.specs.declared.Field.the-variants.{Vertices, Length, Link, SecondLength};
 ghost use Rattle.scope.specs.Bits.{bits};
 ghost use Rattle.scope.specs.File.{endsAt, walkFile, rowBits, fileOf};
 ghost use Rattle.scope.specs.Limits.{longestRow};
-ghost use Rattle.forms.specs.Walk.{fieldsFrom, restOf, Stops, Passes};
 ghost use Rattle.forms.specs.Unpack.{walkFields, Unpacks};
 ghost use Rattle.forms.specs.Pack.{Complete, Sized, Fitting, Packed};
-
-// Where n numbers from an index of a row on end: after them, or at the end of the row.
-fn stop(row: &[u16], i: usize, n: usize) -> usize
-    requires { ⌜ i ≤ length (now row) ⌝ }
-    ensures { λ r. ⌜ Stops (length (now (row .entry))) i n r ⌝ }
-{
-    if n <= row.len() - i {
-        return i + n;
-    }
-    row.len()
-}
-
-// So many fields of w bits from an index of a row on: refusal 2 or 3, or the index after them.
-fn walk_fields(row: &[u16], i: usize, n: usize, w: usize) -> Answer
-    requires { ⌜ (i ≤ length (now row)) × (w ≤ 16) ⌝ }
-    ensures { λ r. ⌜ outcomeOf r ≡ fieldsFrom w n i (drop i (now (row .entry))) ⌝ }
-{
-    let most = bits::power(w);
-    let end = stop(row, i, n);
-    let mut k = i;
-    while k < end {
-        if most <= row[k] as usize {
-            return refuse(3, k);
-        }
-        k += 1;
-    }
-    if end - i < n {
-        return refuse(2, k);
-    }
-    Answer::Gives(k)
-}
-
-// The numbers V, E, M, t and the ends of the links, which come before the messages.
-fn walk_head(row: &[u16]) -> Answer
-    requires { ⌜ 1 ≤ length (now row) ⌝ }
-    ensures { λ r. ⌜ Passes (now (row .entry)) (λ p m. Vertices) (λ p m. Length (at (now (row .entry)) 3)) 1 (outcomeOf r) ⌝ }
-{
-    let sizes = walk_fields(row, 1, 2, 6);
-    match sizes {
-        Answer::Gives(i) => {
-            let messages = walk_fields(row, i, 1, 5);
-            match messages {
-                Answer::Gives(j) => walk_fields(row, j, rows::links(row) * 2 + 1, 6),
-                Answer::Refused(r) => Answer::Refused(r),
-            }
-        }
-        Answer::Refused(r) => Answer::Refused(r),
-    }
-}
-
-// A second path, from its number of links on.
-fn walk_second(row: &[u16], i: usize) -> Answer
-    requires { ⌜ i ≤ length (now row) ⌝ }
-    ensures { λ r. ⌜ Passes (now (row .entry)) SecondLength nextPlace i (outcomeOf r) ⌝ }
-{
-    let count = walk_fields(row, i, 1, 4);
-    match count {
-        Answer::Gives(j) => walk_fields(row, j, rows::number(row, i) + 1, 6),
-        Answer::Refused(r) => Answer::Refused(r),
-    }
-}
-
-// A place: its link, slot and flag, and the second path from there.
-fn walk_place(row: &[u16], i: usize) -> Answer
-    requires { ⌜ i ≤ length (now row) ⌝ }
-    ensures { λ r. ⌜ Passes (now (row .entry)) Link nextPlace i (outcomeOf r) ⌝ }
-{
-    let held = walk_fields(row, i, 2, 6);
-    match held {
-        Answer::Gives(at) => {
-            let flag = walk_fields(row, at, 1, 1);
-            match flag {
-                Answer::Gives(j) => {
-                    if rows::number(row, at) == 1 {
-                        return walk_second(row, j);
-                    }
-                    Answer::Gives(j)
-                }
-                Answer::Refused(r) => Answer::Refused(r),
-            }
-        }
-        Answer::Refused(r) => Answer::Refused(r),
-    }
-}
-
-// So many messages, each its number of places and these, and refusal 4 where more follows.
-fn walk_messages(row: &[u16], i: usize, n: usize) -> Answer
-    requires { ⌜ (i ≤ length (now row)) × (n ≤ 65536) ⌝ }
-    ensures { λ r. ⌜ outcomeOf r ≡ restOf (now (row .entry)) (nextMessage n) i ⌝ }
-{
-    let mut at = i;
-    let mut messages = n;
-    let mut places: usize = 0;
-    loop {
-        if places != 0 {
-            let place = walk_place(row, at);
-            match place {
-                Answer::Gives(next) => {
-                    at = next;
-                }
-                Answer::Refused(r) => {
-                    return Answer::Refused(r);
-                }
-            }
-            places -= 1;
-            continue;
-        }
-        if messages == 0 {
-            break;
-        }
-        let count = walk_fields(row, at, 1, 4);
-        match count {
-            Answer::Gives(next) => {
-                places = rows::place_count(row, at);
-                at = next;
-            }
-            Answer::Refused(r) => {
-                return Answer::Refused(r);
-            }
-        }
-        messages -= 1;
-    }
-    if at < row.len() {
-        return refuse(4, at);
-    }
-    Answer::Gives(at)
-}
-
-// Refusals 1 to 4 of a row, or how many numbers it has.
-pub fn walk_row(row: &[u16]) -> Answer
-    ensures { λ r. ⌜ outcomeOf r ≡ walkRow (now (row .entry)) ⌝ }
-{
-    if row.len() == 0 {
-        return refuse(2, 0);
-    }
-    if rows::number(row, 0) != 1 {
-        return refuse(1, 0);
-    }
-    let head = walk_head(row);
-    match head {
-        Answer::Gives(i) => walk_messages(row, i, rows::messages(row)),
-        Answer::Refused(r) => Answer::Refused(r),
-    }
-}
 
 // What is found in a file: the answer of its walk, and how many numbers its row has.
 pub struct Unpacked {
@@ -254,7 +104,7 @@ pub fn unpack(file: &[u8], row: &mut [u16]) -> Unpacked
 }
 
 // How many bits the fields of a row have, its edition's with them.
-pub fn packed_bits(row: &[u16]) -> usize
+fn packed_bits(row: &[u16]) -> usize
     requires { ⌜ Complete (now row) ⌝ }
     ensures { λ r. ⌜ r ≡ length (rowBits (now (row .entry))) ⌝ }
 {

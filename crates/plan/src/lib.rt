@@ -1,6 +1,6 @@
 // A plan as a file and as a row: judged, read, written, and one second path of it shown. Every function takes anything, refuses
-// what is bad by document 01's numbers, and then leaves what it was lent as it was. It leans on `forms` for the form of files and
-// rows and on `rules` for the rules of a good plan.
+// what is bad by document 01's numbers, and then leaves what it was lent as it was. It leans on `row_walk` and `forms` for the
+// form of rows and files and on `rules` for the rules of a good plan.
 use scope::Answer;
 use scope::limits;
 use scope::refuse;
@@ -19,7 +19,7 @@ ghost use Rattle.plan.specs.Answers.{Accepts, Reads, Writes, shownIndex}
 pub fn judge(row: &[u16]) -> Answer
     ensures { λ r. ⌜ outcomeOf r ≡ judge (now (row .entry)) ⌝ }
 {
-    let walked = forms::walk_row(row);
+    let walked = row_walk::walk_row(row);
     match walked {
         Answer::Gives(n) => {
             let checked = rules::check(row);

@@ -1,13 +1,13 @@
--- `forms::walk_fields` meets its contract. The loop's invariant: what is left gives the whole answer. Assumes nothing.
+-- `row_walk::walk_fields` meets its contract. The loop's invariant: what is left gives the whole answer. Assumes nothing.
 use Prim.Native.Nat.{_+_, _-_, _^_, _≤_, _<_}
 use mathlib.Core.Path.{_∙_}
 use lib.ListN.{length, getD}
 use native.Mathlib.Omega.{arith}
 use borrow.Author.Needs.{needs}
-use Rattle.forms.proofs.Parts.{OnFields, fields-first, fields-large, fields-next, fields-short, fields-done}
+use Rattle.row_walk.proofs.Parts.{OnFields, fields-first, fields-large, fields-next, fields-short, fields-done}
 use borrow.Author.Needs.{needs}
-use Rattle.forms.proofs.walk_fields.Statement.{statement}
-use Rattle.forms.proofs.walk_fields.Tie as tie
+use Rattle.row_walk.proofs.walk_fields.Statement.{statement}
+use Rattle.row_walk.proofs.walk_fields.Tie as tie
 
 abbrev Inv-loop : tie.InvT-loop
 Inv-loop row i n w most end k₀ k = OnFields row w n i k × (k ≤ end)

@@ -1,13 +1,13 @@
--- `forms::walk_second` meets its contract: its number of links, and these. Assumes nothing.
+-- `row_walk::walk_second` meets its contract: its number of links, and these. Assumes nothing.
 use Prim.Native.Nat.{_+_}
 use mathlib.Core.Path.{sym, _∙_, ap}
 use native.Mathlib.Omega.{arith}
 use Rattle.scope.specs.Outcome.{outcomeOf}
-use Rattle.forms.proofs.Parts.{fields-end, pass-then, pass-bad}
-use Rattle.forms.proofs.Passing.{count-of-second, links-of-second}
+use Rattle.row_walk.proofs.Parts.{fields-end, pass-then, pass-bad}
+use Rattle.row_walk.proofs.Passing.{count-of-second, links-of-second}
 use borrow.Author.Needs.{needs}
-use Rattle.forms.proofs.walk_second.Statement.{statement}
-use Rattle.forms.proofs.walk_second.Tie as tie
+use Rattle.row_walk.proofs.walk_second.Statement.{statement}
+use Rattle.row_walk.proofs.walk_second.Tie as tie
 
 walk-fields-requires-2 : tie.Need-walk-fields-requires-2
 walk-fields-requires-2 c κs =

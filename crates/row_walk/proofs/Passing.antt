@@ -11,9 +11,9 @@ use Rattle.scope.specs.declared.Refusal.{Refusal}
 use Rattle.scope.specs.Outcome.{Outcome, gives, refused, refuse, andThen}
 use Rattle.scope.specs.Fields.{nextPlace, nextMessage, afterFlag, edition}
 use Rattle.scope.specs.Row.{walkRow}
-use Rattle.forms.specs.Walk.{fieldsFrom, restOf, Passes}
-use Rattle.forms.proofs.Walk.{from-end, from-more, row-opens}
-use Rattle.forms.proofs.Parts.{Steps, at, fields-pass, link-steps, second-steps, twice, twice-is, next-place, next-message}
+use Rattle.row_walk.specs.Walk.{fieldsFrom, restOf, Passes}
+use Rattle.row_walk.proofs.Walk.{from-end, from-more, row-opens}
+use Rattle.row_walk.proofs.Parts.{Steps, at, fields-pass, link-steps, second-steps, twice, twice-is, next-place, next-message}
 
 module _ (row : List ℕ) (i : ℕ) (l : i ≤ length row) (o : Outcome) where
   -- a second path

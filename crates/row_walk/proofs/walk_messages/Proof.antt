@@ -1,15 +1,15 @@
--- `forms::walk_messages` meets its contract. The loop's invariant: what is left gives the whole answer. Assumes nothing.
+-- `row_walk::walk_messages` meets its contract. The loop's invariant: what is left gives the whole answer. Assumes nothing.
 use Prim.Native.Nat.{_+_, _*_, _≤_}
 use mathlib.Core.Path.{refl, sym, _∙_, ap}
 use native.Mathlib.Omega.{arith}
 use Rattle.scope.specs.Fields.{nextMessage, nextPlace}
 use Rattle.scope.specs.Outcome.{outcomeOf}
-use Rattle.forms.specs.Walk.{restOf}
-use Rattle.forms.proofs.Parts.{fields-end, fields-small}
-use Rattle.forms.proofs.Passing.{Going, going-next, going-bad, place-turn, message-turn, messages-more, messages-done}
+use Rattle.row_walk.specs.Walk.{restOf}
+use Rattle.row_walk.proofs.Parts.{fields-end, fields-small}
+use Rattle.row_walk.proofs.Passing.{Going, going-next, going-bad, place-turn, message-turn, messages-more, messages-done}
 use borrow.Author.Needs.{needs}
-use Rattle.forms.proofs.walk_messages.Statement.{statement}
-use Rattle.forms.proofs.walk_messages.Tie as tie
+use Rattle.row_walk.proofs.walk_messages.Statement.{statement}
+use Rattle.row_walk.proofs.walk_messages.Tie as tie
 
 abbrev Inv-loop : tie.InvT-loop
 Inv-loop row i n at₀ messages₀ places₀ at messages places =

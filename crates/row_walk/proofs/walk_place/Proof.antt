@@ -1,12 +1,12 @@
--- `forms::walk_place` meets its contract: its link and slot, its flag, and the second path if there is one. Assumes nothing.
+-- `row_walk::walk_place` meets its contract: its link and slot, its flag, and the second path if there is one. Assumes nothing.
 use mathlib.Core.Path.{sym, _∙_, ap}
 use native.Mathlib.Omega.{arith}
 use Rattle.scope.specs.Outcome.{outcomeOf}
-use Rattle.forms.proofs.Parts.{fields-end, pass-then, pass-bad}
-use Rattle.forms.proofs.Passing.{held-of-place, flag-of-place, flag-set, flag-clear}
+use Rattle.row_walk.proofs.Parts.{fields-end, pass-then, pass-bad}
+use Rattle.row_walk.proofs.Passing.{held-of-place, flag-of-place, flag-set, flag-clear}
 use borrow.Author.Needs.{needs}
-use Rattle.forms.proofs.walk_place.Statement.{statement}
-use Rattle.forms.proofs.walk_place.Tie as tie
+use Rattle.row_walk.proofs.walk_place.Statement.{statement}
+use Rattle.row_walk.proofs.walk_place.Tie as tie
 
 walk-fields-requires-2 : tie.Need-walk-fields-requires-2
 walk-fields-requires-2 c κs =

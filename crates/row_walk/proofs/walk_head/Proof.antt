@@ -1,13 +1,13 @@
--- `forms::walk_head` meets its contract: V and E, then M, then t and the ends of the links. Assumes nothing.
+-- `row_walk::walk_head` meets its contract: V and E, then M, then t and the ends of the links. Assumes nothing.
 use Prim.Native.Nat.{_+_, _*_}
 use mathlib.Core.Path.{sym, _∙_, ap}
 use native.Mathlib.Omega.{arith}
 use Rattle.scope.specs.Outcome.{outcomeOf}
-use Rattle.forms.proofs.Parts.{fields-end, pass-then, pass-bad}
-use Rattle.forms.proofs.Passing.{sizes-of-plan, messages-of-plan, links-of-plan}
+use Rattle.row_walk.proofs.Parts.{fields-end, pass-then, pass-bad}
+use Rattle.row_walk.proofs.Passing.{sizes-of-plan, messages-of-plan, links-of-plan}
 use borrow.Author.Needs.{needs}
-use Rattle.forms.proofs.walk_head.Statement.{statement}
-use Rattle.forms.proofs.walk_head.Tie as tie
+use Rattle.row_walk.proofs.walk_head.Statement.{statement}
+use Rattle.row_walk.proofs.walk_head.Tie as tie
 
 walk-fields-requires-2 : tie.Need-walk-fields-requires-2
 walk-fields-requires-2 c κs =

@@ -1,12 +1,12 @@
--- `forms::walk_row` meets its contract: the edition, what comes before the messages, and these. Assumes nothing.
+-- `row_walk::walk_row` meets its contract: the edition, what comes before the messages, and these. Assumes nothing.
 use mathlib.Core.Path.{sym, _∙_, ap}
 use native.Mathlib.Omega.{arith}
 use Rattle.scope.specs.Outcome.{outcomeOf}
-use Rattle.forms.proofs.Walk.{row-none, row-edition}
-use Rattle.forms.proofs.Passing.{row-head, row-bad}
+use Rattle.row_walk.proofs.Walk.{row-none, row-edition}
+use Rattle.row_walk.proofs.Passing.{row-head, row-bad}
 use borrow.Author.Needs.{needs}
-use Rattle.forms.proofs.walk_row.Statement.{statement}
-use Rattle.forms.proofs.walk_row.Tie as tie
+use Rattle.row_walk.proofs.walk_row.Statement.{statement}
+use Rattle.row_walk.proofs.walk_row.Tie as tie
 
 returns : tie.Need-returns
 returns c = c .refuse .ensures ∙ sym (row-none (c .before .before .before .args .row .now) (c .before .if1 .taken))

@@ -17,8 +17,8 @@ use Rattle.scope.specs.Outcome.{Outcome, gives, refused, refuse, andThen}
 use Rattle.scope.specs.Fields.{width, step, opening, nextLink, nextMessage, nextPlace, nextSecond}
 use Rattle.scope.specs.Row.{walkFrom}
 use Rattle.scope.proofs.Outcomes.{not-both}
-use Rattle.forms.specs.Walk.{fieldsFrom, restOf, Passes}
-use Rattle.forms.proofs.Walk.{from-short, from-large, from-step}
+use Rattle.row_walk.specs.Walk.{fieldsFrom, restOf, Passes}
+use Rattle.row_walk.proofs.Walk.{from-short, from-large, from-step}
 
 -- the first of some fields
 module _ (row : List ℕ) (w n i : ℕ) where
