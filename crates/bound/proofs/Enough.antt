@@ -9,16 +9,16 @@ use Rattle.scope.specs.Plan.{Plan}
 use Rattle.scope.specs.Good.{rules}
 use Rattle.scope.specs.Cuts.{pairs, cutSlot, cutLink}
 use Rattle.scope.proofs.Cuts.{slot-below, link-below}
-use Rattle.bound.specs.Touch.{harm, touches}
-use Rattle.bound.specs.Harmed.{hers, isHit, away, harmed, CountsLosses}
-use Rattle.bound.specs.Strips.{strips, bares, bared}
+use Rattle.losses.specs.Touch.{harm, touches}
+use Rattle.losses.specs.Harmed.{hers, isHit, away, harmed, CountsLosses}
+use Rattle.losses.specs.Strips.{strips, bares, bared}
 use Rattle.bound.specs.Bounds.{Fails, weightIn, topIn, frontIn, Enough, BoundOn, Bounds}
 use Rattle.order.proofs.Parts.{slot-right, link-right, pairs-both}
 use Rattle.sets.proofs.Sums.{sum-le, sum-plus}
-use Rattle.bound.proofs.Touch.{touches-count}
-use Rattle.bound.proofs.Harmed.{loses-no-more-from}
+use Rattle.losses.proofs.Touch.{touches-count}
+use Rattle.losses.proofs.Harmed.{loses-no-more-from}
 use Rattle.bound.proofs.Last.{one-last}
-use Rattle.bound.proofs.Strips.{strips-count, loses-no-more-than-both}
+use Rattle.losses.proofs.Strips.{strips-count, loses-no-more-than-both}
 
 -- in each slot and on each link of a plan one weight is at most another
 abbrev pub AtMost : Plan → (ℕ → ℕ → ℕ) → (ℕ → ℕ → ℕ) → Type 0

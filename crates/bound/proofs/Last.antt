@@ -10,9 +10,9 @@ use Rattle.scope.specs.Cuts.{pairs, cutSlot, cutLink, isCutList}
 use Rattle.scope.proofs.Cuts.{slot-below, link-below}
 use Rattle.order.proofs.Parts.{slot-right, link-right, pairs-both}
 use Rattle.sets.specs.Sums.{sumOf}
-use Rattle.bound.specs.Touch.{harm}
-use Rattle.bound.specs.Harmed.{harmed, NotBefore}
-use Rattle.bound.specs.Strips.{bared}
+use Rattle.losses.specs.Touch.{harm}
+use Rattle.losses.specs.Harmed.{harmed, NotBefore}
+use Rattle.losses.specs.Strips.{bared}
 use Rattle.bound.specs.Bounds.{weightIn, frontIn, BoundOn, OneLast}
 
 module _ (plan : Plan) (Answers : List ℕ → Type 0) (need : ℕ) where

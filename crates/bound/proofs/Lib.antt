@@ -1,12 +1,5 @@
-pub mod Parts
-pub mod Touch
-pub mod Harmed
-pub mod Fragile
-pub mod Strips
-pub mod Sharper
 pub mod Last
 pub mod Enough
-pub mod OneLink
 pub mod Weights
 pub mod Planes
 pub mod Fronting

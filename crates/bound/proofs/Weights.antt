@@ -13,7 +13,7 @@ use Rattle.scope.specs.Limits.{mostSlots, mostLinks, planeSize}
 use Rattle.table.specs.Table.{indexOf, entryAt}
 use Rattle.table.proofs.Entries.{entry-is}
 use Rattle.sets.specs.Sums.{sumOf, oneIf}
-use Rattle.bound.specs.Touch.{touchedIn}
+use Rattle.losses.specs.Touch.{touchedIn}
 use Rattle.bound.specs.Weights.{entriesFrom, below, mostOnLink, ForLinks, OnLinks, Behind, WeighsFrom, Weighs, WeighsStrips, TopOf, Tops}
 use Rattle.bound.specs.Fronts.{Larger}
 use Rattle.sets.proofs.Sums.{sum-same, sum-first, tests-few}

@@ -11,9 +11,9 @@ use Rattle.scope.specs.Plan.{Plan}
 use Rattle.table.specs.Table.{indexOf}
 use Rattle.scope.specs.Cuts.{cutLink, isCutList}
 use Rattle.scope.specs.Cycle.{arrivals}
-use Rattle.bound.specs.Touch.{harm}
-use Rattle.bound.specs.Harmed.{harmed, NotBefore}
-use Rattle.bound.specs.Strips.{bared, lost}
+use Rattle.losses.specs.Touch.{harm}
+use Rattle.losses.specs.Harmed.{harmed, NotBefore}
+use Rattle.losses.specs.Strips.{bared, lost}
 
 -- the weight of a pair, from planes of all slots and links one after another, and the most from a slot on, from lists of all slots
 abbrev pub weightIn : List ℕ → ℕ → ℕ → ℕ → ℕ

@@ -1,7 +1,3 @@
-pub mod Touch
-pub mod Harmed
-pub mod Strips
-pub mod Sharper
 pub mod Bounds
 pub mod Seconds
 pub mod Weights

@@ -6,7 +6,7 @@ use mathlib.Core.List.{List}
 use lib.ListN.{length, getD}
 use Rattle.scope.specs.Limits.{mostSlots, mostLinks, mostMessages, tableSize, secondsSize, planeSize, weightsSize, topsSize}
 use Rattle.table.specs.Table.{indexOf, entryAt}
-use Rattle.bound.specs.Touch.{touchedIn}
+use Rattle.losses.specs.Touch.{touchedIn}
 use Rattle.bound.specs.Seconds.{onLink}
 use Rattle.bound.specs.Bounds.{weightIn, topIn, frontIn}
 

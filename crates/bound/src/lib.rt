@@ -1,7 +1,6 @@
-// How many messages a pair of a cut list can harm: it touches those that have its link before them in its slot or later, and strips those
-// that it leaves without what would help them, and a list loses only messages that it both touches and strips (specs/Touch, specs/Strips). A
-// search needs no more of this than specs/Bounds says, so that a sharper bound can take its place. It leans on the table of `table`, on
-// `sets` for sets of messages and on the theorems of `laws`.
+// How many messages, and which, a pair of a cut list can harm, as tables that a search is lent: what it touches and strips (`losses`), the
+// most from a slot on, and sets of messages. A search needs no more of this than specs/Bounds says, so that a sharper bound can take its
+// place. It leans on the table of `table`, on `sets` for sets of messages and on the theorems of `losses`.
 use scope::limits::FRONT;
 use scope::limits::LINKS;
 use scope::limits::MESSAGES;

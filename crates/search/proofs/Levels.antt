@@ -13,8 +13,8 @@ use Rattle.cuts.specs.Down.{isDown}
 use Rattle.scope.specs.Plan.{planOf}
 use Rattle.scope.proofs.Lowest.{seek-from, seek-most, seek-is, seek-low}
 use Rattle.step.specs.declared.Standing.{Standing}
-use Rattle.bound.specs.Harmed.{harmed}
-use Rattle.bound.specs.Strips.{bared}
+use Rattle.losses.specs.Harmed.{harmed}
+use Rattle.losses.specs.Strips.{bared}
 use Rattle.bound.specs.Bounds.{weightIn, topIn, frontIn, harmedAndBared}
 use Rattle.search.specs.declared.Asked.{Asked}
 use Rattle.search.specs.declared.Picked.{Picked}

@@ -24,11 +24,11 @@ use Rattle.sets.specs.Sums.{sumOf, oneIf}
 use Rattle.sets.specs.Sets.{has, size, IsOneIf, IsEither, IsBoth}
 use Rattle.sets.proofs.Sums.{sum-le, sum-same, sum-fewer, tests-few}
 use Rattle.sets.proofs.Sets.{has-none}
-use Rattle.bound.specs.Touch.{harm}
-use Rattle.bound.specs.Harmed.{hers, isTouched, stands, away}
-use Rattle.bound.specs.Strips.{strips, isStripped, lost}
+use Rattle.losses.specs.Touch.{harm}
+use Rattle.losses.specs.Harmed.{hers, isTouched, stands, away}
+use Rattle.losses.specs.Strips.{strips, isStripped, lost}
 use Rattle.bound.specs.Sets.{setIn}
-use Rattle.bound.proofs.Parts.{harm-both}
+use Rattle.losses.proofs.Parts.{harm-both}
 use Rattle.order.proofs.Parts.{pairs-both}
 use Rattle.search.specs.declared.Hits.{Hits}
 use Rattle.search.specs.declared.Risk.{Risk}

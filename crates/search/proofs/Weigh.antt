@@ -13,8 +13,8 @@ use Rattle.scope.specs.Plan.{Plan}
 use Rattle.scope.specs.Cuts.{pairs, cutSlot, cutLink, isCutList}
 use Rattle.scope.proofs.Cuts.{slot-below, link-below}
 use Rattle.sets.specs.Sums.{sumOf}
-use Rattle.bound.specs.Touch.{harm}
-use Rattle.bound.specs.Harmed.{NotBefore}
+use Rattle.losses.specs.Touch.{harm}
+use Rattle.losses.specs.Harmed.{NotBefore}
 use Rattle.bound.specs.Bounds.{frontIn, BoundOn}
 use Rattle.order.specs.Search.{Chosen, Not}
 use Rattle.order.proofs.Parts.{slot-right, link-right, pairs-both}

@@ -18,8 +18,8 @@ use Rattle.step.specs.Stand.{home, Become}
 use Rattle.sets.specs.Sets.{has}
 use Rattle.order.specs.Search.{code, Chosen, NoneOf, FirstOf, NoneIn, FirstFrom}
 use Rattle.bound.specs.Bounds.{Fails, weightIn, topIn, frontIn, harmedAndBared, Bounds}
-use Rattle.bound.specs.Harmed.{hers, isTouched, harmed}
-use Rattle.bound.specs.Strips.{strips, isStripped, bared}
+use Rattle.losses.specs.Harmed.{hers, isTouched, harmed}
+use Rattle.losses.specs.Strips.{strips, isStripped, bared}
 use Rattle.bound.specs.Sets.{setIn}
 use Rattle.search.specs.declared.Asked.{Asked}
 use Rattle.search.specs.declared.Picked.{Picked}

@@ -19,7 +19,7 @@ use Rattle.rows.specs.View.{Is, IsPlace}
 use Rattle.rows.specs.declared.RowPlace.{RowPlace}
 use Rattle.spare.proofs.Loops.{numbers-more, numbers-none}
 use Rattle.sets.specs.Sums.{oneIf}
-use Rattle.bound.specs.Strips.{isRobust, cutsOneOf}
+use Rattle.losses.specs.Strips.{isRobust, cutsOneOf}
 use Rattle.strips.specs.Filled.{Costs, costOf, inTime, SecondsAreLinks}
 
 -- a loop over the links of a path, at link k of n

@@ -16,15 +16,15 @@ use Rattle.scope.specs.Cycle.{tableOf}
 use Rattle.table.specs.Table.{Table, entryAt}
 use Rattle.sets.specs.Sums.{sumOf, oneIf}
 use Rattle.sets.specs.Sets.{has}
-use Rattle.bound.specs.Touch.{touchedIn, touches}
-use Rattle.bound.specs.Harmed.{hersIn, hers}
-use Rattle.bound.specs.Strips.{fragilePlan, throughRobust, strips, bares}
+use Rattle.losses.specs.Touch.{touchedIn, touches}
+use Rattle.losses.specs.Harmed.{hersIn, hers}
+use Rattle.losses.specs.Strips.{fragilePlan, throughRobust, strips, bares}
 use Rattle.bound.specs.Seconds.{secondIn, onLink}
 use Rattle.bound.specs.Weights.{entriesFrom, WeighsAll, TopsAll}
 use Rattle.bound.specs.Sets.{setIn, SetsOf, StripSetsOf}
 use Rattle.bound.specs.Bounds.{Fails, weightIn, Bounds}
 use Rattle.sets.proofs.Sums.{sum-same, sum-fewer, some-test}
-use Rattle.bound.proofs.OneLink.{hers-most, touches-most}
+use Rattle.losses.proofs.OneLink.{hers-most, touches-most}
 use Rattle.bound.proofs.Weights.{entries-fall}
 use Rattle.bound.proofs.Enough.{AtMost, bounds}
 use Rattle.strips.specs.Filled.{Filled}

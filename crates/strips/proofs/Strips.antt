@@ -25,8 +25,8 @@ use Rattle.spare.proofs.Held.{entries-few}
 use Rattle.spare.proofs.Bounds.{lower-few}
 use Rattle.sets.specs.Sums.{oneIf}
 use Rattle.bound.specs.Seconds.{secondIn}
-use Rattle.bound.specs.Strips.{isRobust, fragileOf, fragilePlan, cutsOneOf, throughRobust}
-use Rattle.bound.proofs.Fragile.{fragile-long, fragile-path}
+use Rattle.losses.specs.Strips.{isRobust, fragileOf, fragilePlan, cutsOneOf, throughRobust}
+use Rattle.losses.proofs.Fragile.{fragile-long, fragile-path}
 use Rattle.strips.specs.Filled.{Filled, Put, More, MayMore, Ways, Costs, inTime, SecondsAreLinks, MayStrip, Stripped, StrippedPlace}
 use Rattle.strips.specs.Filled.{StrippedMessage, MayStripAll}
 use Rattle.strips.proofs.Puts.{put-none, put-same, put-then, Upto, upto-none, upto-next, upto-all}

@@ -13,7 +13,7 @@ use Rattle.scope.specs.Spare.{entriesOf, entries, hasSecondThrough, lowerThroug
 use Rattle.table.specs.Table.{Table, entryAt, entered}
 use Rattle.plan.specs.Answers.{GoodRow}
 use Rattle.bound.specs.Seconds.{secondIn, Seconds}
-use Rattle.bound.specs.Strips.{fragileOf, fragilePlan, throughRobust}
+use Rattle.losses.specs.Strips.{fragileOf, fragilePlan, throughRobust}
 
 -- the tables may be filled: nothing is marked
 pub record MayFill (row fragile seconds : List ℕ) : Type 0 where

@@ -1,5 +1,5 @@
 // What strips a message of a good plan, as a search looks it up: the table of its fragile places, and for each link and message whether the
-// link lies on the second path of a robust place. `fill` makes both, as bound's Strips says. It leans on `rows` for where things stand, on
+// link lies on the second path of a robust place. `fill` makes both, as Strips of `losses` says. It leans on `rows` for where things stand, on
 // `table` for tables, on `plan` for what a good row is, and on `spare`'s proofs for counts.
 //
 // D of each second path is a sum over its links: a(e) is counted once, b(m, e) goes up from message to message.

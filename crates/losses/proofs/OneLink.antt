@@ -9,8 +9,8 @@ use borrow.Author.Tests.{eqb-true, ne-eqb}
 use Rattle.scope.specs.Plan.{Plan}
 use Rattle.scope.specs.Cycle.{tableOf}
 use Rattle.sets.specs.Sums.{sumOf}
-use Rattle.bound.specs.Touch.{touchedIn, overCut, touches}
-use Rattle.bound.specs.Harmed.{hersIn, hers}
+use Rattle.losses.specs.Touch.{touchedIn, overCut, touches}
+use Rattle.losses.specs.Harmed.{hersIn, hers}
 
 module _ (d : ℕ) (count : ℕ → ℕ) where
   not-yet : (n : ℕ) → n ≤ d → sumOf (λ e. cond (eqb d e) (count e) 0) n ≡ 0

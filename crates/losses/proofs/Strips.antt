@@ -28,14 +28,14 @@ use Rattle.laws.proofs.Cuts.{not-cut}
 use Rattle.laws.proofs.Latest.{stranded, left-from}
 use Rattle.laws.proofs.Slack.{leaves-in-time, slack-under-cuts, has-left}
 use Rattle.sets.specs.Sums.{oneIf}
-use Rattle.bound.specs.Touch.{harm}
-use Rattle.bound.specs.Harmed.{hers, isTouched, stands}
-use Rattle.bound.specs.Strips.{isRobust, fragileOf, fragilePlan, cutsOneOf, throughRobust, strips, isStripped}
-use Rattle.bound.specs.Strips.{StripsCount, LosesOnly, LosesNoMoreThanBoth}
+use Rattle.losses.specs.Touch.{harm}
+use Rattle.losses.specs.Harmed.{hers, isTouched, stands}
+use Rattle.losses.specs.Strips.{isRobust, fragileOf, fragilePlan, cutsOneOf, throughRobust, strips, isStripped}
+use Rattle.losses.specs.Strips.{StripsCount, LosesOnly, LosesNoMoreThanBoth}
 use Rattle.sets.proofs.Sums.{sum-le, sum-plus, sum-term}
-use Rattle.bound.proofs.Touch.{all-hers, unharmed, touches-count}
-use Rattle.bound.proofs.Harmed.{loses-each, was-away}
-use Rattle.bound.proofs.Fragile.{fragile-rises, fragile-links, fragile-gives}
+use Rattle.losses.proofs.Touch.{all-hers, unharmed, touches-count}
+use Rattle.losses.proofs.Harmed.{loses-each, was-away}
+use Rattle.losses.proofs.Fragile.{fragile-rises, fragile-links, fragile-gives}
 
 abbrev nowhere : Place
 nowhere = record { link = 0; slot = 0; second = [] }

@@ -6,8 +6,8 @@ use mathlib.Core.Bool.{true, false}
 use mathlib.Core.List.{List, [], _∷_}
 use Rattle.scope.specs.Slot.{atTarget}
 use Rattle.laws.specs.Sharp.{planB, cutAtOnce}
-use Rattle.bound.specs.Harmed.{isTouched, stands}
-use Rattle.bound.specs.Strips.{isStripped}
+use Rattle.losses.specs.Harmed.{isTouched, stands}
+use Rattle.losses.specs.Strips.{isStripped}
 
 abbrev pub cutBoth : List ℕ
 cutBoth = 0 ∷ 0 ∷ 0 ∷ 1 ∷ []

@@ -11,8 +11,8 @@ use Rattle.scope.specs.Plan.{Plan}
 use Rattle.scope.specs.Cuts.{pairs, cutSlot, cutLink, cutsLink, isCut}
 use Rattle.laws.proofs.Cuts.{cut-pair, not-cut}
 use Rattle.sets.specs.Sums.{sumOf}
-use Rattle.bound.specs.Touch.{harm}
-use Rattle.bound.specs.Harmed.{NotBefore}
+use Rattle.losses.specs.Touch.{harm}
+use Rattle.losses.specs.Harmed.{NotBefore}
 use Rattle.sets.proofs.Sums.{sum-same}
 use Rattle.scope.proofs.Some.{some-one}
 use Rattle.order.proofs.Parts.{slot-left, link-left, slot-right, link-right}

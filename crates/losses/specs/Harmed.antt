@@ -14,7 +14,7 @@ use Rattle.scope.specs.Cuts.{pairs, cutSlot, isCut}
 use Rattle.scope.specs.Cycle.{orderOf, tableOf, start, positions, arrivals}
 use Rattle.laws.specs.Message.{positionOf}
 use Rattle.sets.specs.Sums.{sumOf, oneIf}
-use Rattle.bound.specs.Touch.{harm, overCut, touches}
+use Rattle.losses.specs.Touch.{harm, overCut, touches}
 
 -- in how many of n slots from slot s on the table gives link e to message m
 abbrev pub hersIn : (ℕ → ℕ → ℕ) → ℕ → ℕ → ℕ → ℕ → ℕ

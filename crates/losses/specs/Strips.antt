@@ -14,8 +14,8 @@ use Rattle.scope.specs.Cuts.{cutsLink}
 use Rattle.scope.specs.Cycle.{orderOf, arrivals}
 use Rattle.scope.specs.Spare.{delay, noSecond}
 use Rattle.sets.specs.Sums.{sumOf, oneIf}
-use Rattle.bound.specs.Touch.{touches}
-use Rattle.bound.specs.Harmed.{hers, isHit, isTouched, stands, away, CountsLosses}
+use Rattle.losses.specs.Touch.{touches}
+use Rattle.losses.specs.Harmed.{hers, isHit, isTouched, stands, away, CountsLosses}
 
 -- a place of message m is robust if it has a second path and its slot plus D is at most t: its slack is 0 or more
 abbrev pub isRobust : Plan → ℕ → Place → Bool

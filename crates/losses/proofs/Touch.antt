@@ -23,8 +23,8 @@ use Rattle.laws.proofs.Kept.{starts}
 use Rattle.laws.proofs.Untouched.{untouched-arrives}
 use Rattle.laws.proofs.Cuts.{not-cut}
 use Rattle.sets.specs.Sums.{sumOf, oneIf}
-use Rattle.bound.specs.Touch.{harm, touchedIn, overCut, touches}
-use Rattle.bound.specs.Harmed.{hersIn, hers, isTouched, stands, TouchesCount}
+use Rattle.losses.specs.Touch.{harm, touchedIn, overCut, touches}
+use Rattle.losses.specs.Harmed.{hersIn, hers, isTouched, stands, TouchesCount}
 use Rattle.sets.proofs.Sums.{sum-le, sum-term, sum-swap, sum-zero, one-of-them}
 
 -- what all messages have of a link is what the link has

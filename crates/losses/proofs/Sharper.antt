@@ -8,8 +8,8 @@ use Rattle.scope.specs.Cycle.{foremost, tableOf, moves, slot, positions}
 use Rattle.scope.specs.Spare.{entriesOf, entries, hasSecondThrough, lowerThrough, delay}
 use Rattle.scope.specs.Good.{has}
 use Rattle.sets.specs.Sums.{sumOf}
-use Rattle.bound.specs.Strips.{fragileOf, fragilePaths, cutsOneOf, throughRobust}
-use Rattle.bound.specs.Sharper.{Sharper}
+use Rattle.losses.specs.Strips.{fragileOf, fragilePaths, cutsOneOf, throughRobust}
+use Rattle.losses.specs.Sharper.{Sharper}
 
 pub sharper : Sharper
 unfolding seek numbersAt linksAt placesAt afterPlaces messagesAt planOf has holds isCut foremost tableOf moves slot positions entriesOf entries

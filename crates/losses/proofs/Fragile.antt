@@ -15,7 +15,7 @@ use Rattle.laws.proofs.Cases.{cond-cases}
 use Rattle.laws.proofs.Good.{there-or-not}
 use Rattle.laws.proofs.Rising.{rises, rising, earlier}
 use Rattle.laws.proofs.Table.{table-gives, lowest-has, holds-gives, gives-held}
-use Rattle.bound.specs.Strips.{isRobust, fragileOf, fragilePaths, fragilePlan}
+use Rattle.losses.specs.Strips.{isRobust, fragileOf, fragilePaths, fragilePlan}
 
 module _ (plan : Plan) where
   paths-long : (k : ℕ) (paths : List (List Place)) → length (fragilePaths plan k paths) ≡ length paths

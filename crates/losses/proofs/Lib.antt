@@ -1,0 +1,7 @@
+pub mod Parts
+pub mod Touch
+pub mod Harmed
+pub mod Fragile
+pub mod Strips
+pub mod Sharper
+pub mod OneLink

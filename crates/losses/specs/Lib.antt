@@ -1,0 +1,4 @@
+pub mod Touch
+pub mod Harmed
+pub mod Strips
+pub mod Sharper
