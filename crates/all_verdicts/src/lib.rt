@@ -31,7 +31,7 @@ fn put_answer(out: &mut [u16], head: u16, numbers: [u16; CUT_NUMBERS])
     ensures { λ _. ⌜ now (out .exit) ≡ (head ∷ numbers) ++ drop answerSize (now (out .entry)) ⌝ }
 {
     out[0] = head;
-    plan::copy(&numbers, &mut out[1..]);
+    rows::copy(&numbers, &mut out[1..]);
 }
 
 // The same answer for each l from `from` on, below `to`.

@@ -5,9 +5,7 @@ use scope::Answer;
 use scope::limits;
 use scope::refuse;
 ghost use mathlib.Core.Path.{_≡_};
-ghost use Prim.Native.Nat.{_≤_};
-ghost use lib.ListN.{length, drop};
-ghost use mathlib.Core.List.{_++_};
+ghost use lib.ListN.{length};
 ghost use Rattle.scope.specs.Outcome.{outcomeOf};
 ghost use Rattle.scope.specs.Questions.{judge, secondPath};
 ghost use Rattle.scope.specs.Outcome.{gives};
@@ -32,18 +30,6 @@ pub fn judge(row: &[u16]) -> Answer
     }
 }
 
-// One list of numbers into the front of another.
-pub fn copy(from: &[u16], to: &mut [u16])
-    requires { ⌜ length (now from) ≤ length (now to) ⌝ }
-    ensures { λ r. ⌜ now (to .exit) ≡ now (from .entry) ++ drop (length (now (from .entry))) (now (to .entry)) ⌝ }
-{
-    let mut i = 0;
-    while i < from.len() {
-        to[i] = from[i];
-        i += 1;
-    }
-}
-
 // The row of a file, once its form is known to be right: refusals 5 to 10 and 13, or the row into the front of what is lent.
 fn accept(all: &[u16], row: &mut [u16]) -> Answer
     requires { ⌜ walkRow (now all) ≡ gives (length (now all)) ⌝ }
@@ -54,7 +40,7 @@ fn accept(all: &[u16], row: &mut [u16]) -> Answer
         Answer::Gives(_) => {
             let n = all.len();
             if n <= row.len() {
-                copy(all, row);
+                rows::copy(all, row);
                 Answer::Gives(n)
             } else {
                 refuse(13, n)

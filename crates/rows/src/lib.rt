@@ -1,9 +1,11 @@
-// Looking at a row: the number at an index, and where messages, places and second paths stand. Every read is total, 0 past the
-// end, so no function here asks that a row is good. It leans on specs/ of `scope` (Plan, SecondPath) alone.
+// Looking at a row: the number at an index, and where messages, places and second paths stand; and numbers copied into the front of
+// others. Every read is total, 0 past the end, so no function here asks that a row is good. It leans on specs/ of `scope` (Plan,
+// SecondPath) alone.
 //
 // A place takes at most 65540 numbers, and there are at most 65536 places and messages, whatever the row: so every index stays far
 // below the largest `usize`, and each contract says how far.
 ghost use mathlib.Core.Path.{_≡_};
+ghost use mathlib.Core.List.{_++_};
 ghost use Prim.Native.Nat.{_+_, _-_, _*_, _<_, _≤_, _^_};
 ghost use lib.ListN.{length, take, drop};
 ghost use Rattle.scope.specs.Outcome.{gives};
@@ -182,4 +184,16 @@ pub fn second_path_part(row: &[u16], m: usize, p: usize) -> &[u16]
 {
     let span = second_span(row, m, p);
     part(row, span.from, span.to)
+}
+
+// One list of numbers into the front of another.
+pub fn copy(from: &[u16], to: &mut [u16])
+    requires { ⌜ length (now from) ≤ length (now to) ⌝ }
+    ensures { λ r. ⌜ now (to .exit) ≡ now (from .entry) ++ drop (length (now (from .entry))) (now (to .entry)) ⌝ }
+{
+    let mut i = 0;
+    while i < from.len() {
+        to[i] = from[i];
+        i += 1;
+    }
 }

@@ -134,7 +134,7 @@ pub fn verdict_good(row: &[u16], k: usize, l: usize, list: &mut [u16]) -> Ruling
     if hunted.found {
         let pairs = hunted.pairs;
         let numbers = hunted.numbers;
-        plan::copy(&numbers[..2 * pairs], list);
+        rows::copy(&numbers[..2 * pairs], list);
         Ruling::Failing(pairs)
     } else {
         Ruling::Resistant

@@ -1,13 +1,13 @@
--- `plan::copy` meets its contract. The invariant: what is passed is copied, and what is left is as it was. Assumes nothing.
+-- `rows::copy` meets its contract. The invariant: what is passed is copied, and what is left is as it was. Assumes nothing.
 use Prim.Native.Nat.{_-_, _≤_}
 use mathlib.Core.Path.{_≡_, refl, _∙_, ap}
 use mathlib.Core.List.{_++_}
 use lib.ListN.{length, getD, set, take, drop, length-set}
 use borrow.Author.Needs.{needs}
 use native.Mathlib.Omega.{arith}
-use Rattle.plan.proofs.Copied as law
-use Rattle.plan.proofs.copy.Statement.{statement}
-use Rattle.plan.proofs.copy.Tie as tie
+use Rattle.rows.proofs.Copied as law
+use Rattle.rows.proofs.copy.Statement.{statement}
+use Rattle.rows.proofs.copy.Tie as tie
 
 abbrev Inv-loop : tie.InvT-loop
 Inv-loop from to₀ i₀ to i = (to ≡ take i from ++ drop i to₀) × (i ≤ length from) × (length to ≡ length to₀)
