@@ -96,7 +96,7 @@ module _ (table : List ℕ) (slots : ℕ) (old : List ℕ) where
     pub gathering-done : slots ≤ mostSlots → Gathered table slots old new
     gathering-done few =
         record {
-          sets =
+          put =
               record {
                 long = g .long;
                 from = λ s i e m l h he hm is.
@@ -156,7 +156,7 @@ pub strip-sets : (fragile seconds : List ℕ) (slots : ℕ) (row new : List ℕ)
     StripSetsOf fragile seconds slots new
 strip-sets fragile seconds slots row new t g =
     record {
-      long = g .sets .long;
-      from = g .sets .from;
+      long = g .put .long;
+      from = g .put .from;
       always = λ s e m h he hm is. g .last s e m (omega arith) he (t .is e he m hm is);
     }

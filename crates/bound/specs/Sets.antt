@@ -28,12 +28,12 @@ pub record StripSetsOf (fragile seconds : List ℕ) (slots : ℕ) (sets : List �
 
 -- the sets of a table's first slots are put, and who was in a set of the row behind the last slot is in those of its link
 pub record Gathered (table : List ℕ) (slots : ℕ) (old new : List ℕ) : Type 0 where
-  pub sets : SetsOf table slots new
+  pub put : SetsOf table slots new
   pub last : (s e m : ℕ) → s ≤ slots → e < mostLinks → has (setIn old slots e) m ≡ true → has (setIn new s e) m ≡ true
 
 -- who has link e on the second path of a robust place is in the set
 abbrev pub Through : List ℕ → ℕ → ℕ → Type 0
-Through seconds e set = (m : ℕ) → m < mostMessages → 0 < secondIn seconds e m → has set m ≡ true
+Through seconds e those = (m : ℕ) → m < mostMessages → 0 < secondIn seconds e m → has those m ≡ true
 
 -- the sets of a row may be put so, and are
 pub record MayRow (seconds : List ℕ) (s : ℕ) (sets : List ℕ) : Type 0 where

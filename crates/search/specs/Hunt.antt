@@ -147,7 +147,7 @@ pub record StandAt (row : List ℕ) (n : ℕ) (cuts : List ℕ) (s : ℕ) (ps : 
 
 -- the set of the first n messages that are not at their targets
 abbrev pub AreAway : List Position → ℕ → ℕ → Type 0
-AreAway ps n set = (m : ℕ) → has set m ≡ (ltb m n && not (eqb (getD ps m home .left) 0))
+AreAway ps n those = (m : ℕ) → has those m ≡ (ltb m n && not (eqb (getD ps m home .left) 0))
 
 -- nobody is hit by no pair
 abbrev pub noHits : Hits
