@@ -1,16 +1,16 @@
 -- The loops that put the sets: from the last slot down, over the messages of a link, and over the links of a row.
-use Prim.Native.Nat.{ℕ, zero, suc, _+_, _-_, _*_, _≤_, _<_}
+use Prim.Native.Nat.{ℕ, zero, suc, _+_, _-_, _*_, _/_, _%_, _≤_, _<_}
 use native.Mathlib.Omega.{arith}
-use mathlib.Core.Path.{_≡_, refl, sym, _∙_, ap}
+use mathlib.Core.Path.{_≡_, refl, sym, _∙_, ap, ap₂}
 use mathlib.Core.Bool.{Bool, true, false, not, _||_, or-true}
 use mathlib.Core.List.{List}
 use lib.ListN.{length, getD, set, length-set}
 use lib.Seq.{getD-set-same, getD-set-other}
 use lib.Dec.{eqb}
 use borrow.Author.Count.{below-more}
-use borrow.Author.Tests.{eqb-true, eqb-false, eq-eqb, ne-eqb, lt-ltb}
+use borrow.Author.Tests.{eqb-true, eqb-false, eq-eqb, ne-eqb}
 use Rattle.scope.specs.Limits.{mostSlots, mostLinks, mostMessages, planeSize}
-use Rattle.table.specs.Table.{indexOf}
+use Rattle.table.specs.Table.{indexOf, entryAt, atIndex}
 use Rattle.sets.specs.Sets.{has, IsOneIf, IsNamed, IsEither}
 use Rattle.bound.specs.Seconds.{secondIn}
 use Rattle.bound.specs.Sets.{setIn, StripSetsOf, Gathered, Through, ThroughRow}
@@ -27,7 +27,7 @@ module _ (a b v m : ℕ) (is : IsEither a b v) where
 pub record Gathering (table : List ℕ) (slots : ℕ) (old new : List ℕ) (k : ℕ) : Type 0 where
   pub within : k ≤ slots * mostLinks
   pub long : length new ≡ planeSize
-  pub named : (j m : ℕ) → k ≤ j → j < slots * mostLinks → m < mostMessages → getD table j 0 ≡ m + 1 → has (getD new j 0) m ≡ true
+  pub named : (j m : ℕ) → k ≤ j → j < slots * mostLinks → m < mostMessages → atIndex table j ≡ m + 1 → has (getD new j 0) m ≡ true
   pub next : (j m : ℕ) → k ≤ j → j < slots * mostLinks → has (getD new (j + mostLinks) 0) m ≡ true → has (getD new j 0) m ≡ true
   pub rest : (j : ℕ) → slots * mostLinks ≤ j → getD new j 0 ≡ getD old j 0
 
@@ -43,7 +43,7 @@ module _ (table : List ℕ) (slots : ℕ) (old : List ℕ) where
       }
 
   module _ (new : List ℕ) (k : ℕ) (g : Gathering table slots old new k) (some : 0 < k) (few : slots ≤ mostSlots) (b v : ℕ)
-      (own : IsNamed (getD table (k - 1) 0) b) (is : IsEither (getD new (k - 1 + mostLinks) 0) b v) where
+      (own : IsNamed (atIndex table (k - 1)) b) (is : IsEither (getD new (k - 1 + mostLinks) 0) b v) where
     other : (j : ℕ) → (j ≡ k - 1 → ⊥) → getD (set new (k - 1) v) j 0 ≡ getD new j 0
     other j = getD-set-other new (k - 1) j v 0
 
@@ -60,12 +60,12 @@ module _ (table : List ℕ) (slots : ℕ) (old : List ℕ) where
           rest = λ j h. other j (λ q. omega (arith, g .within)) ∙ g .rest j h;
         }
       where
-        by-name : (j m : ℕ) → k - 1 ≤ j → j < slots * mostLinks → m < mostMessages → getD table j 0 ≡ m + 1 → (t : Bool) → eqb j (k - 1) ≡ t →
+        by-name : (j m : ℕ) → k - 1 ≤ j → j < slots * mostLinks → m < mostMessages → atIndex table j ≡ m + 1 → (t : Bool) → eqb j (k - 1) ≡ t →
             has (getD (set new (k - 1) v) j 0) m ≡ true
         by-name j m h l less e true t =
             let at : j ≡ k - 1 = eqb-true j (k - 1) t in
-            let here : getD table (k - 1) 0 ≡ m + 1 = ap (λ (x : ℕ). getD table x 0) (sym at) ∙ e in
-            rw (at, same) (in-second (getD new (k - 1 + mostLinks) 0) b v m is (own m less ∙ eq-eqb (getD table (k - 1) 0) (m + 1) here))
+            let here : atIndex table (k - 1) ≡ m + 1 = ap (atIndex table) (sym at) ∙ e in
+            rw (at, same) (in-second (getD new (k - 1 + mostLinks) 0) b v m is (own m less ∙ eq-eqb (atIndex table (k - 1)) (m + 1) here))
         by-name j m h l less e false t =
             let not-at : j ≡ k - 1 → ⊥ = eqb-false j (k - 1) t in
             rw (other j not-at) (g .named j m (omega (arith, not-at)) l less e)
@@ -101,7 +101,9 @@ module _ (table : List ℕ) (slots : ℕ) (old : List ℕ) where
                 long = g .long;
                 from = λ s i e m l h he hm is.
                     let d : s + (i - s) ≡ i = omega arith in
-                    let own : getD table (indexOf i e) 0 ≡ m + 1 = rw (lt-ltb i mostSlots (omega arith), lt-ltb e mostLinks he) at is in
+                    let slot : indexOf i e / mostLinks ≡ i = omega (arith, he) in
+                    let link : indexOf i e % mostLinks ≡ e = omega (arith, he) in
+                    let own : atIndex table (indexOf i e) ≡ m + 1 = ap₂ (entryAt table) slot link ∙ is in
                     before (i - s) s e m (omega arith) he
                     (rw d (g .named (indexOf i e) m (omega arith) (omega arith) hm own));
               };

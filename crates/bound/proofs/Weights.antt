@@ -1,7 +1,7 @@
 -- The loops that fill the tables from their last slot: from index k on they are done.
 use Prim.Native.Nat.{ℕ, zero, suc, _+_, _-_, _*_, _/_, _%_, _≤_, _<_}
 use native.Mathlib.Omega.{arith}
-use mathlib.Core.Path.{_≡_, refl, sym, _∙_, ap, ap₂}
+use mathlib.Core.Path.{_≡_, refl, _∙_, ap, ap₂}
 use mathlib.Core.Bool.{Bool, true, false}
 use mathlib.Core.List.{List}
 use lib.ListN.{length, getD, set, replicate, length-set, length-replicate, getD-replicate, List·getD-eq-default}
@@ -10,8 +10,7 @@ use lib.Dec.{ltb, eqb}
 use borrow.Author.Count.{below-more}
 use borrow.Author.Tests.{ltb-true, ltb-false, eqb-true, eqb-false}
 use Rattle.scope.specs.Limits.{mostSlots, mostLinks, planeSize}
-use Rattle.table.specs.Table.{indexOf, entryAt}
-use Rattle.table.proofs.Entries.{entry-is}
+use Rattle.table.specs.Table.{indexOf, entryAt, atIndex}
 use Rattle.sets.specs.Sums.{sumOf, oneIf}
 use Rattle.losses.specs.Touch.{touchedIn}
 use Rattle.bound.specs.Weights.{entriesFrom, below, mostOnLink, ForLinks, OnLinks, Behind, WeighsFrom, Weighs, WeighsStrips, TopOf, Tops}
@@ -36,14 +35,12 @@ module _ (table : List ℕ) (slots : ℕ) where
       rw t (omega (arith, from-more (s + d) e (omega arith), entries-fall s e d (omega arith)))
 
   next-below : (k : ℕ) → slots ≤ mostSlots → k < slots * mostLinks →
-      below table slots k ≡ oneIf (ltb 0 (getD table k 0)) + below table slots (k + mostLinks)
+      below table slots k ≡ oneIf (ltb 0 (atIndex table k)) + below table slots (k + mostLinks)
   next-below k few h =
       let s : k / mostLinks + 1 ≡ (k + mostLinks) / mostLinks = omega arith in
       let e : k % mostLinks ≡ (k + mostLinks) % mostLinks = omega arith in
-      let here : getD table k 0 ≡ entryAt table (k / mostLinks) (k % mostLinks) =
-      entry-is table (k / mostLinks) (k % mostLinks) (omega arith) (omega arith) k (omega arith) in
       from-more (k / mostLinks) (k % mostLinks) (omega arith) ∙
-      ap₂ (λ (x n : ℕ). oneIf (ltb 0 x) + n) (sym here) (ap₂ (entriesFrom table slots) s e)
+      ap (λ (n : ℕ). oneIf (ltb 0 (atIndex table k)) + n) (ap₂ (entriesFrom table slots) s e)
 
   below-past : (k : ℕ) → slots * mostLinks ≤ k → below table slots k ≡ 0
   unfolding sumOf
@@ -115,7 +112,7 @@ module _ (table links : List ℕ) (slots : ℕ) (few : slots ≤ mostSlots) (num
         let next = k - 1 + mostLinks in
         omega (arith, g .is next (omega arith) (omega (arith, g .few)), whole-small next)
 
-    pub weighing-more : (v : ℕ) → 0 < k → v ≡ getD weights (k - 1 + mostLinks) 0 + oneIf (ltb 0 (getD table (k - 1) 0)) →
+    pub weighing-more : (v : ℕ) → 0 < k → v ≡ getD weights (k - 1 + mostLinks) 0 + oneIf (ltb 0 (atIndex table (k - 1))) →
         Weighing table links slots (set weights (k - 1) v) (k - 1)
     weighing-more v h e =
         record {

@@ -27,7 +27,7 @@ fn put_links(links: &[u16], slots: usize, weights: &mut [u16])
 {
     let mut e = 0;
     while e < LINKS {
-        weights[slots * LINKS + e] = links[e];
+        weights[table::index(slots, e)] = links[e];
         e += 1;
     }
 }
@@ -48,7 +48,7 @@ fn weigh_from(table: &[u8], links: &[u16], slots: usize, weights: &mut [u16])
     let mut k = slots * LINKS;
     while 0 < k {
         k -= 1;
-        weights[k] = weights[k + LINKS] + one_if(table[k]);
+        weights[k] = weights[k + LINKS] + one_if(table::entry_at(table, k));
     }
 }
 
@@ -134,7 +134,7 @@ fn top_of(weights: &[u16], s: usize) -> u16
     let mut top = 0u16;
     let mut e = 0;
     while e < LINKS {
-        top = larger(top, weights[s * LINKS + e]);
+        top = larger(top, weights[table::index(s, e)]);
         e += 1;
     }
     top
@@ -264,7 +264,7 @@ fn gather(table: &[u8], slots: usize, sets: &mut [u32])
     let mut k = slots * LINKS;
     while 0 < k {
         k -= 1;
-        sets[k] = sets::either(sets[k + LINKS], sets::named(table[k]));
+        sets[k] = sets::either(sets[k + LINKS], sets::named(table::entry_at(table, k)));
     }
 }
 
@@ -297,7 +297,7 @@ fn through_row(seconds: &[u8], s: usize, sets: &mut [u32])
 {
     let mut e = 0;
     while e < LINKS {
-        sets[s * LINKS + e] = through(seconds, e);
+        sets[table::index(s, e)] = through(seconds, e);
         e += 1;
     }
 }

@@ -27,6 +27,7 @@ use Rattle.sets.proofs.Sets.{has-none}
 use Rattle.losses.specs.Touch.{harm}
 use Rattle.losses.specs.Harmed.{hers, isTouched, stands, away}
 use Rattle.losses.specs.Strips.{strips, isStripped, lost}
+use Rattle.table.specs.Table.{indexOf}
 use Rattle.bound.specs.Sets.{setIn}
 use Rattle.losses.proofs.Parts.{harm-both}
 use Rattle.order.proofs.Parts.{pairs-both}
@@ -75,6 +76,17 @@ covers-none row =
     record {
       touched = λ m l z. absurd (omega (arith, ltb-true 0 0 z));
       stripped = λ m l z. absurd (omega (arith, ltb-true 0 0 z));
+    }
+
+-- with one pair more, from the sets at its index
+pub hit-is : (touchSets stripSets : List ℕ) (old new : Hits) (s e k : ℕ) → k ≡ indexOf s e →
+    IsEither (old .touched) (getD touchSets k 0) (new .touched) → IsEither (old .stripped) (getD stripSets k 0) (new .stripped) →
+    IsHit touchSets stripSets old s e new
+hit-is touchSets stripSets old new s e k p a b =
+    let there : (sets : List ℕ) (m : ℕ) → has (getD sets k 0) m ≡ has (setIn sets s e) m = λ sets m. ap (λ (i : ℕ). has (getD sets i 0) m) p in
+    record {
+      touched = λ m. a m ∙ ap (λ (x : Bool). has (old .touched) m || x) (there touchSets m);
+      stripped = λ m. b m ∙ ap (λ (x : Bool). has (old .stripped) m || x) (there stripSets m);
     }
 
 -- one pair more

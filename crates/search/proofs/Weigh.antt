@@ -76,14 +76,13 @@ module _ (rest : Rest) (most : List ℕ) (need s touches strips : ℕ) where
   pub strips-more : (rest .pairs ≡ 1 → ⊥) → rest .strips + strips ≡ stripsWith rest most need s touches strips
   strips-more other = rw (ne-eqb (rest .pairs) 1 other) refl
 
-pub weighed-is : (rest : Rest) (weights most : List ℕ) (need s e x y z w : ℕ) → x ≡ getD weights (s * mostLinks + e) 0 →
-    y ≡ getD weights (planeSize + (s * mostLinks + e)) 0 → z ≡ getD weights (2 * planeSize + (s * mostLinks + e)) 0 →
-    w ≡ stripsWith rest most need s x y →
+pub weighed-is : (rest : Rest) (weights most : List ℕ) (need s e k x y z w : ℕ) → k ≡ s * mostLinks + e → x ≡ getD weights k 0 →
+    y ≡ getD weights (planeSize + k) 0 → z ≡ getD weights (2 * planeSize + k) 0 → w ≡ stripsWith rest most need s x y →
     _≡_ {A = Loss} (record { touches = rest .touches + x; strips = w; both = rest .both + z }) (lossWith rest weights most need s e)
-weighed-is rest weights most need s e x y z w a b c d =
+weighed-is rest weights most need s e k x y z w p a b c d =
     let i : 0 * planeSize + (s * mostLinks + e) ≡ s * mostLinks + e = omega arith in
     let j : 1 * planeSize + (s * mostLinks + e) ≡ planeSize + (s * mostLinks + e) = omega arith in
-    rw (d, a, b, c, i, j) refl
+    rw (d, a, b, c, p, i, j) refl
 
 -- pairs that are not in a slot before s, since the first is not
 pub not-before : (plan : Plan) → length (plan .links) ≤ mostLinks → (pre x : List ℕ) (d n s : ℕ) → length pre ≡ 2 * d → length x ≡ 2 * n →

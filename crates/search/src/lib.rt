@@ -219,7 +219,7 @@ fn weighed(weights: &[u16], most: &[u16], need: usize, rest: Rest, s: usize, e: 
     requires { ⌜ MayTry (now weights) (now most) need rest s × (e < mostLinks) ⌝ }
     ensures { λ r. ⌜ r ≡ lossWith rest (now (weights .entry)) (now (most .entry)) need s e ⌝ }
 {
-    let k = s * LINKS + e;
+    let k = table::index(s, e);
     let touches = at(weights, k);
     let strips = at(weights, PLANE + k);
     let both = at(weights, 2 * PLANE + k);
@@ -331,7 +331,7 @@ fn hit(touches: &[u32], strips: &[u32], hits: Hits, s: usize, e: usize) -> Hits
     requires { ⌜ MayHit (now touches) (now strips) s e ⌝ }
     ensures { λ r. ⌜ IsHit (now (touches .entry)) (now (strips .entry)) hits s e r ⌝ }
 {
-    let k = s * LINKS + e;
+    let k = table::index(s, e);
     Hits {
         touched: sets::either(hits.touched, touches[k]),
         stripped: sets::either(hits.stripped, strips[k]),

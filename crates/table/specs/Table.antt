@@ -1,5 +1,5 @@
 -- The table as a list of bytes, slot by slot: the message that holds a slot and a link plus one, or 0.
-use Prim.Native.Nat.{ℕ, _+_, _*_, _<_, _≤_}
+use Prim.Native.Nat.{ℕ, _+_, _*_, _/_, _%_, _<_, _≤_}
 use mathlib.Core.Path.{_≡_}
 use mathlib.Core.Bool.{cond, _&&_}
 use mathlib.Core.List.{List}
@@ -18,6 +18,10 @@ indexOf i e = i * mostLinks + e
 -- who has link e in slot i: nobody where the table has no such slot or link
 abbrev pub entryAt : List ℕ → ℕ → ℕ → ℕ
 entryAt table i e = cond (ltb i mostSlots && ltb e mostLinks) (getD table (indexOf i e) 0) 0
+
+-- who has the slot and the link of an index
+abbrev pub atIndex : List ℕ → ℕ → ℕ
+atIndex table k = entryAt table (k / mostLinks) (k % mostLinks)
 
 -- an entry after a place was put: who holds it already keeps it
 abbrev pub marked : ℕ → ℕ → ℕ → ℕ → ℕ → ℕ → ℕ

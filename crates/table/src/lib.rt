@@ -9,11 +9,11 @@ ghost use lib.ListN.{length};
 ghost use Rattle.scope.specs.Limits.{mostSlots, mostLinks, mostMessages, tableSize};
 ghost use Rattle.scope.specs.Plan.{planOf, messageCount};
 ghost use Rattle.scope.specs.Cycle.{tableOf};
-ghost use Rattle.table.specs.Table.{Table, Entered, indexOf, entryAt, marked};
+ghost use Rattle.table.specs.Table.{Table, Entered, indexOf, entryAt, atIndex, marked};
 
-// Where the table has a slot and a link.
-fn index(slot: usize, link: usize) -> usize
-    requires { ⌜ (slot < mostSlots) × (link < mostLinks) ⌝ }
+// Where the table has a slot and a link, and a plane the row of links behind its last slot.
+pub fn index(slot: usize, link: usize) -> usize
+    requires { ⌜ (slot ≤ mostSlots) × (link < mostLinks) ⌝ }
     ensures { λ r. ⌜ r ≡ indexOf slot link ⌝ }
 {
     slot * LINKS + link
@@ -34,6 +34,14 @@ pub fn entry(table: &[u8], slot: usize, link: usize) -> u8
         return table[k];
     }
     if k < table.len() { table[k] } else { 0 }
+}
+
+// Who has the slot and the link of an index.
+pub fn entry_at(table: &[u8], k: usize) -> u8
+    requires { ⌜ (length (now table) ≡ tableSize) × (k < tableSize) ⌝ }
+    ensures { λ r. ⌜ r ≡ atIndex (now (table .entry)) k ⌝ }
+{
+    table[k]
 }
 
 // Puts w at a slot and a link, unless they are held already or the table has no such slot or link.

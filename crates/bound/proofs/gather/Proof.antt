@@ -1,4 +1,7 @@
 -- `bound::gather` meets its contract: from index k on the sets are put. Assumes nothing.
+use Prim.Native.Nat.{ℕ, _+_}
+use mathlib.Core.Path.{_∙_, ap}
+use lib.Dec.{eqb}
 use borrow.Author.Needs.{needs}
 use Rattle.bound.proofs.Gathering.{Gathering, gathering-none, gathering-more, gathering-done}
 use Rattle.bound.proofs.gather.Statement.{statement}
@@ -16,7 +19,8 @@ loop-holds c = gathering-none _ _ _ (c .before .before .pre .long)
 loop-again : tie.Need-loop-again Inv-loop μ-loop
 loop-again c =
     gathering-more _ _ _ _ _ (c .before .before .before .before .before .loop .inv) (c .before .before .before .before .loop-test .taken)
-    (c .before .before .before .before .before .before .before .before .pre .few) _ _ (c .before .named .ensures) (c .either .ensures)
+    (c .before .before .before .before .before .before .before .before .pre .few) _ _
+    (λ n l. c .before .named .ensures n l ∙ ap (λ (w : ℕ). eqb w (n + 1)) (c .before .before .entry-at .ensures)) (c .either .ensures)
 
 returns : tie.Need-returns Inv-loop μ-loop
 returns c = gathering-done _ _ _ _ _ (c .before .loop .inv) (c .loop-test .left) (c .before .before .before .before .pre .few)

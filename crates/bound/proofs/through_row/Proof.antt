@@ -20,15 +20,17 @@ slice-write-sets : tie.Need-slice-write-sets Inv-loop μ-loop
 slice-write-sets c =
     omega (
       arith,
-      c .before .before .loop .inv .long,
-      c .before .loop-test .taken,
-      c .before .before .before .before .before .pre .slot,
+      c .index .ensures,
+      c .before .before .before .loop .inv .long,
+      c .before .before .loop-test .taken,
+      c .before .before .before .before .before .before .pre .slot,
     )
 
 loop-again : tie.Need-loop-again Inv-loop μ-loop
 loop-again c =
-    links-more _ _ _ _ (c .before .before .loop .inv) (c .before .before .before .before .before .pre .slot) (c .before .loop-test .taken) _
-    (c .through .ensures)
+    let s = c .before .before .before in
+    rw (c .index .ensures) (links-more _ _ _ _ (s .loop .inv) (s .before .before .before .pre .slot) (c .before .before .loop-test .taken) _
+    (c .before .through .ensures))
 
 returns : tie.Need-returns Inv-loop μ-loop
 returns c = links-done _ _ _ _ (c .before .loop .inv) (c .loop-test .left)
@@ -36,5 +38,5 @@ returns c = links-done _ _ _ _ (c .before .loop .inv) (c .loop-test .left)
 pub through-row-spec : {M : Type 1} → statement M
 through-row-spec =
     tie.close
-    (tie.spec Inv-loop μ-loop loop-holds (λ c κs. search needs) (λ c. search needs) (λ c. search needs) (λ c. search needs) slice-write-sets
+    (tie.spec Inv-loop μ-loop loop-holds (λ c κs. search needs) (λ c κs. search needs) (λ c. search needs) slice-write-sets
     (λ c. search needs) (λ c. search needs) loop-again (λ c. search needs) returns)

@@ -1,5 +1,9 @@
 -- `bound::weigh_from` meets its contract: from index k on the weights are done.
+use Prim.Native.Nat.{ℕ}
 use native.Mathlib.Omega.{arith}
+use mathlib.Core.Path.{ap}
+use lib.Dec.{ltb}
+use Rattle.sets.specs.Sums.{oneIf}
 use Rattle.bound.proofs.Weights.{Weighing, weighing-none, weighing-small, weighing-more, weighing-done}
 use borrow.Author.Needs.{needs}
 use Rattle.bound.proofs.weigh_from.Statement.{statement}
@@ -28,7 +32,7 @@ loop-again c =
     let d = c .before .before .before .before in
     let s = d .before .before .before .before .before .before .before .before .pre in
     weighing-more _ _ _ (s .0 .few) (s .1) _ _ (d .loop .inv) _ (c .before .before .before .loop-test .taken)
-    (omega (arith, c .one-if .ensures .0))
+    (omega (arith, c .one-if .ensures .0, ap (λ (x : ℕ). oneIf (ltb 0 x)) (c .before .entry-at .ensures)))
 
 returns : tie.Need-returns Inv-loop μ-loop
 returns c =

@@ -6,17 +6,14 @@ use Rattle.search.proofs.weighed.Tie as tie
 
 returns : tie.Need-returns
 returns c =
-    weighed-is (c .before .before .before .before .before .before .before .before .args .rest)
-    (c .before .before .before .before .before .before .before .before .args .weights .now)
-    (c .before .before .before .before .before .before .before .before .args .most .now)
-    (c .before .before .before .before .before .before .before .before .args .need)
-    (c .before .before .before .before .before .before .before .before .args .s)
-    (c .before .before .before .before .before .before .before .before .args .e) _ _ _ _
+    let s = c .before .before .before .before .before .before in
+    let a = s .before .before .before .args in
+    weighed-is (a .rest) (a .weights .now) (a .most .now) (a .need) (a .s) (a .e) _ _ _ _ _ (s .index .ensures)
     (c .before .before .before .before .before .at .ensures .0) (c .before .before .before .before .at2 .ensures .0)
     (c .before .before .before .at3 .ensures .0) (c .before .before .stripped .ensures)
 
 pub weighed-spec : {M : Type 1} → statement M
 weighed-spec =
     tie.close
-    (tie.spec (λ c. search needs) (λ c. search needs) (λ c κs. search needs) (λ c. search needs) (λ c κs. search needs) (λ c. search needs)
-    (λ c. search needs) (λ c κs. search needs) (λ c κs. search needs) (λ c. search needs) (λ c. search needs) returns)
+    (tie.spec (λ c κs. search needs) (λ c κs. search needs) (λ c. search needs) (λ c κs. search needs) (λ c. search needs) (λ c. search needs)
+    (λ c κs. search needs) (λ c κs. search needs) (λ c. search needs) (λ c. search needs) returns)
