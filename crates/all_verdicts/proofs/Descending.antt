@@ -14,11 +14,10 @@ use Rattle.scope.specs.Limits.{mostMessages}
 use Rattle.scope.specs.Plan.{Plan, planOf}
 use Rattle.scope.specs.Cuts.{pairs}
 use Rattle.scope.specs.Cycle.{arrivals}
-use Rattle.scope.specs.Verdict.{Resistant, FirstFailing}
+use Rattle.scope.specs.Verdict.{Fails, Resistant, FirstFailing}
 use Rattle.search.specs.declared.Hunted.{Hunted}
 use Rattle.search.specs.Hunt.{Hunts}
 use Rattle.order.specs.Search.{NoneOf}
-use Rattle.bound.specs.Bounds.{Fails}
 use Rattle.search.proofs.Answer.{all-leave}
 use Rattle.verdicts.specs.declared.Opening.{Opening}
 use Rattle.verdicts.specs.Lent.{MayAskOn}
@@ -37,7 +36,7 @@ zeros-after l size n long past =
 lower-first : (plan : Plan) (k l m : ℕ) (cuts : List ℕ) → FirstFailing plan k l cuts → arrivals plan cuts < m → m ≤ l →
     FirstFailing plan k m cuts
 lower-first plan k l m cuts f h g =
-    record { good = f .good; few = f .few; fails = h; first = λ others good fails. f .first others good (omega arith) }
+    record { good = f .good; few = f .few; answers = h; first = λ others good fails. f .first others good (omega arith) }
 
 lower-resistant : (plan : Plan) (k l m : ℕ) → Resistant plan k l → m ≤ l → Resistant plan k m
 unfolding Resistant
@@ -80,7 +79,7 @@ module _ (row table touchSets stripSets weights most : List ℕ) (o : Opening) (
     front = length-take-le (2 * h .pairs) (h .numbers) (omega (arith, g .hunts .long, g .hunts .few, f .ask .few))
 
     pub less : h .found ≡ true → h .arrivals < l
-    less t = omega (arith, g .hunts .left t, g .hunts .some t .fails)
+    less t = omega (arith, g .hunts .left t, g .hunts .some t .answers)
 
     pub may-put : h .found ≡ true → MayPut (length out) l h
     may-put t =

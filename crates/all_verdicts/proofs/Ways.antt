@@ -13,6 +13,7 @@ use Rattle.scope.specs.declared.Refusal.{Refusal}
 use Rattle.scope.specs.Outcome.{Outcome, gives, refused, refuse, outcomeOf}
 use Rattle.scope.specs.Plan.{Plan, planOf, messageCount}
 use Rattle.scope.specs.Questions.{judge}
+use Rattle.scope.specs.Verdict.{Fails}
 use Rattle.scope.proofs.Order.{first-once, resistant-or-failing}
 use Rattle.rows.proofs.Parts.{message-count}
 use Rattle.scope.proofs.Outcomes.{same-answer}
@@ -62,7 +63,7 @@ pub says-once : (plan : Plan) (k l : ℕ) (a b : List ℕ) → Says plan k l a �
 says-once plan k l a b (inl x) (inl y) = x .is ∙ sym (y .is)
 says-once plan k l a b (inl x) (inr y) = absurd (resistant-or-failing plan k l (y .cuts) (x .resists) (y .first))
 says-once plan k l a b (inr x) (inl y) = absurd (resistant-or-failing plan k l (x .cuts) (y .resists) (x .first))
-says-once plan k l a b (inr x) (inr y) = x .is ∙ ap failing (first-once plan k l (x .cuts) (y .cuts) (x .first) (y .first)) ∙ sym (y .is)
+says-once plan k l a b (inr x) (inr y) = x .is ∙ ap failing (first-once plan (Fails plan l) k (x .cuts) (y .cuts) (x .first) (y .first)) ∙ sym (y .is)
 
 fronts : (plan : Plan) (k : ℕ) (x y : List ℕ) → ((l : ℕ) → l ≤ length (plan .messages) → Says plan k l (seven l x)) →
     ((l : ℕ) → l ≤ length (plan .messages) → Says plan k l (seven l y)) → (n : ℕ) → n ≤ length (plan .messages) + 1 →

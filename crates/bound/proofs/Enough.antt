@@ -5,6 +5,7 @@ use mathlib.Core.Path.{_≡_}
 use mathlib.Core.List.{List, _++_}
 use lib.ListN.{length}
 use Rattle.scope.specs.Outcome.{gives}
+use Rattle.scope.specs.Verdict.{Fails}
 use Rattle.scope.specs.Plan.{Plan}
 use Rattle.scope.specs.Good.{rules}
 use Rattle.scope.specs.Cuts.{pairs, cutSlot, cutLink}
@@ -12,7 +13,7 @@ use Rattle.scope.proofs.Cuts.{slot-below, link-below}
 use Rattle.losses.specs.Touch.{harm, touches}
 use Rattle.losses.specs.Harmed.{hers, isHit, away, harmed, CountsLosses}
 use Rattle.losses.specs.Strips.{strips, bares, bared}
-use Rattle.bound.specs.Bounds.{Fails, weightIn, topIn, frontIn, Enough, BoundOn, Bounds}
+use Rattle.bound.specs.Bounds.{weightIn, topIn, frontIn, Enough, BoundOn, Bounds}
 use Rattle.order.proofs.Parts.{slot-right, link-right, pairs-both}
 use Rattle.sets.proofs.Sums.{sum-le, sum-plus}
 use Rattle.losses.proofs.Touch.{touches-count}

@@ -10,7 +10,6 @@ use Rattle.scope.specs.Limits.{mostSlots, mostMessages, planeSize, frontSize}
 use Rattle.scope.specs.Plan.{Plan}
 use Rattle.table.specs.Table.{indexOf}
 use Rattle.scope.specs.Cuts.{cutLink, isCutList}
-use Rattle.scope.specs.Cycle.{arrivals}
 use Rattle.losses.specs.Touch.{harm}
 use Rattle.losses.specs.Harmed.{harmed, NotBefore}
 use Rattle.losses.specs.Strips.{bared, lost}
@@ -62,7 +61,3 @@ pub record Bounds (plan : Plan) (Answers : List ℕ → Type 0) (need : ℕ) (we
   pub last : OneLast plan Answers need weights most
   pub whole : (cuts : List ℕ) (d s : ℕ) → s ≤ plan .timeout → length cuts ≡ 2 * d → isCutList plan cuts ≡ true → Answers cuts →
       need ≤ lost plan cuts s
-
--- a list that leaves fewer than l arrivals
-abbrev pub Fails : Plan → ℕ → List ℕ → Type 0
-Fails plan l cuts = arrivals plan cuts < l

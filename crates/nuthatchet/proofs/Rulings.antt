@@ -39,7 +39,7 @@ module _ (row : List ℕ) (k l : ℕ) (entry exit : List ℕ) where
       let all : arrivals (planOf row) [] ≡ length (planOf row .messages) = all-arrive-without-cuts (planOf row)
       (good-row row (b .0) (b .1) .keeps) in
       let low : l ≤ length (planOf row .messages) = within (ltb 3 k || ltb (length (planOf row .messages)) l) refl (b .2) in
-      let less : arrivals (planOf row) [] < l = f .fails in
+      let less : arrivals (planOf row) [] < l = f .answers in
       omega arith
 
   some : (n : ℕ) → IsFailing row k l entry exit n → 0 < n

@@ -24,7 +24,7 @@ first-of-A =
     record {
       good = refl;
       few = lit≤ tt;
-      fails = lit< tt;
+      answers = lit< tt;
       first = before-two (planOf rowA) 1 4 4 refl refl (lit≤ tt) 0 0 0 2 refl refl;
     }
 
@@ -35,7 +35,7 @@ first-of-late =
     record {
       good = refl;
       few = lit≤ tt;
-      fails = lit< tt;
+      answers = lit< tt;
       first = before-one (planOf rowLate) 2 3 3 refl refl (lit≤ tt) 2 0 refl;
     }
 
@@ -46,7 +46,7 @@ first-of-order =
     record {
       good = refl;
       few = lit≤ tt;
-      fails = lit< tt;
+      answers = lit< tt;
       first = before-one (planOf rowOrder) 3 4 3 refl refl (lit≤ tt) 0 3 refl;
     }
 

@@ -9,7 +9,7 @@ use borrow.Author.Tests.{ltb-false, le-ltb, eq-eqb}
 use Rattle.scope.specs.Plan.{Plan}
 use Rattle.scope.specs.Cuts.{pairs}
 use Rattle.scope.specs.Cycle.{arrivals}
-use Rattle.scope.specs.Verdict.{earlier, goesBefore, FirstFailing, Resistant}
+use Rattle.scope.specs.Verdict.{earlier, goesBefore, First, FirstFailing, Resistant}
 use Rattle.scope.proofs.Bools.{or-left, or-right}
 
 -- no number comes before itself, and of two numbers of which neither is lower each is the other
@@ -51,13 +51,13 @@ before-total cs ds h k =
     (rw (eq-eqb (pairs cs) (pairs ds) e) at (or-right (ltb (pairs cs) (pairs ds)) (eqb (pairs cs) (pairs ds) && earlier cs ds) h))
     (rw (eq-eqb (pairs ds) (pairs cs) (sym e)) at (or-right (ltb (pairs ds) (pairs cs)) (eqb (pairs ds) (pairs cs) && earlier ds cs) k))
 
--- two answers of a verdict are one
-pub first-once : (plan : Plan) (k l : ℕ) (cs ds : List ℕ) → FirstFailing plan k l cs → FirstFailing plan k l ds → cs ≡ ds
-first-once plan k l cs ds a b =
-    before-total cs ds (b .first cs (a .good) (a .fails)) (a .first ds (b .good) (b .fails))
+-- two answers of a question are one
+pub first-once : (plan : Plan) (Answers : List ℕ → Type 0) (k : ℕ) (cs ds : List ℕ) → First plan Answers k cs → First plan Answers k ds → cs ≡ ds
+first-once plan Answers k cs ds a b =
+    before-total cs ds (b .first cs (a .good) (a .answers)) (a .first ds (b .good) (b .answers))
 
 pub resistant-or-failing : (plan : Plan) (k l : ℕ) (cs : List ℕ) → Resistant plan k l → FirstFailing plan k l cs → ⊥
 unfolding Resistant
 resistant-or-failing plan k l cs r f =
     let enough : l ≤ arrivals plan cs = r cs (f .good) (f .few) in
-    omega (arith, f .fails)
+    omega (arith, f .answers)

@@ -12,6 +12,7 @@ pub mod Cuts
 pub mod Slot
 pub mod Cycle
 pub mod Verdict
+pub mod Capture
 pub mod Spare
 pub mod SecondPath
 pub mod Questions

@@ -26,6 +26,10 @@ tableSize = 4096
 abbrev pub secondsSize : ℕ
 secondsSize = 2048
 
+-- a byte for each slot and message, slot by slot
+abbrev pub crossedSize : ℕ
+crossedSize = 2048
+
 -- a number for each slot and link, slot by slot, and a row of links behind the last slot
 abbrev pub planeSize : ℕ
 planeSize = 4160
@@ -59,6 +63,10 @@ longestBits = 58779
 -- "2 × t × M numbers"
 abbrev pub longestEvents : ℕ
 longestEvents = 4096
+
+-- those of one slot
+abbrev pub slotEvents : ℕ
+slotEvents = 64
 
 -- who has tried which link in a slot: how many have, then a link and a message for each
 abbrev pub triesSize : ℕ

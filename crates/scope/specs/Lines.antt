@@ -11,10 +11,11 @@ use Rattle.scope.specs.declared.Refusal.{Refusal}
 use Rattle.scope.specs.Outcome.{Outcome, gives, refused}
 use Rattle.scope.specs.File.{rowOf}
 use Rattle.scope.specs.Plan.{Plan, Place, planOf}
-use Rattle.scope.specs.Questions.{readFile, replay}
-use Rattle.scope.specs.Cycle.{eventRow, orderOf}
+use Rattle.scope.specs.Questions.{readFile, replay, mayExplain}
+use Rattle.scope.specs.Cycle.{arrivals, eventRow, orderOf}
 use Rattle.scope.specs.Spare.{slackOf}
 use Rattle.scope.specs.Verdict.{Resistant, FirstFailing}
+use Rattle.scope.specs.Capture.{FirstExplaining, Unexplained}
 
 -- "Single spaces part words and numbers"
 abbrev pub space : List ℕ
@@ -116,6 +117,51 @@ cutLines [] = []
 cutLines (i ∷ []) = []
 cutLines (i ∷ e ∷ cuts) = cutLine i e ++ cutLines cuts
 
+-- The capture that the program `explain` reads (document 02, [7]).
+
+-- "lines of three decimals with single spaces": slot, link and message
+abbrev pub tripleLine : ℕ → ℕ → ℕ → List ℕ
+tripleLine i e m = decimal i ++ (space ++ (decimal e ++ (space ++ (decimal m ++ lineFeed))))
+
+-- the index behind the number at index i, and where the second number, the third and the line feed of the line at index i stand
+abbrev pub pastNumber : List ℕ → ℕ → ℕ
+pastNumber text i = i + numberSize text i
+
+abbrev pub secondNumber : List ℕ → ℕ → ℕ
+secondNumber text i = pastNumber text i + 1
+
+abbrev pub thirdNumber : List ℕ → ℕ → ℕ
+thirdNumber text i = pastNumber text (secondNumber text i) + 1
+
+abbrev pub endOfTriple : List ℕ → ℕ → ℕ
+endOfTriple text i = pastNumber text (thirdNumber text i)
+
+-- a line of the right form stands at index i
+abbrev pub isTripleLine : List ℕ → ℕ → Bool
+isTripleLine text i =
+    ltb 0 (numberSize text i) &&
+    eqb (byteAt text (pastNumber text i)) 32 &&
+    ltb 0 (numberSize text (secondNumber text i)) &&
+    eqb (byteAt text (pastNumber text (secondNumber text i))) 32 &&
+    ltb 0 (numberSize text (thirdNumber text i)) &&
+    eqb (byteAt text (endOfTriple text i)) 10
+
+-- the capture of at most so many lines from index i on. A line out of form ends it with a lone number, which is an unfinished triple at that
+-- line's index: refusal 23
+unfoldable pub captureFrom : ℕ → List ℕ → ℕ → List ℕ
+captureFrom zero text i = []
+captureFrom (suc lines) text i =
+    cond (ltb i (length text))
+    (cond (isTripleLine text i)
+    (numberAt text i ∷ numberAt text (secondNumber text i) ∷ numberAt text (thirdNumber text i) ∷
+    captureFrom lines text (endOfTriple text i + 1))
+    (0 ∷ []))
+    []
+
+-- a text has no more lines than bytes
+abbrev pub captureOf : List ℕ → List ℕ
+captureOf text = captureFrom (length text) text 0
+
 -- What the programs print.
 
 -- `refused N place P`
@@ -177,6 +223,36 @@ failingLine k l cuts = decimal k ++ (space ++ (decimal l ++ (spaced cuts ++ line
 pub data VerdictLine (plan : Plan) (k l : ℕ) : List ℕ → Type 0 where
   resistant : Resistant plan k l → VerdictLine plan k l (resistantLine k l)
   failing : {cuts : List ℕ} → FirstFailing plan k l cuts → VerdictLine plan k l (failingLine k l cuts)
+
+-- "its pairs' numbers on one line"
+unfoldable pub parted : List ℕ → List ℕ
+parted [] = []
+parted (n ∷ ns) = decimal n ++ spaced ns
+
+-- `unexplained`
+abbrev pub unexplainedLine : List ℕ
+unexplainedLine = 117 ∷ 110 ∷ 101 ∷ 120 ∷ 112 ∷ 108 ∷ 97 ∷ 105 ∷ 110 ∷ 101 ∷ 100 ∷ 10 ∷ []
+
+-- "its pairs' numbers on one line, then its listing"
+abbrev pub explainedLines : Plan → List ℕ → List ℕ
+explainedLines plan cuts = parted cuts ++ (lineFeed ++ listing (gives (arrivals plan cuts)) plan (eventRow plan cuts))
+
+-- what is said of a capture
+pub data Explanation (plan : Plan) (k : ℕ) (capture : List ℕ) : List ℕ → Type 0 where
+  unexplained : Unexplained plan k capture → Explanation plan k capture unexplainedLine
+  explained : {cuts : List ℕ} → FirstExplaining plan k capture cuts → Explanation plan k capture (explainedLines plan cuts)
+
+-- what the program `explain` prints for a plan file and an input: it "uses k 2"
+unfoldable pub ExplainText : List ℕ → List ℕ → List ℕ → Type 0
+ExplainText file input text = Said (readFile file longestRow)
+  where
+    Asked : Outcome → Type 0
+    Asked (refused r) = text ≡ refusedLine r
+    Asked (gives n) = Explanation (planOf (rowOf file)) 2 (captureOf input) text
+
+    Said : Outcome → Type 0
+    Said (refused r) = text ≡ refusedLine r
+    Said (gives n) = Asked (mayExplain (rowOf file) 2 (captureOf input) 4)
 
 -- "it goes up to k 3 if E × t is at most 64, else to k 1"
 abbrev pub highestK : Plan → ℕ

@@ -12,6 +12,7 @@ use Rattle.scope.specs.Plan.{planOf}
 use Rattle.scope.specs.Good.{rules}
 use Rattle.scope.specs.Cuts.{checkCuts}
 use Rattle.scope.specs.Cycle.{arrivals, eventRow, orderOf}
+use Rattle.scope.specs.Capture.{checkCapture}
 use Rattle.scope.specs.Spare.{slackOf, placeOf, noSecond}
 use Rattle.scope.specs.SecondPath.{shown}
 
@@ -46,6 +47,12 @@ unfoldable pub mayJudge : List ℕ → ℕ → ℕ → ℕ → Outcome
 mayJudge row k l lent =
     andThen (judge row)
     (λ _. cond (ltb 3 k || ltb (length (planOf row .messages)) l) (refuse 11 0) (room (2 * k) lent))
+
+-- what stands before an explanation: refusals 1 to 10; 11, "k above 3"; 23; "then 13, for 2 × k numbers"
+unfoldable pub mayExplain : List ℕ → ℕ → List ℕ → ℕ → Outcome
+mayExplain row k capture lent =
+    andThen (judge row)
+    (λ _. cond (ltb 3 k) (refuse 11 0) (andThen (checkCapture (planOf row) capture) (λ _. room (2 * k) lent)))
 
 -- what stands before a slack: refusals 1 to 10, and 11, "no such message, place or second path"
 unfoldable pub maySpare : List ℕ → ℕ → ℕ → Outcome

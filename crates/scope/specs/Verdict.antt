@@ -1,4 +1,5 @@
--- "Verdict": resistant, the order of lists, and the first failing list. Nothing here says how they are found.
+-- "Verdict": resistant, the order of lists, the first list that answers a question, and the first failing list. Nothing here says how they
+-- are found.
 use Prim.Native.Nat.{ℕ, _<_, _≤_}
 use mathlib.Core.Path.{_≡_}
 use mathlib.Core.Bool.{Bool, true, false, _&&_, _||_}
@@ -23,9 +24,17 @@ earlier (c ∷ cs) (d ∷ ds) = ltb c d || (eqb c d && earlier cs ds)
 unfoldable pub goesBefore : List ℕ → List ℕ → Bool
 goesBefore cuts others = ltb (pairs cuts) (pairs others) || (eqb (pairs cuts) (pairs others) && earlier cuts others)
 
--- "the failing list" that is the answer
-pub record FirstFailing (plan : Plan) (k l : ℕ) (cuts : List ℕ) : Type 0 where
+-- the answer of a question that is asked of lists: of the cut lists of at most k pairs that answer it the one that goes before all others
+pub record First (plan : Plan) (Answers : List ℕ → Type 0) (k : ℕ) (cuts : List ℕ) : Type 0 where
   pub good : isCutList plan cuts ≡ true
   pub few : pairs cuts ≤ k
-  pub fails : arrivals plan cuts < l
-  pub first : (others : List ℕ) → isCutList plan others ≡ true → arrivals plan others < l → goesBefore others cuts ≡ false
+  pub answers : Answers cuts
+  pub first : (others : List ℕ) → isCutList plan others ≡ true → Answers others → goesBefore others cuts ≡ false
+
+-- a list that leaves fewer than l arrivals
+abbrev pub Fails : Plan → ℕ → List ℕ → Type 0
+Fails plan l cuts = arrivals plan cuts < l
+
+-- "the failing list" that is the answer
+abbrev pub FirstFailing : Plan → ℕ → ℕ → List ℕ → Type 0
+FirstFailing plan k l = First plan (Fails plan l) k

@@ -18,6 +18,9 @@ pub const TABLE: usize = SLOTS * LINKS;
 // A byte for each link and message, link by link.
 pub const SECONDS: usize = LINKS * MESSAGES;
 
+// A byte for each slot and message, slot by slot.
+pub const CROSSED: usize = SLOTS * MESSAGES;
+
 // A number for each slot and link, slot by slot, and a row of links behind the last slot; three weights for each.
 pub const PLANE: usize = TABLE + LINKS;
 
@@ -37,6 +40,9 @@ pub const FILE: usize = 7348;
 pub const ROW: usize = 10405;
 
 pub const EVENTS: usize = 2 * SLOTS * MESSAGES;
+
+// Those of one slot.
+pub const SLOT_EVENTS: usize = 2 * MESSAGES;
 
 // Who has tried which link in a slot: how many have, then a link and a message for each.
 pub const TRIES: usize = 2 * MESSAGES + 1;

@@ -10,10 +10,9 @@ use borrow.Author.Tests.{ltb-true, eqb-true}
 use Rattle.scope.specs.Plan.{Plan}
 use Rattle.scope.specs.Cuts.{pairs, isCutList}
 use Rattle.scope.specs.Cycle.{arrivals}
-use Rattle.scope.specs.Verdict.{earlier, goesBefore, Resistant, FirstFailing}
+use Rattle.scope.specs.Verdict.{Fails, earlier, goesBefore, Resistant, FirstFailing}
 use Rattle.scope.proofs.Cuts.{even}
 use Rattle.order.specs.Search.{NoneOf, FirstOf}
-use Rattle.bound.specs.Bounds.{Fails}
 
 pub all-leave : (plan : Plan) (k l : ℕ) → ((i : ℕ) → i < k + 1 → NoneOf plan (Fails plan l) [] i) → Resistant plan k l
 unfolding Resistant
@@ -23,7 +22,7 @@ pub first-failing : (plan : Plan) (k l n : ℕ) (r : List ℕ) → n ≤ k → (
     FirstOf plan (Fails plan l) [] n r → FirstFailing plan k l r
 unfolding goesBefore
 first-failing plan k l n r h fewer f =
-    record { good = f .good; few = omega (arith, count); fails = f .answers; first = λ others good fails. by others good fails }
+    record { good = f .good; few = omega (arith, count); answers = f .answers; first = λ others good fails. by others good fails }
   where
     count : pairs r ≡ n
     count = omega (arith, ap length (f .is), f .long)

@@ -8,6 +8,7 @@ use lib.ListN.{length, take}
 use lib.Dec.{ltb}
 use borrow.Author.Tests.{ltb-true, ltb-false}
 use Rattle.scope.specs.Limits.{mostLinks, mostCuts}
+use Rattle.scope.specs.Verdict.{Fails}
 use Rattle.scope.specs.Plan.{planOf}
 use Rattle.scope.specs.Cuts.{pairs}
 use Rattle.scope.specs.Cycle.{arrivals}
@@ -19,7 +20,6 @@ use Rattle.search.specs.declared.Hits.{Hits}
 use Rattle.search.specs.declared.Found.{Found}
 use Rattle.search.specs.declared.Hunted.{Hunted}
 use Rattle.order.specs.Search.{NoneOf}
-use Rattle.bound.specs.Bounds.{Fails}
 use Rattle.search.specs.Hunt.{noPair, noHits, Seeks, noHunted, Holding, AreAway, MaySeek, Sought, MayHunt, Hunts}
 use Rattle.order.proofs.Pairs.{is-cut-list}
 use Rattle.search.proofs.Answer.{first-failing}

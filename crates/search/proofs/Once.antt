@@ -9,6 +9,7 @@ use lib.Seq.{length-take-le, getD-take, ext-getD}
 use Rattle.scope.specs.Limits.{mostCuts}
 use Rattle.scope.specs.Plan.{planOf}
 use Rattle.scope.specs.Cycle.{arrivals}
+use Rattle.scope.specs.Verdict.{Fails}
 use Rattle.scope.proofs.Order.{first-once, resistant-or-failing}
 use Rattle.order.proofs.Steps.{split}
 use Rattle.search.specs.declared.Hunted.{Hunted}
@@ -27,7 +28,7 @@ module _ (row : List ℕ) (l k : ℕ) (few : k ≤ mostCuts) where
     both-found s t = λ i. record { found = found i; pairs = count i; arrivals = left i; numbers = numbers i }
       where
         same : list g ≡ list h
-        same = first-once (planOf row) k l (list g) (list h) (x .some s) (y .some t)
+        same = first-once (planOf row) (Fails (planOf row) l) k (list g) (list h) (x .some s) (y .some t)
 
         found : g .found ≡ h .found
         found = s ∙ sym t

@@ -8,7 +8,7 @@ use lib.Dec.{ltb, eqb}
 use Rattle.scope.specs.Limits.{mostCuts, mostSlots, mostLinks, planeSize, weightsSize, topsSize}
 use Rattle.scope.specs.Plan.{planOf}
 use Rattle.scope.specs.Cuts.{isCut}
-use Rattle.scope.specs.Verdict.{FirstFailing}
+use Rattle.scope.specs.Verdict.{Fails, FirstFailing}
 use Rattle.scope.specs.Cycle.{orderOf, tableOf, start, positions, arrivals}
 use Rattle.cuts.specs.Down.{isDown}
 use Rattle.table.specs.Table.{entryAt}
@@ -17,7 +17,7 @@ use Rattle.step.specs.declared.Standing.{Standing}
 use Rattle.step.specs.Stand.{home, Become}
 use Rattle.sets.specs.Sets.{has}
 use Rattle.order.specs.Search.{code, Chosen, NoneOf, FirstOf, NoneIn, FirstFrom}
-use Rattle.bound.specs.Bounds.{Fails, weightIn, topIn, frontIn, harmedAndBared, Bounds}
+use Rattle.bound.specs.Bounds.{weightIn, topIn, frontIn, harmedAndBared, Bounds}
 use Rattle.losses.specs.Harmed.{hers, isTouched, harmed}
 use Rattle.losses.specs.Strips.{strips, isStripped, bared}
 use Rattle.bound.specs.Sets.{setIn}

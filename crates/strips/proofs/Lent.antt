@@ -10,6 +10,7 @@ use lib.Dec.{ltb, eqb}
 use borrow.Author.Tests.{eqb-true}
 use Rattle.scope.specs.Limits.{mostSlots, mostLinks, mostMessages}
 use Rattle.scope.specs.Outcome.{gives}
+use Rattle.scope.specs.Verdict.{Fails}
 use Rattle.scope.specs.Plan.{Plan, pathOf}
 use Rattle.scope.specs.Good.{rules}
 use Rattle.scope.specs.Cycle.{tableOf}
@@ -22,7 +23,7 @@ use Rattle.losses.specs.Strips.{fragilePlan, throughRobust, strips, bares}
 use Rattle.bound.specs.Seconds.{secondIn, onLink}
 use Rattle.bound.specs.Weights.{entriesFrom, WeighsAll, TopsAll}
 use Rattle.bound.specs.Sets.{setIn, SetsOf, StripSetsOf}
-use Rattle.bound.specs.Bounds.{Fails, weightIn, Bounds}
+use Rattle.bound.specs.Bounds.{weightIn, Bounds}
 use Rattle.sets.proofs.Sums.{sum-same, sum-fewer, some-test}
 use Rattle.losses.proofs.OneLink.{hers-most, touches-most}
 use Rattle.bound.proofs.Weights.{entries-fall}

@@ -16,6 +16,7 @@ use Rattle.scope.specs.File.{rowOf}
 use Rattle.scope.specs.Plan.{Plan, planOf}
 use Rattle.scope.specs.Questions.{readFile}
 use Rattle.scope.specs.Lines.{VerdictLine, resistant, failing, failingLine, UnderK, VerdictLines, VerdictText, slackLines, refusedLine}
+use Rattle.scope.specs.Verdict.{Fails}
 use Rattle.scope.proofs.Order.{first-once, resistant-or-failing}
 use Rattle.scope.specs.Limits.{longestRow, planRoom}
 use Rattle.text.specs.Text.{laid}
@@ -35,7 +36,7 @@ line-once : (plan : Plan) (k l : ℕ) (a b : List ℕ) → VerdictLine plan k l 
 line-once plan k l _ _ (resistant x) (resistant y) = refl
 line-once plan k l _ _ (resistant x) (failing {cuts} y) = absurd (resistant-or-failing plan k l cuts x y)
 line-once plan k l _ _ (failing {cuts} x) (resistant y) = absurd (resistant-or-failing plan k l cuts y x)
-line-once plan k l _ _ (failing {cuts} x) (failing {cuts = others} y) = ap (failingLine k l) (first-once plan k l cuts others x y)
+line-once plan k l _ _ (failing {cuts} x) (failing {cuts = others} y) = ap (failingLine k l) (first-once plan (Fails plan l) k cuts others x y)
 
 under-once : (plan : Plan) (k : ℕ) (Rest : List ℕ → Type 0) → ((a b : List ℕ) → Rest a → Rest b → a ≡ b) → (l n : ℕ) (a b : List ℕ) →
     UnderK plan k Rest l n a → UnderK plan k Rest l n b → a ≡ b

@@ -14,6 +14,7 @@ use Rattle.scope.specs.Outcome.{gives, refused, refusalAt}
 use Rattle.scope.specs.Plan.{planOf, messageCount}
 use Rattle.scope.specs.Cuts.{pairs}
 use Rattle.scope.specs.Questions.{judge, mayJudge}
+use Rattle.scope.specs.Verdict.{Fails}
 use Rattle.scope.proofs.Order.{first-once, resistant-or-failing}
 use Rattle.rows.proofs.Parts.{message-count}
 use Rattle.plan.specs.Answers.{GoodRow}
@@ -105,7 +106,7 @@ module _ (row : List ℕ) (k l : ℕ) (entry : List ℕ) (g : GoodRow row) where
 module _ (row : List ℕ) (k l : ℕ) (entry exit exit′ : List ℕ) where
   pub failing-once : (n m : ℕ) → IsFailing row k l entry exit n → IsFailing row k l entry exit′ m → (n ≡ m) × (exit ≡ exit′)
   failing-once n m a b =
-      let same : take (2 * n) exit ≡ take (2 * m) exit′ = first-once (planOf row) k l (take (2 * n) exit) (take (2 * m) exit′) (a .list)
+      let same : take (2 * n) exit ≡ take (2 * m) exit′ = first-once (planOf row) (Fails (planOf row) l) k (take (2 * n) exit) (take (2 * m) exit′) (a .list)
       (b .list) in
       let count : n ≡ m = sym (a .count) ∙ ap pairs same ∙ b .count in (
         count,

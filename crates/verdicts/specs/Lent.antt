@@ -4,9 +4,10 @@ use mathlib.Core.Path.{_≡_}
 use mathlib.Core.List.{List, []}
 use lib.ListN.{length}
 use Rattle.scope.specs.Limits.{mostMessages, mostCuts, tableSize, planeSize, weightsSize, topsSize}
+use Rattle.scope.specs.Verdict.{Fails}
 use Rattle.scope.specs.Plan.{planOf}
 use Rattle.order.specs.Search.{NoneOf}
-use Rattle.bound.specs.Bounds.{Fails, Bounds}
+use Rattle.bound.specs.Bounds.{Bounds}
 use Rattle.plan.specs.Answers.{GoodRow}
 use Rattle.search.specs.Hunt.{Playable, Hittable, StandAt}
 use Rattle.verdicts.specs.declared.Opening.{Opening}
