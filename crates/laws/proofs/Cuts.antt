@@ -6,14 +6,16 @@ use mathlib.Core.Bool.{Bool, true, false, _&&_, and-eq-true-iff}
 use mathlib.Core.List.{List, [], _∷_}
 use lib.ListN.{length, length-map, List·getD-map}
 use lib.Dec.{leb}
-use borrow.Author.Tests.{ltb-true, leb-true}
+use borrow.Author.Tests.{ltb-true, leb-true, le-leb}
 use Rattle.scope.specs.Lowest.{seek, lowest}
 use Rattle.scope.specs.Plan.{Plan, Place, pathOf}
 use Rattle.scope.specs.Slot.{onFirst, Event}
 use Rattle.scope.specs.Cuts.{pairs, cutSlot, cutLink, cutsLink, isCut}
 use Rattle.scope.specs.Cycle.{orderOf, tableOf, start, events, positions, arrived, arrivals, eventRow}
 use Rattle.scope.proofs.Lowest.{seek-is}
+use Rattle.scope.proofs.Some.{some-one}
 use Rattle.laws.specs.Untouched.{nothingDown, WholeInTime, NotCutInTime, SameEvent, UntouchedRow, UntouchedByCuts, AllArriveWithoutCuts}
+use Rattle.laws.specs.Named.{Grows}
 use Rattle.laws.proofs.Rows.{events-in-row}
 use Rattle.laws.proofs.Good.{good-rises}
 use Rattle.laws.proofs.Untouched.{untouched, all-arrive}
@@ -28,6 +30,19 @@ cut-pair plan cuts i e h =
     let l : j < pairs cuts = ltb-true j (pairs cuts) h in
     let two = and-eq-true-iff (cutsLink plan (cutLink cuts j) e) (leb (cutSlot cuts j) i) .0 (seek-is test (pairs cuts) 0 (omega arith)) in
     (j, l, two .0, leb-true (cutSlot cuts j) i (two .1))
+
+-- and a link that a pair names, at or before this slot, is cut
+pub is-cut : (plan : Plan) (cuts : List ℕ) (i e j : ℕ) → j < pairs cuts → cutsLink plan (cutLink cuts j) e ≡ true →
+    cutSlot cuts j ≤ i → isCut plan cuts i e ≡ true
+unfolding isCut
+is-cut plan cuts i e j l same early =
+    some-one (λ k. cutsLink plan (cutLink cuts k) e && leb (cutSlot cuts k) i) (pairs cuts) j l (rw (same, le-leb (cutSlot cuts j) i early))
+
+-- so what is cut stays cut
+pub cuts-grow : (plan : Plan) (cuts : List ℕ) → Grows (isCut plan cuts)
+cuts-grow plan cuts i j e l h =
+    let c = cut-pair plan cuts i e h in
+    is-cut plan cuts j e (c .0) (c .1) (c .2) (omega (arith, c .3))
 
 pub not-cut : (plan : Plan) (cuts : List ℕ) (i e : ℕ) →
     ((j : ℕ) → j < pairs cuts → cutsLink plan (cutLink cuts j) e ≡ true → i < cutSlot cuts j) →

@@ -38,7 +38,7 @@ has-first e es = rw (eq-eqb e e refl)
 
 -- message m is held on link e, which the table gives to nobody
 module _ (rank : ℕ → ℕ) (down : ℕ → ℕ → Bool) (owner : ℕ → ℕ → ℕ) (m i e : ℕ) (ps : List Position) where
-  lowest-tries : (f : ℕ) → foremost rank e m 0 (triedIn (down i) ps) ≡ f → (j : ℕ) → triesLink (down i) e j ps ≡ true → rank f ≤ rank j
+  pub lowest-tries : (f : ℕ) → foremost rank e m 0 (triedIn (down i) ps) ≡ f → (j : ℕ) → triesLink (down i) e j ps ≡ true → rank f ≤ rank j
   lowest-tries f is j t =
       let number : getD (triedIn (down i) ps) j 0 ≡ e + 1 =
       tried-at (down i) ps j ∙ eqb-true (tries (down i) (turn (down i) (positionOf j ps))) (e + 1) t in

@@ -17,7 +17,7 @@ use Rattle.laws.proofs.Again.{never-tries-again}
 use Rattle.laws.proofs.Table.{table-gives}
 use Rattle.laws.proofs.Seconds.{no-link-twice}
 
-table-at : (rank : ℕ → ℕ) (down : ℕ → ℕ → Bool) (plan : Plan) → rules plan ≡ gives 0 → (m i : ℕ) →
+pub table-at : (rank : ℕ → ℕ) (down : ℕ → ℕ → Bool) (plan : Plan) → rules plan ≡ gives 0 → (m i : ℕ) →
     TableGivesLeft (tableOf plan) m (positionOf m (positions rank down (tableOf plan) 0 i (start plan)))
 table-at rank down plan g m i =
     table-kept rank down (tableOf plan) m i 0 (start plan)

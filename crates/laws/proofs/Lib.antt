@@ -23,3 +23,6 @@ pub mod Latest
 pub mod Diverted
 pub mod Slack
 pub mod Sharp
+pub mod Sound
+pub mod Near
+pub mod Named

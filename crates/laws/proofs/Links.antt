@@ -91,26 +91,37 @@ crossing rank down owner i tried m e p =
       kind7 = λ f fs h d c. absurd (false≢true c);
     })
 
-given : (owner : ℕ → ℕ → ℕ) (i e m : ℕ) (p : Position) → TableGivesLeft owner m p → CrossesOnFirst i e p → owner i e ≡ m + 1
+pub crossed-in : (rank : ℕ → ℕ) (down : ℕ → ℕ → Bool) (owner : ℕ → ℕ → ℕ) (i e : ℕ) (ps : List Position) (m : ℕ) →
+    crosses e (moveIn rank down owner m i ps .event) ≡ true →
+    CrossesOnFirst i e (positionOf m ps) ⊎ CrossesFree rank (down i) (owner i) e m (triedIn (down i) ps) (positionOf m ps)
+crossed-in rank down owner i e ps m c =
+    crossing rank (down i) (owner i) i (triedIn (down i) ps) m e (positionOf m ps)
+    (subst (λ (v : Moved). crosses e (v .event) ≡ true) (move-at rank down owner i ps m) c)
+
+pub given : (owner : ℕ → ℕ → ℕ) (i e m : ℕ) (p : Position) → TableGivesLeft owner m p → CrossesOnFirst i e p → owner i e ≡ m + 1
 given owner i e m p g c =
     let h : TableGives owner m (c .place ∷ c .rest) = subst (TableGivesLeft owner m) (c .before) g in
     sym (ap₂ owner (c .slot) (c .link)) ∙ h .0
+
+-- nobody who goes first on a link has a higher rank than one that crosses it
+pub first-lower : (rank : ℕ → ℕ) (down : ℕ → Bool) (owner : ℕ → ℕ) (e a b : ℕ) (ps : List Position) →
+    CrossesFree rank down owner e b (triedIn down ps) (positionOf b ps) → rank (foremost rank e a 0 (triedIn down ps)) ≤ rank b
+first-lower rank down owner e a b ps d =
+    let whole = d .whole in
+    let tried : tries down (onSecond (e ∷ d .rest)) ≡ e + 1 = rw whole in
+    let t : getD (triedIn down ps) b 0 ≡ e + 1 = tried-at down ps b ∙ ap (tries down) (d .before) ∙ tried in
+    let z : 0 + b ≡ b = omega arith in
+    subst (λ (x : ℕ). rank (foremost rank e a 0 (triedIn down ps)) ≤ rank x) z (foremost-low rank e (triedIn down ps) a 0 b t)
 
 -- of two that cross a free link neither has the lower rank
 no-lower : (rank : ℕ → ℕ) (down : ℕ → Bool) (owner : ℕ → ℕ) (e a b : ℕ) (ps : List Position) →
     CrossesFree rank down owner e a (triedIn down ps) (positionOf a ps) → CrossesFree rank down owner e b (triedIn down ps) (positionOf b ps) →
     rank a ≤ rank b
-no-lower rank down owner e a b ps c d =
-    let whole = d .whole in
-    let tried : tries down (onSecond (e ∷ d .rest)) ≡ e + 1 = rw whole in
-    let t : getD (triedIn down ps) b 0 ≡ e + 1 = tried-at down ps b ∙ ap (tries down) (d .before) ∙ tried in
-    let z : 0 + b ≡ b = omega arith in
-    let low : rank (foremost rank e a 0 (triedIn down ps)) ≤ rank b =
-    subst (λ (x : ℕ). rank (foremost rank e a 0 (triedIn down ps)) ≤ rank x) z (foremost-low rank e (triedIn down ps) a 0 b t) in
-    omega (arith, c .first)
+no-lower rank down owner e a b ps c d = omega (arith, c .first, first-lower rank down owner e a b ps d)
 
 pub at-most-one-crosses : AtMostOneCrosses
 at-most-one-crosses rank down owner i e a b ps differ ga gb ca cb =
+    let crossed = crossed-in rank down owner i e ps in
     ⊎-elim
     (λ x. ⊎-elim
     (λ y. omega (arith, given owner i e a (positionOf a ps) ga x, given owner i e b (positionOf b ps) gb y))
@@ -119,9 +130,3 @@ at-most-one-crosses rank down owner i e a b ps differ ga gb ca cb =
     (λ y. absurd (omega (arith, given owner i e b (positionOf b ps) gb y, x .free)))
     (λ y. differ (omega (arith, no-lower rank (down i) (owner i) e a b ps x y, no-lower rank (down i) (owner i) e b a ps y x))) (crossed b cb))
     (crossed a ca)
-  where
-    crossed : (m : ℕ) → crosses e (moveIn rank down owner m i ps .event) ≡ true →
-        CrossesOnFirst i e (positionOf m ps) ⊎ CrossesFree rank (down i) (owner i) e m (triedIn (down i) ps) (positionOf m ps)
-    crossed m c =
-        crossing rank (down i) (owner i) i (triedIn (down i) ps) m e (positionOf m ps)
-        (subst (λ (v : Moved). crosses e (v .event) ≡ true) (move-at rank down owner i ps m) c)

@@ -5,3 +5,4 @@ pub mod Untouched
 pub mod Links
 pub mod Diverted
 pub mod Sharp
+pub mod Named

@@ -1,20 +1,19 @@
 -- A list in two parts: what its pairs weigh, and what it cuts before the second part begins.
-use Prim.Native.Nat.{ℕ, zero, suc, _+_, _-_, _*_, _≤_, _<_}
+use Prim.Native.Nat.{ℕ, zero, suc, _+_, _-_, _*_, _<_}
 use native.Mathlib.Omega.{arith}
 use mathlib.Core.Path.{_≡_, refl, sym, _∙_, ap, ap₂}
-use mathlib.Core.Bool.{Bool, true, false, _&&_, true≢false}
+use mathlib.Core.Bool.{Bool, true, false, true≢false}
 use mathlib.Core.List.{List, _++_}
 use lib.ListN.{length, length-append}
-use lib.Dec.{ltb, leb}
-use borrow.Author.Tests.{ltb-true, ltb-false, le-leb}
+use lib.Dec.{ltb}
+use borrow.Author.Tests.{ltb-true, ltb-false}
 use Rattle.scope.specs.Plan.{Plan}
 use Rattle.scope.specs.Cuts.{pairs, cutSlot, cutLink, cutsLink, isCut}
-use Rattle.laws.proofs.Cuts.{cut-pair, not-cut}
+use Rattle.laws.proofs.Cuts.{cut-pair, is-cut, not-cut}
 use Rattle.sets.specs.Sums.{sumOf}
 use Rattle.losses.specs.Touch.{harm}
 use Rattle.losses.specs.Harmed.{NotBefore}
 use Rattle.sets.proofs.Sums.{sum-same}
-use Rattle.scope.proofs.Some.{some-one}
 use Rattle.order.proofs.Parts.{slot-left, link-left, slot-right, link-right}
 
 module _ (weight : ℕ → ℕ → ℕ) (pre x : List ℕ) (d : ℕ) (long : length pre ≡ 2 * d) where
@@ -31,13 +30,6 @@ module _ (weight : ℕ → ℕ → ℕ) (pre x : List ℕ) (d : ℕ) (long : len
       let last : weight (cutSlot (pre ++ x) (d + n)) (cutLink (pre ++ x) (d + n)) ≡ weight (cutSlot x n) (cutLink x n) =
       ap₂ weight (slot-right pre x d long n) (link-right pre x d long n) in
       rw e (omega (arith, harm-both n, last))
-
--- a link that a pair names, at or before this slot
-is-cut : (plan : Plan) (cuts : List ℕ) (i e j : ℕ) → j < pairs cuts → cutsLink plan (cutLink cuts j) e ≡ true →
-    cutSlot cuts j ≤ i → isCut plan cuts i e ≡ true
-unfolding isCut
-is-cut plan cuts i e j l same early =
-    some-one (λ k. cutsLink plan (cutLink cuts k) e && leb (cutSlot cuts k) i) (pairs cuts) j l (rw (same, le-leb (cutSlot cuts j) i early))
 
 -- before slot s a list cuts what its first part does
 pub cut-before : (plan : Plan) (pre x : List ℕ) (d n s : ℕ) → length pre ≡ 2 * d → length x ≡ 2 * n → NotBefore s x n → (i e : ℕ) → i < s →
