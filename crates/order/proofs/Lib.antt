@@ -3,3 +3,4 @@ pub mod Pairs
 pub mod Prefix
 pub mod Before
 pub mod Steps
+pub mod First

@@ -1,0 +1,68 @@
+-- The pairs picked so far, as a list; what they hold, and where the messages stand under them.
+use Prim.Native.Nat.{ℕ, _+_, _*_, _≤_, _<_}
+use mathlib.Core.Path.{_≡_}
+use mathlib.Core.List.{List}
+use lib.ListN.{length, getD, take, set, replicate}
+use Rattle.scope.specs.Limits.{mostCuts, mostSlots, mostLinks}
+use Rattle.scope.specs.Plan.{planOf}
+use Rattle.scope.specs.Cuts.{isCut}
+use Rattle.scope.specs.Cycle.{orderOf, tableOf, start, positions}
+use Rattle.cuts.specs.Down.{isDown}
+use Rattle.table.specs.Table.{entryAt}
+use Rattle.step.specs.declared.Standing.{Standing}
+use Rattle.step.specs.Stand.{Become}
+use Rattle.order.specs.Search.{code, Chosen}
+use Rattle.picks.specs.declared.Sizes.{Sizes}
+use Rattle.picks.specs.declared.Picked.{Picked}
+
+-- the pairs picked, as a list
+abbrev pub cutsOf : Picked → List ℕ
+cutsOf p = take (2 * p .count) (p .numbers)
+
+-- with one pair more
+abbrev pub withPair : Picked → ℕ → ℕ → Picked
+withPair p s e =
+    record {
+      count = p .count + 1;
+      slot = s;
+      link = e + 1;
+      numbers = set (set (p .numbers) (2 * p .count) s) (2 * p .count + 1) e;
+      down = set (p .down) e 1;
+    }
+
+-- no pair
+abbrev pub noPair : Picked
+noPair = record { count = 0; slot = 0; link = 0; numbers = replicate (2 * mostCuts) 0; down = replicate mostLinks 0 }
+
+-- the sizes are those of the plan of a row, and the table is that plan's
+pub record Playable (row table : List ℕ) (z : Sizes) : Type 0 where
+  pub timeout : z .timeout ≡ planOf row .timeout
+  pub short : z .timeout ≤ mostSlots
+  pub links : z .links ≡ length (planOf row .links)
+  pub few : z .links ≤ mostLinks
+  pub messages : z .messages ≡ length (planOf row .messages)
+  pub owner : (i : ℕ) → i < mostSlots → entryAt table i ≡ tableOf (planOf row) i
+
+-- the pairs picked are a cut list, none of them is later than the last one's slot, and from there on their links are down
+pub record Holding (row : List ℕ) (z : Sizes) (p : Picked) : Type 0 where
+  pub long : length (p .numbers) ≡ 2 * mostCuts
+  pub slot : p .slot ≤ z .timeout
+  pub link : p .link ≤ z .links
+  pub chosen : Chosen (planOf row) (cutsOf p) (p .count) (code (p .slot) (p .link))
+  pub size : length (p .down) ≡ mostLinks
+  pub down : (i e : ℕ) → p .slot ≤ i → isDown (p .down) e ≡ isCut (planOf row) (cutsOf p) i e
+  pub past : (i : ℕ) → 2 * p .count ≤ i → getD (p .numbers) i 0 ≡ 0
+
+-- the messages stand where they do at time s under a cut list
+pub record StandAt (row : List ℕ) (n : ℕ) (cuts : List ℕ) (s : ℕ) (ps : Standing) : Type 0 where
+  pub time : ps .time .0 ≡ s
+  pub next : Become row n (positions (orderOf (planOf row)) (isCut (planOf row) cuts) (tableOf (planOf row)) 0 s (start (planOf row)))
+      (ps .positions)
+
+-- the list picked may be played one slot on
+pub record MayAdvance (row table : List ℕ) (z : Sizes) (ps : Standing) (p : Picked) : Type 0 where
+  pub play : Playable row table z
+  pub holding : Holding row z p
+  pub stand : StandAt row (z .messages) (cutsOf p) (ps .time .0) ps
+  pub from : p .slot ≤ ps .time .0
+  pub early : ps .time .0 < z .timeout
