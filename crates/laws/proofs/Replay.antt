@@ -87,7 +87,7 @@ pub lengths-kept : LengthsKept
 lengths-kept = record { ofSlot = length-slot; ofPositions = length-positions; ofEvents = length-events }
 
 -- what is down in the slots played
-slot-agrees : (rank : ℕ → ℕ) (down other : ℕ → ℕ → Bool) (owner : ℕ → ℕ → ℕ) (i : ℕ) (ps : List Position) →
+pub slot-agrees : (rank : ℕ → ℕ) (down other : ℕ → ℕ → Bool) (owner : ℕ → ℕ → ℕ) (i : ℕ) (ps : List Position) →
     ((e : ℕ) → down i e ≡ other i e) → slot rank down owner i ps ≡ slot rank other owner i ps
 unfolding slot
 slot-agrees rank down other owner i ps same =

@@ -11,9 +11,9 @@ use Rattle.scope.specs.Limits.{mostLinks}
 use Rattle.scope.specs.Plan.{Plan}
 use Rattle.scope.specs.Cuts.{pairs, cutSlot, cutLink, pairBefore, falls, badPair, isCutList}
 use Rattle.scope.proofs.Cuts.{slot-below, link-below, rising, once, even}
-use Rattle.order.specs.Search.{code, codeAt}
+use Rattle.order.specs.Search.{code, codeAt, NotBefore}
 use Rattle.scope.proofs.Some.{none, none-below}
-use Rattle.order.proofs.Parts.{slot-left, link-left, slot-right, link-right}
+use Rattle.order.proofs.Parts.{slot-left, link-left, slot-right, link-right, pairs-both}
 
 -- pairs rise as their codes do
 pub code-before : (a b c d : ℕ) → b < mostLinks → d < mostLinks → pairBefore a b c d ≡ true → code a b < code c d
@@ -96,6 +96,15 @@ module _ (plan : Plan) (small : length (plan .links) ≤ mostLinks) (cuts : List
       let a = link-below plan cuts good (i + n) (omega arith) in
       let b = link-below plan cuts good (i + n + 1) (omega arith) in
       rw e (omega arith)
+
+-- pairs of a cut list that are not in a slot before s, since the first of them is not
+pub not-before : (plan : Plan) → length (plan .links) ≤ mostLinks → (pre x : List ℕ) (d n s : ℕ) → length pre ≡ 2 * d → length x ≡ 2 * n →
+    isCutList plan (pre ++ x) ≡ true → s ≤ cutSlot x 0 → NotBefore s x n
+not-before plan links pre x d n s long rest good first j h =
+    let z : d + 0 ≡ d = omega arith in
+    let from = slots-from plan links (pre ++ x) good d j (omega (arith, pairs-both pre x d long n rest)) in
+    let here : cutSlot (pre ++ x) d ≡ cutSlot x 0 = rw z at (slot-right pre x d long 0) in
+    omega (arith, from, here, slot-right pre x d long j)
 
 -- the pair after a part of a cut list
 pub record Next (plan : Plan) (pre : List ℕ) (d a b : ℕ) : Type 0 where

@@ -16,6 +16,10 @@ code s e = s * mostLinks + e
 abbrev pub codeAt : List ℕ → ℕ → ℕ
 codeAt cuts j = code (cutSlot cuts j) (cutLink cuts j)
 
+-- no pair of the first n is in a slot before s
+abbrev pub NotBefore : ℕ → List ℕ → ℕ → Type 0
+NotBefore s cuts n = (j : ℕ) → j < n → s ≤ cutSlot cuts j
+
 -- d pairs are chosen, and the next one has code `lo` or a higher one
 pub record Chosen (plan : Plan) (pre : List ℕ) (d lo : ℕ) : Type 0 where
   pub long : length pre ≡ 2 * d
