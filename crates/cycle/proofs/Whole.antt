@@ -11,7 +11,7 @@ use Rattle.table.specs.Table.{entryAt}
 use Rattle.cuts.specs.Down.{cutBelow, DownIn}
 use Rattle.step.specs.declared.Standing.{Standing}
 use Rattle.step.specs.Stand.{positionsOf}
-use Rattle.step.specs.Slot.{downNow, inSlot, GoesOn}
+use Rattle.step.specs.Slot.{downNow, inSlot, GoesAndTells}
 use Rattle.cycle.specs.Play.{doIn, endsWith, tells, Begins, Done, MayRun, Ran, MayPlay, Played}
 use Rattle.cycle.proofs.Agree.{slot-same}
 use Rattle.cycle.proofs.Slots.{events-length}
@@ -23,16 +23,16 @@ module _ (row table cuts down : List ℕ) (i : ℕ) (d : DownIn cuts i down) whe
       slot-same (orderOf (planOf row)) (downNow down) (cutBelow (planOf row) cuts) (entryAt table) (entryAt table) i ps
       (fun-ext (λ e. d .is (planOf row) e)) refl
 
-  pub done-by : (n : ℕ) (s r : Standing) (buffer out : List ℕ) → GoesOn row table down n i s r →
-      out ≡ numbers (inSlot row table down i (positionsOf row n (s .positions))) ++ drop (2 * n) buffer →
+  pub done-by : (n : ℕ) (s r : Standing) (buffer out : List ℕ) → GoesAndTells row table down n i s r buffer out →
       Done row n i (doIn row table cuts i (positionsOf row n (s .positions))) buffer out r
-  done-by n s r buffer out g e =
+  done-by n s r buffer out t =
       let same = do-same (positionsOf row n (s .positions)) in
+      let g = t .goes in
       record {
         time = g .time;
         long = g .long;
         next = record { is = g .moves .next .is ∙ ap nexts same; stand = g .moves .next .stand };
-        events = e ∙ ap (λ ms. numbers ms ++ drop (2 * n) buffer) same;
+        events = t .events ∙ ap (λ ms. numbers ms ++ drop (2 * n) buffer) same;
       }
 
 pub start-is : (row : List ℕ) → map S.onFirst (messagesAt row (firstMessage row) (messageCount row)) ≡ start (planOf row)

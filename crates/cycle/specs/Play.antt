@@ -11,7 +11,6 @@ use Rattle.table.specs.Table.{entryAt}
 use Rattle.cuts.specs.Down.{cutBelow}
 use Rattle.step.specs.declared.Standing.{Standing}
 use Rattle.step.specs.Stand.{Stand, Become}
-use Rattle.step.specs.Slot.{MayGo}
 
 -- n messages of a row may start: what they take of the row ends below index 65536
 pub record MayStart (row : List ℕ) (n : ℕ) : Type 0 where
@@ -34,12 +33,7 @@ endsWith row table cuts i n ps = positions (orderOf (planOf row)) (cutBelow (pla
 abbrev pub tells : List ℕ → List ℕ → List ℕ → ℕ → ℕ → List S.Position → List ℕ
 tells row table cuts i n ps = events (orderOf (planOf row)) (cutBelow (planOf row) cuts) (entryAt table) i n ps
 
--- n messages may go through slot i, with room for their events
-pub record MayRunSlot (row : List ℕ) (n : ℕ) (s : Standing) (i room : ℕ) : Type 0 where
-  pub go : MayGo row n s i
-  pub enough : 2 * n ≤ room
-
--- they have: where they stand at the next time, and their events at the front of a buffer
+-- n messages have gone through slot i: where they stand at the next time, and their events at the front of a buffer
 pub record Done (row : List ℕ) (n i : ℕ) (ms : List S.Moved) (buffer r : List ℕ) (s : Standing) : Type 0 where
   pub time : s .time .0 ≡ i + 1
   pub long : length (s .positions) ≡ mostMessages

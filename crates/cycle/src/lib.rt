@@ -18,7 +18,8 @@ ghost use Rattle.scope.specs.Plan.{messagesAt, firstMessage};
 ghost use Rattle.scope.specs.Slot.{onFirst};
 ghost use Rattle.scope.specs.Cycle.{arrived};
 ghost use Rattle.step.specs.Stand.{positionsOf, Become};
-ghost use Rattle.cycle.specs.Play.{doIn, endsWith, tells, MayStart, Begins, MayRunSlot, Done, MayRun, Ran, MayPlay, Played};
+ghost use Rattle.step.specs.Slot.{MayTell};
+ghost use Rattle.cycle.specs.Play.{doIn, endsWith, tells, MayStart, Begins, Done, MayRun, Ran, MayPlay, Played};
 
 // One where a position is at its target, else 0.
 fn home_one(p: Position) -> usize
@@ -96,13 +97,12 @@ fn run_slot(
     cuts: &[u16],
     out: &mut [u16],
 ) -> Standing
-    requires { ⌜ MayRunSlot (now row) n standing (i .0) (length (now out)) ⌝ }
+    requires { ⌜ MayTell (now row) n standing (i .0) (length (now out)) ⌝ }
     ensures { λ r. ⌜ Done (now (row .entry)) n (i .0) (doIn (now (row .entry)) (now (table .entry)) (now (cuts .entry)) (i .0)
         (positionsOf (now (row .entry)) n (standing .positions))) (now (out .entry)) (now (out .exit)) r ⌝ }
 {
     let down = cuts::down_in(cuts, i.number());
-    standing.tell(i, n, row, table, &down, out);
-    standing.after(i, n, row, table, &down)
+    standing.told(i, n, row, table, &down, out)
 }
 
 // All slots up to the timeout, with the row of events at the front of `out`.

@@ -8,7 +8,7 @@ pub mod Moves
 pub mod Pass
 pub mod Acting
 pub mod Passing
-pub mod Telling
 pub mod Moving
+pub mod Telling
 pub mod Again
 pub mod Walking

@@ -10,11 +10,11 @@ use lib.ListN.{length, getD, drop, set, length-drop, drop-of-length-le}
 use lib.Seq.{set-getD, getD-drop, drop-cons, ext-getD}
 use Rattle.scope.specs.Plan.{planOf}
 use Rattle.scope.specs.Slot as S
-use Rattle.scope.specs.Cycle.{nexts}
+use Rattle.scope.specs.Cycle.{orderOf, slot, nexts}
 use Rattle.step.specs.declared.Position.{Position}
 use Rattle.step.specs.Where.{positionOf}
 use Rattle.step.specs.Stand.{home, positionsOf}
-use Rattle.step.specs.Pass.{triers, MayAct, MovesIn, MayMoveAll, MovesAll}
+use Rattle.step.specs.Pass.{triers, does, MayAct, MovesIn, MayMoveAll, MovesAll}
 use Rattle.step.proofs.Going.{nextFrom, Going, going-none, going-fits, going-more, going-done}
 use Rattle.step.proofs.Acting.{home-does, home-tried}
 use Rattle.step.proofs.Pass.{pass-slot}
@@ -68,15 +68,19 @@ module _ {row : List ℕ} {down : ℕ → ℕ → Bool} {owner : ℕ → ℕ →
   here : m < n → getD new m home ≡ getD old m home
   here h = g .going .walk .rest m (omega arith)
 
+  -- and it does what the pass says
+  pub moving-at : (d : S.Moved) → m < n → getD (passes row (down i) (owner i) i n old tried₀) m d ≡
+      does (down i) (owner i) i tried m (positionOf row (getD new m home))
+  moving-at d h = passing-at (g .passing) d h ∙ ap (λ p. does (down i) (owner i) i tried m (positionOf row p)) (sym (here h))
+
   pub moving-more : (q : Position) (tried′ : List ℕ) → m < n → MovesIn row (down i) (owner i) i (getD new m home) m tried tried′ q →
       Moving row down owner i n old tried₀ (m + 1) (set new m q) tried′
   moving-more q tried′ h s =
-      let e = passing-at (g .passing) nobody h in
       let f : positionOf row (getD new m home) ≡ positionOf row (getD old m home) = ap (positionOf row) (here h) in
       record {
         passing = passing-more (g .passing) tried′ h (rw f at (s .noted));
         going =
-            going-more (g .going) q h (record { is = (rw f at (s .next .is)) ∙ ap (λ x. x .next) (sym e); within = s .next .within });
+            going-more (g .going) q h (record { is = s .next .is ∙ ap (λ x. x .next) (sym (moving-at nobody h)); within = s .next .within });
         none = g .none;
         early = g .early;
       }
@@ -92,16 +96,20 @@ module _ {row : List ℕ} {down : ℕ → ℕ → Bool} {owner : ℕ → ℕ →
       }) in
       rw (set-getD new m home) at s
 
+  -- the pass is the slot
+  pub moving-slot : passes row (down i) (owner i) i n old tried₀ ≡ slot (orderOf (planOf row)) down owner i (positionsOf row n old)
+  moving-slot =
+      pass-slot (planOf row) down owner i tried₀ (positionsOf row n old) (g .none) (g .passing .room)
+      (omega (arith, g .passing .most, stands-length (g .passing)))
+
   pub moving-done : n ≤ m → MovesAll row n down owner i old new tried₀ tried
   moving-done h =
       let all = passes row (down i) (owner i) i n old tried₀ in
       let b = going-done (g .going) h in
       let l : length (positionsOf row n old) ≡ n = stands-length (g .passing) in
       let k : length all ≡ n = all-length (g .passing) in
-      let s =
-      pass-slot (planOf row) down owner i tried₀ (positionsOf row n old) (g .none) (g .passing .room) (omega (arith, g .passing .most)) in
       record {
-        next = record { is = b .is ∙ nexts-from all nobody 0 (positionsOf row n old) (omega arith) ∙ ap nexts s; stand = b .stand };
+        next = record { is = b .is ∙ nexts-from all nobody 0 (positionsOf row n old) (omega arith) ∙ ap nexts moving-slot; stand = b .stand };
         rest =
             ext-getD home (drop n new) (drop n old) (length-drop n new ∙ (omega (arith, g .going .walk .long, length-drop n old)))
             (λ j a. getD-drop n new j home ∙ g .going .walk .rest (n + j) (omega (arith, g .passing .few)) ∙ sym (getD-drop n old j home));

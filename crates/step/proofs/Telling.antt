@@ -1,4 +1,4 @@
--- The loop that tells the events of a slot: those of the first m messages stand at the front of a buffer.
+-- The loop that moves the messages of a slot and tells its events: those of the first m messages stand at the front of a buffer.
 use Prim.Native.Nat.{ℕ, zero, suc, _+_, _-_, _*_, _≤_, _<_}
 use mathlib.Core.Path.{_≡_, refl, sym, _∙_, ap}
 use mathlib.Core.Bool.{Bool}
@@ -7,7 +7,6 @@ use native.Mathlib.Numerals.{add-one}
 use native.Mathlib.Omega.{arith}
 use lib.ListN.{length, getD, take, drop, set, length-append, length-drop}
 use lib.Seq.{length-take-le, take-suc, take-all, drop-cons, append-snoc, set-at}
-use Rattle.scope.specs.Limits.{mostMessages, triesSize}
 use Rattle.scope.specs.Plan.{planOf}
 use Rattle.scope.specs.Slot as S
 use Rattle.scope.specs.Cycle.{orderOf, slot, numbers}
@@ -15,11 +14,12 @@ use Rattle.step.specs.declared.Position.{Position}
 use Rattle.step.specs.declared.Moved.{Moved}
 use Rattle.step.specs.Events.{eventOf}
 use Rattle.step.specs.Where.{positionOf}
-use Rattle.step.specs.Stand.{home, positionsOf}
-use Rattle.step.specs.Pass.{triers, pass, ActsIn}
+use Rattle.step.specs.Stand.{home, positionsOf, MovesAndTells}
+use Rattle.step.specs.Pass.{MayMoveAll, ActsIn}
 use Rattle.step.proofs.Moves.{numbers-length}
-use Rattle.step.proofs.Pass.{pass-slot}
-use Rattle.step.proofs.Passing.{passes, Passing, passing-none, passing-at, passing-more, stands-length, all-length}
+use Rattle.step.proofs.Acting.{moves-by}
+use Rattle.step.proofs.Passing.{passes, all-length}
+use Rattle.step.proofs.Moving.{Moving, moving-none, moving-at, moving-more, moving-slot, moving-done}
 
 -- one more number at the front of a buffer
 put-one : (w out : List ℕ) (k v : ℕ) → k < length w → k < length out → v ≡ getD w k 0 →
@@ -56,63 +56,63 @@ number-at (x ∷ ms) (suc m) d h =
     let e : 2 * suc m + 1 ≡ suc (suc (2 * m + 1)) = omega arith in
     rw e (number-at ms m d (omega arith))
 
-module _ (row : List ℕ) (down : ℕ → ℕ → Bool) (owner : ℕ → ℕ → ℕ) (i n : ℕ) (ps : List Position) (tried₀ buffer : List ℕ) where
-  pub record Telling (m : ℕ) (tried out : List ℕ) : Type 0 where
-    pub passing : Passing row (down i) (owner i) i n ps tried₀ m tried
+module _ (row : List ℕ) (down : ℕ → ℕ → Bool) (owner : ℕ → ℕ → ℕ) (i n : ℕ) (old : List Position) (tried₀ buffer : List ℕ) where
+  pub record Telling (m : ℕ) (new : List Position) (tried out : List ℕ) : Type 0 where
+    pub moving : Moving row down owner i n old tried₀ m new tried
     pub room : 2 * n ≤ length buffer
-    pub none : triers tried₀ ≡ 0
-    pub written : out ≡ take (2 * m) (numbers (pass (down i) (owner i) i tried₀ 0 (positionsOf row n ps))) ++ drop (2 * m) buffer
+    pub written : out ≡ take (2 * m) (numbers (passes row (down i) (owner i) i n old tried₀)) ++ drop (2 * m) buffer
 
-  pub telling-none : n ≤ mostMessages → n ≤ length ps → triesSize ≤ length tried₀ → triers tried₀ ≡ 0 → 2 * n ≤ length buffer →
-      Telling 0 tried₀ buffer
-  telling-none a b c d e =
-      record { passing = passing-none row (down i) (owner i) i n ps tried₀ a b c d; room = e; none = d; written = refl }
+  pub telling-none : MayMoveAll row old n i tried₀ → 2 * n ≤ length buffer → Telling 0 old tried₀ buffer
+  telling-none a e = record { moving = moving-none row down owner i n old tried₀ a; room = e; written = refl }
 
-module _ {row : List ℕ} {down : ℕ → ℕ → Bool} {owner : ℕ → ℕ → ℕ} {i n : ℕ} {ps : List Position} {tried₀ buffer : List ℕ}
-    {m : ℕ} {tried out : List ℕ} (g : Telling row down owner i n ps tried₀ buffer m tried out) where
+module _ {row : List ℕ} {down : ℕ → ℕ → Bool} {owner : ℕ → ℕ → ℕ} {i n : ℕ} {old : List Position} {tried₀ buffer : List ℕ}
+    {m : ℕ} {new : List Position} {tried out : List ℕ} (g : Telling row down owner i n old tried₀ buffer m new tried out) where
   abbrev all : List S.Moved
-  all = passes row (down i) (owner i) i n ps tried₀
+  all = passes row (down i) (owner i) i n old tried₀
 
   told-length : length (numbers all) ≡ 2 * n
-  told-length = numbers-length all ∙ ap (λ k. 2 * k) (all-length (g .passing))
+  told-length = numbers-length all ∙ ap (λ k. 2 * k) (all-length (g .moving .passing))
 
   pub telling-length : length out ≡ length buffer
   telling-length =
+      let few = g .moving .passing .few in
       let e : length out ≡ 2 * m + (length buffer - 2 * m) =
       ap length (g .written)
       ∙ length-append (take (2 * m) (numbers all)) (drop (2 * m) buffer)
-      ∙ ap (λ k. k + length (drop (2 * m) buffer)) (length-take-le (2 * m) (numbers all) (omega (arith, told-length, g .passing .few)))
+      ∙ ap (λ k. k + length (drop (2 * m) buffer)) (length-take-le (2 * m) (numbers all) (omega (arith, told-length, few)))
       ∙ ap (λ k. 2 * m + k) (length-drop (2 * m) buffer) in
-      omega (arith, g .room, g .passing .few)
+      omega (arith, g .room, few)
 
   pub telling-room : m < n → 2 * m + 1 < length out
   telling-room h = omega (arith, g .room, telling-length)
 
   pub telling-more : (moved : Moved) (tried′ out′ : List ℕ) → m < n →
-      ActsIn row (down i) (owner i) i (getD ps m home) m tried tried′ moved →
+      ActsIn row (down i) (owner i) i (getD new m home) m tried tried′ moved →
       out′ ≡ set (set out (2 * m) (eventOf (moved .event) .kind)) (2 * m + 1) (eventOf (moved .event) .number) →
-      Telling row down owner i n ps tried₀ buffer (m + 1) tried′ out′
+      Telling row down owner i n old tried₀ buffer (m + 1) (set new m (moved .next)) tried′ out′
   telling-more moved tried′ out′ h a e =
       let d : S.Moved = S.moved (positionOf row home) 0 0 in
       let v = eventOf (moved .event) in
-      let l : m < length all = omega (arith, all-length (g .passing)) in
-      let is = a .acts .is ∙ sym (passing-at (g .passing) d h) in
+      let l : m < length all = omega (arith, all-length (g .moving .passing)) in
+      let is = a .acts .is ∙ sym (moving-at (g .moving) d h) in
       let k : v .kind ≡ getD (numbers all) (2 * m) 0 = ap (λ x. x .event .kind) is ∙ sym (kind-at all m d l) in
       let x : v .number ≡ getD (numbers all) (2 * m + 1) 0 = ap (λ x. x .event .number) is ∙ sym (number-at all m d l) in
       record {
-        passing = passing-more (g .passing) tried′ h (a .noted);
+        moving = moving-more (g .moving) (moved .next) tried′ h (moves-by a);
         room = g .room;
-        none = g .none;
         written =
             e ∙ ap (λ l. set (set l (2 * m) (v .kind)) (2 * m + 1) (v .number)) (g .written)
             ∙ put-two (numbers all) buffer m _ _ (omega (arith, told-length)) (omega (arith, g .room)) k x;
       }
 
-  pub telling-done : n ≤ m → out ≡ numbers (slot (orderOf (planOf row)) down owner i (positionsOf row n ps)) ++ drop (2 * n) buffer
+  pub telling-done : n ≤ m → MovesAndTells row n (slot (orderOf (planOf row)) down owner i (positionsOf row n old)) old new buffer out
   telling-done h =
-      let e : m ≡ n = omega (arith, g .passing .few) in
-      let few : length (positionsOf row n ps) ≤ mostMessages = omega (arith, g .passing .most, stands-length (g .passing)) in
-      g .written ∙ ap (λ k. take (2 * k) (numbers all) ++ drop (2 * k) buffer) e
-      ∙ ap (λ l. l ++ drop (2 * n) buffer) (take-all (2 * n) (numbers all) (omega (arith, told-length)))
-      ∙ ap (λ ms. numbers ms ++ drop (2 * n) buffer)
-      (pass-slot (planOf row) down owner i tried₀ (positionsOf row n ps) (g .none) (g .passing .room) few)
+      let moves = moving-done (g .moving) h in
+      let e : m ≡ n = omega (arith, g .moving .passing .few) in
+      record {
+        moves = record { next = moves .next; rest = moves .rest };
+        events =
+            g .written ∙ ap (λ k. take (2 * k) (numbers all) ++ drop (2 * k) buffer) e
+            ∙ ap (λ l. l ++ drop (2 * n) buffer) (take-all (2 * n) (numbers all) (omega (arith, told-length)))
+            ∙ ap (λ ms. numbers ms ++ drop (2 * n) buffer) (moving-slot (g .moving));
+      }

@@ -2,12 +2,12 @@
 use Prim.Native.Nat.{ℕ, _+_, _*_, _≤_, _<_}
 use mathlib.Core.Path.{_≡_}
 use mathlib.Core.Bool.{Bool}
-use mathlib.Core.List.{List}
-use lib.ListN.{length}
+use mathlib.Core.List.{List, _++_}
+use lib.ListN.{length, drop}
 use Rattle.scope.specs.Limits.{mostMessages}
 use Rattle.scope.specs.Plan.{planOf}
 use Rattle.scope.specs.Slot as S
-use Rattle.scope.specs.Cycle.{orderOf, slot}
+use Rattle.scope.specs.Cycle.{orderOf, slot, numbers}
 use Rattle.table.specs.Table.{entryAt}
 use Rattle.cuts.specs.Down.{isDown}
 use Rattle.step.specs.declared.Position.{Position}
@@ -38,7 +38,12 @@ pub record GoesOn (row table down : List ℕ) (n i : ℕ) (s r : Standing) : Typ
   pub long : length (r .positions) ≡ mostMessages
   pub moves : Moves row n (allIn row table down i n (s .positions)) (s .positions) (r .positions)
 
--- their events may be told, with room for two numbers each
+-- they may go and be told of, with room for two numbers each
 pub record MayTell (row : List ℕ) (n : ℕ) (s : Standing) (i room : ℕ) : Type 0 where
   pub go : MayGo row n s i
   pub enough : 2 * n ≤ room
+
+-- they have gone and been told of: the events of the slot stand at the front of a buffer, and the rest of it is as it was
+pub record GoesAndTells (row table down : List ℕ) (n i : ℕ) (s r : Standing) (buffer out : List ℕ) : Type 0 where
+  pub goes : GoesOn row table down n i s r
+  pub events : out ≡ numbers (allIn row table down i n (s .positions)) ++ drop (2 * n) buffer

@@ -2,11 +2,11 @@
 use Prim.Native.Nat.{ℕ, _*_, _≤_, _<_}
 use mathlib.Core.Path.{_≡_}
 use mathlib.Core.Bool.{false}
-use mathlib.Core.List.{List, map}
+use mathlib.Core.List.{List, _++_, map}
 use lib.ListN.{getD, take, drop}
 use Rattle.scope.specs.Limits.{mostMessages}
 use Rattle.scope.specs.Slot as S
-use Rattle.scope.specs.Cycle.{nexts}
+use Rattle.scope.specs.Cycle.{nexts, numbers}
 use Rattle.step.specs.declared.Position.{Position}
 use Rattle.step.specs.Where.{positionOf, endOf}
 
@@ -38,3 +38,8 @@ pub record MayTellAll (row : List ℕ) (ps : List Position) (n i room : ℕ) : T
   pub stand : Stand row n ps
   pub early : i < 65536
   pub enough : 2 * n ≤ room
+
+-- they have moved and been told of: their events stand at the front of a buffer, and the rest of it is as it was
+pub record MovesAndTells (row : List ℕ) (n : ℕ) (ms : List S.Moved) (ps r : List Position) (buffer out : List ℕ) : Type 0 where
+  pub moves : Moves row n ms ps r
+  pub events : out ≡ numbers ms ++ drop (2 * n) buffer

@@ -2,33 +2,31 @@
 // with `slot` of document 01's section "One slot" (specs/Slot and specs/Cycle of `scope`), for any row of numbers, anything that is down in
 // the slot and any table. All that is asked is that a position ends below index 65536, which no function here undoes.
 //
-// A slot is one pass over the messages, in their order, in records that are lent: `move_all` and `lend` alone hold a slice of records,
-// and their proofs are walks by hand.
+// A slot is one pass over the messages, in their order: `after` moves them, in records that are lent, and `told` moves them and tells what
+// they do. `move_all` and `lend` alone hold a slice of records, and their proofs are walks by hand.
 use cuts::is_down;
 use rows::number;
 use rows::place_at;
 use rows::place_slot;
 use scope::limits::MESSAGES;
 use scope::limits::TRIES;
-ghost use Prim.Native.Nat.{_+_, _*_, _<_, _≤_};
+ghost use Prim.Native.Nat.{_+_, _<_, _≤_};
 ghost use mathlib.Core.Path.{_≡_};
 ghost use mathlib.Core.Bool.{true, false, not};
-ghost use mathlib.Core.List.{_++_};
-ghost use lib.ListN.{length, drop, set};
+ghost use lib.ListN.{length, set};
 ghost use lib.Dec.{eqb};
 ghost use Rattle.scope.specs.Plan.{at};
 ghost use Rattle.scope.specs.Slot.{onFirst};
-ghost use Rattle.scope.specs.Cycle.{numbers};
 ghost use Rattle.cuts.specs.Down.{isDown};
 ghost use Rattle.table.specs.Table.{entryAt};
 ghost use Rattle.step.specs.Events.{eventOf};
 ghost use Rattle.step.specs.Where.{endOf, placesAfter, doesFirst, doesSecond, Leads, Acts, Faces, Meets, MetActs};
-ghost use Rattle.step.specs.Stand.{Stand, Moves, MayTellAll};
-ghost use Rattle.step.specs.Slot.{downNow, allIn, MayGo, GoesOn, MayTell};
+ghost use Rattle.step.specs.Stand.{Stand, Moves, MayTellAll, MovesAndTells};
+ghost use Rattle.step.specs.Slot.{downNow, allIn, MayGo, GoesOn, MayTell, GoesAndTells};
 ghost use Rattle.step.specs.Pass.{firstTrier, noted, Noting, MayAct, ActsIn, MovesIn, MayMoveAll, MovesAll};
 
 // "Slot numbers run from 0 to t − 1; times run from 0 to t. What happens in slot i leads from time i to time i + 1." A time is made
-// as the first one and by the slot step (`Standing::after`) alone, and a slot is made from a time before the timeout alone.
+// as the first one and by the slot step (`Standing::after` and `told`) alone, and a slot is made from a time before the timeout alone.
 pub struct Slot(usize);
 
 pub struct Time(usize);
@@ -62,6 +60,14 @@ impl Slot {
         ensures { λ r. ⌜ r ≡ self .0 ⌝ }
     {
         self.0
+    }
+
+    // The time that it leads to.
+    fn leads_to(self) -> Time
+        requires { ⌜ self .0 < 65536 ⌝ }
+        ensures { λ r. ⌜ r .0 ≡ self .0 + 1 ⌝ }
+    {
+        Time(self.0 + 1)
     }
 }
 
@@ -401,8 +407,8 @@ fn put_event(out: &mut [u16], k: usize, event: Event)
     out[k + 1] = event.number();
 }
 
-// The events of one slot, at the front of `out`.
-fn tell_all(
+// One slot of all messages that is told, in records of one's own: each moves, in their order, and its event is put at the front of `out`.
+fn go_all(
     ps: [Position; MESSAGES],
     n: usize,
     row: &[u16],
@@ -410,21 +416,25 @@ fn tell_all(
     down: &[u8],
     i: Slot,
     out: &mut [u16],
-)
+) -> [Position; MESSAGES]
     requires { ⌜ MayTellAll (now row) ps n (i .0) (length (now out)) ⌝ }
-    ensures { λ _.
-        ⌜ now (out .exit) ≡ numbers (allIn (now (row .entry)) (now (table .entry)) (now (down .entry)) (i .0) n ps) ++
-        drop (2 * n) (now (out .entry)) ⌝ }
+    ensures { λ r.
+        ⌜ MovesAndTells (now (row .entry)) n (allIn (now (row .entry)) (now (table .entry)) (now (down .entry)) (i .0) n ps) ps r
+        (now (out .entry)) (now (out .exit)) ⌝ }
 {
     let mut tried = [0u16; TRIES];
+    let mut qs = ps;
     let mut m = 0;
     while m < n {
-        let p = ps[m];
+        let p = qs[m];
         let moved = act_one(p, m, row, table, down, i, &mut tried);
         let event = moved.event;
         put_event(out, 2 * m, event);
+        let q = moved.next;
+        qs[m] = q;
         m += 1;
     }
+    qs
 }
 
 // Where all messages stand at a time, one record a message.
@@ -463,20 +473,34 @@ impl Standing {
     {
         let ps = self.positions;
         let qs = after_slot(ps, n, row, table, down, i);
+        let time = i.leads_to();
         Standing {
-            time: Time(i.0 + 1),
+            time,
             positions: qs,
         }
     }
 
-    // The events of the slot that begins at this time, at the front of `out`.
-    pub fn tell(self, i: Slot, n: usize, row: &[u16], table: &[u8], down: &[u8], out: &mut [u16])
+    // The slot step that is told: the events of the slot stand at the front of `out`.
+    pub fn told(
+        self,
+        i: Slot,
+        n: usize,
+        row: &[u16],
+        table: &[u8],
+        down: &[u8],
+        out: &mut [u16],
+    ) -> Standing
         requires { ⌜ MayTell (now row) n self (i .0) (length (now out)) ⌝ }
-        ensures { λ _.
-            ⌜ now (out .exit) ≡ numbers (allIn (now (row .entry)) (now (table .entry)) (now (down .entry)) (i .0) n (self .positions)) ++
-            drop (2 * n) (now (out .entry)) ⌝ }
+        ensures { λ r.
+            ⌜ GoesAndTells (now (row .entry)) (now (table .entry)) (now (down .entry)) n (i .0) self r
+            (now (out .entry)) (now (out .exit)) ⌝ }
     {
         let ps = self.positions;
-        tell_all(ps, n, row, table, down, i, out);
+        let qs = go_all(ps, n, row, table, down, i, out);
+        let time = i.leads_to();
+        Standing {
+            time,
+            positions: qs,
+        }
     }
 }

@@ -4,25 +4,15 @@ use Rattle.cycle.proofs.Whole.{done-by}
 use Rattle.cycle.proofs.run_slot.Statement.{statement}
 use Rattle.cycle.proofs.run_slot.Tie as tie
 
-tell-requires : tie.Need-tell-requires
-tell-requires c κs =
-    let s = c .before .before .before .before .before .before .before .before in
-    record { go = s .pre .go; enough = s .pre .enough }
-
-after-requires : tie.Need-after-requires
-after-requires c κs = c .before .before .before .before .before .before .before .before .before .before .before .before .pre .go
-
 returns : tie.Need-returns
 returns c =
-    let mid = c .before .before .before .before .before .before .before in
-    let s = mid .before .before .before .before .before .before in
-    let a = s .args in
-    done-by (a .row .now) (a .table .now) (a .cuts .now) _ (a .i .0)
-    (rw (mid .before .number .ensures) at (mid .down-in .ensures))
-    (a .n) (a .standing) _ _ _ (c .after .ensures) (c .before .before .before .before .tell .ensures)
+    let t = c .before .before in
+    let d = t .before .before .before in
+    let a = d .before .before .before .before .before .before .args in
+    done-by (a .row .now) (a .table .now) (a .cuts .now) _ (a .i .0) (rw (d .before .number .ensures) at (d .down-in .ensures))
+    (a .n) (a .standing) _ _ _ (t .told .ensures)
 
 pub run-slot-spec : {M : Type 1} → statement M
 run-slot-spec =
     tie.close
-    (tie.spec (λ c κs. search needs) (λ c κs. search needs) (λ c. search needs) tell-requires (λ c. search needs) after-requires
-    (λ c. search needs) returns)
+    (tie.spec (λ c κs. search needs) (λ c κs. search needs) (λ c. search needs) (λ c κs. search needs) (λ c. search needs) returns)
