@@ -23,6 +23,10 @@ pub record Marks (crossed : List ℕ) (i e m : ℕ) (crossed′ : List ℕ) (r :
   pub seen : r ≡ ltb 0 (crossedAt crossed i m)
   pub table : crossed′ ≡ cond r crossed (set crossed (crossedIndex i m) (e + 1))
 
+-- nothing is kept
+abbrev pub nothingKept : Kept
+nothingKept = record { count = 0; slot = 0; link = 0; message = 0; twice = false; bad = false }
+
 -- the next triple is bad
 abbrev pub spoilt : Kept → Kept
 spoilt k = record { count = k .count; slot = k .slot; link = k .link; message = k .message; twice = k .twice; bad = true }

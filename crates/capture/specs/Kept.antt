@@ -93,8 +93,7 @@ pub record Adds (plan : Plan) (i e m : ℕ) (crossed : List ℕ) (k : Kept) (cro
 
 -- one or two numbers more end it with an unfinished triple
 pub record Ends (k r : Kept) : Type 0 where
+  pub bad : r .bad ≡ true
   pub fits : Fits k → Fits r
-  pub one : (plan : Plan) (capture crossed : List ℕ) → Whole capture → Keeps plan capture crossed k →
-      (a : ℕ) → Keeps plan (capture ++ a ∷ []) crossed r
-  pub two : (plan : Plan) (capture crossed : List ℕ) → Whole capture → Keeps plan capture crossed k →
-      (a b : ℕ) → Keeps plan (capture ++ a ∷ b ∷ []) crossed r
+  pub keeps : (plan : Plan) (capture crossed : List ℕ) → Whole capture → Keeps plan capture crossed k →
+      (more : List ℕ) → 0 < length more → length more < 3 → Keeps plan (capture ++ more) crossed r

@@ -9,7 +9,7 @@ ghost use lib.ListN.{length, replicate};
 ghost use Rattle.scope.specs.Limits.{mostSlots, mostLinks, mostMessages, crossedSize};
 ghost use Rattle.scope.specs.Plan.{planOf};
 ghost use Rattle.capture.specs.Kept.{Keeps, Small, Begins, Adds, Ends, MayAdd};
-ghost use Rattle.capture.specs.Adding.{inRange, risesBehind, Marks};
+ghost use Rattle.capture.specs.Adding.{inRange, risesBehind, spoilt, Marks};
 
 // How many triples were kept and the last of them, zeros where there is none; whether some message was seen on two links in one slot;
 // and whether the next triple is bad, after which no more is kept.
@@ -37,12 +37,19 @@ pub fn none() -> Kept
 }
 
 // The next triple is bad: it is the one after those that were kept.
-pub fn unfinished(kept: Kept) -> Kept
-    ensures { λ r. ⌜ Ends kept r ⌝ }
+fn spoil(kept: Kept) -> Kept
+    ensures { λ r. ⌜ r ≡ spoilt kept ⌝ }
 {
     let mut k = kept;
     k.bad = true;
     k
+}
+
+// The capture ends with one or two numbers of a triple.
+pub fn unfinished(kept: Kept) -> Kept
+    ensures { λ r. ⌜ Ends kept r ⌝ }
+{
+    spoil(kept)
 }
 
 // The plan has this slot, link and message.
@@ -103,10 +110,10 @@ pub fn add(
         return kept;
     }
     if !in_range(row, slot, link, message) {
-        return unfinished(kept);
+        return spoil(kept);
     }
     if !rises(kept, slot, link, message) {
-        return unfinished(kept);
+        return spoil(kept);
     }
     let again = mark(crossed, slot, link, message);
     Kept {
