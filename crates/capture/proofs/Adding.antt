@@ -1,13 +1,13 @@
 -- One triple more: what is kept with it, by each way through the tests.
 use Prim.Native.Nat.{ℕ, _+_, _-_, _*_, _≤_, _<_}
 use mathlib.Core.Path.{_≡_, refl, sym, _∙_, ap}
-use mathlib.Core.Bool.{Bool, true, false, cond, not, _&&_, _||_, true≢false, false≢true, and-false, and-true, or-true, or-false}
+use mathlib.Core.Bool.{Bool, true, false, cond, not, _&&_, _||_, false≢true, and-false, and-true, or-true, or-false}
 use mathlib.Core.List.{List, [], _∷_, _++_}
 use native.Mathlib.Omega.{arith}
 use lib.ListN.{length, set, length-set, length-append}
 use lib.Seq.{getD-set-same, getD-set-other}
 use lib.Dec.{ltb, eqb}
-use borrow.Author.Tests.{lt-ltb, le-ltb, eq-eqb, ne-eqb, ltb-true, ltb-false, eqb-true, eqb-false}
+use borrow.Author.Tests.{eq-eqb, ne-eqb, ltb-true, ltb-false, eqb-true, eqb-false}
 use Rattle.scope.specs.Limits.{mostSlots, mostLinks, mostMessages, crossedSize}
 use Rattle.scope.specs.Plan.{Plan, planOf}
 use Rattle.scope.specs.Capture.{triples, seenSlot, seenLink, seenMessage, badTriple, isCaptured}
@@ -15,7 +15,7 @@ use Rattle.scope.proofs.Bools.{or-left, or-right, and-left, and-right}
 use Rattle.scope.proofs.Some.{none, none-below}
 use Rattle.rows.proofs.Parts.{timeout-is, link-count, message-count}
 use Rattle.capture.specs.declared.Kept.{Kept}
-use Rattle.capture.specs.Kept.{Keeps, KeepsAll, Whole, Fits, Clash, MayAdd, Adds, crossedIndex, crossedAt, codeOf, lastOf}
+use Rattle.capture.specs.Kept.{Keeps, Fits, Clash, MayAdd, Adds, crossedIndex, crossedAt, codeOf, lastOf}
 use Rattle.capture.specs.Adding.{inRange, risesBehind, Marks, spoilt, withTriple}
 use Rattle.capture.proofs.Triples as law
 use Rattle.capture.proofs.Keeping.{fits-spoilt, keeps-more, keeps-spoilt}
@@ -29,6 +29,13 @@ link-below plan a b c h = ltb-true _ _ (and-right (ltb a (plan .timeout)) _ (and
 
 message-below : (plan : Plan) (a b c : ℕ) → inRange plan a b c ≡ true → c < length (plan .messages)
 message-below plan a b c h = ltb-true _ _ (and-right (ltb a (plan .timeout) && ltb b (length (plan .links))) _ h)
+
+-- one test that a triple does not pass
+pub not-in-range : (plan : Plan) (k : Kept) (a b c : ℕ) → inRange plan a b c ≡ false → (inRange plan a b c && risesBehind k a b c) ≡ false
+not-in-range plan k a b c h = rw h
+
+pub not-risen : (plan : Plan) (k : Kept) (a b c : ℕ) → risesBehind k a b c ≡ false → (inRange plan a b c && risesBehind k a b c) ≡ false
+not-risen plan k a b c h = rw h (and-false (inRange plan a b c))
 
 -- a triple that rises has a higher number than the last one
 risen : (k : Kept) (a b c : ℕ) → Fits k → risesBehind k a b c ≡ true → 0 < k .count → lastOf k < codeOf a b c
@@ -228,17 +235,18 @@ module _ (row crossed : List ℕ) (k : Kept) (may : MayAdd row crossed k) (a b c
     keeps = λ capture w keeps. one-spoilt (planOf row) capture crossed k keeps good a b c h;
   }
 
-  pub low-link : inRange (planOf row) a b c ≡ true → (a < mostSlots) × (b < mostLinks) × (c < mostMessages)
-  low-link h = (
+  pub in-table : inRange (planOf row) a b c ≡ true → (a < mostSlots) × (b < mostLinks) × (c < mostMessages)
+  in-table h = (
     omega (arith, slot-below (planOf row) a b c h, timeout-is row, may .small .timeout),
     omega (arith, link-below (planOf row) a b c h, link-count row, may .small .links),
     omega (arith, message-below (planOf row) a b c h, message-count row, may .small .messages),
   )
 
-  pub adds-good : (crossed′ : List ℕ) (again : Bool) → k .bad ≡ false → inRange (planOf row) a b c ≡ true → risesBehind k a b c ≡ true →
-      Marks crossed a b c crossed′ again → Adds (planOf row) a b c crossed k crossed′ (withTriple k a b c again)
-  adds-good crossed′ again good range rises marks =
-      let small = low-link range in record {
+  pub adds-good : (crossed′ : List ℕ) (again twice : Bool) → k .bad ≡ false → inRange (planOf row) a b c ≡ true → risesBehind k a b c ≡ true →
+      Marks crossed a b c crossed′ again → twice ≡ (k .twice || again) →
+      Adds (planOf row) a b c crossed k crossed′ (record { count = k .count + 1; slot = a; link = b; message = c; twice = twice; bad = false })
+  adds-good crossed′ again twice good range rises marks e =
+      let small = in-table range in rw e record {
         size = marks-size crossed a b c crossed′ again (may .size) marks;
         fits = fits-more k a b c again (may .fits) (small .0) (small .1) (small .2) rises;
         keeps = λ capture w keeps.

@@ -1,8 +1,8 @@
 -- What follows from what is kept of a capture: refusal 23, and that what stands behind a bad triple decides nothing; and how it begins.
-use Prim.Native.Nat.{ℕ, _+_, _-_, _*_, _≤_, _<_}
+use Prim.Native.Nat.{ℕ, _+_, _*_, _<_}
 use mathlib.Core.Path.{_≡_, refl, sym, _∙_, ap}
 use mathlib.Core.Bool.{Bool, true, false, cond, true≢false, false≢true}
-use mathlib.Core.List.{List, [], _∷_, _++_}
+use mathlib.Core.List.{List, [], _++_}
 use native.Mathlib.Omega.{arith}
 use lib.ListN.{length, replicate, length-append, length-replicate, getD-replicate}
 use borrow.Author.Tests.{lt-ltb, ltb-true, ne-eqb}

@@ -1,20 +1,20 @@
 -- Captures with more behind them: what holds of their complete triples stays, and one triple more.
-use Prim.Native.Nat.{ℕ, _+_, _-_, _*_, _%_, _≤_, _<_}
-use mathlib.Core.Path.{_≡_, refl, sym, _∙_, ap, ap₂}
+use Prim.Native.Nat.{ℕ, _+_, _-_, _*_, _≤_, _<_}
+use mathlib.Core.Path.{_≡_, refl, sym, _∙_, ap}
 use mathlib.Core.Bool.{Bool, true, false, not, _&&_, _||_, true≢false, false≢true}
 use mathlib.Core.List.{List, [], _∷_, _++_}
 use native.Mathlib.Omega.{arith}
 use lib.ListN.{length, getD, length-append, List·getD-append}
 use lib.Seq.{getD-append-add}
 use lib.Dec.{ltb, eqb}
-use borrow.Author.Tests.{lt-ltb, le-ltb, eq-eqb, ne-eqb, ltb-true, ltb-false, eqb-true}
+use borrow.Author.Tests.{le-ltb, eq-eqb, ne-eqb, ltb-true, ltb-false, eqb-true}
 use Rattle.scope.specs.Limits.{mostLinks, mostMessages}
-use Rattle.scope.specs.Lowest.{lowest, some}
+use Rattle.scope.specs.Lowest.{lowest}
 use Rattle.scope.specs.Plan.{Plan}
 use Rattle.scope.specs.Capture.{triples, seenSlot, seenLink, seenMessage, badTriple, tripleBefore, isCaptured}
 use Rattle.scope.proofs.Lowest.{seek-is, seek-low}
 use Rattle.scope.proofs.Some.{none, some-same, some-more}
-use Rattle.capture.specs.Kept.{Whole, codeOf}
+use Rattle.capture.specs.Kept.{codeOf}
 use Rattle.capture.specs.Adding.{inRange}
 
 -- the lowest number that passes a test is known by itself
