@@ -19,7 +19,7 @@ use Rattle.scope.specs.Lines.{cutsOf}
 use Rattle.scope.proofs.Lowest.{seek-low, seek-same}
 use Rattle.cut_lines.proofs.Forms.{sizeOf, valueOf}
 use Rattle.cut_lines.proofs.Lines.{cuts-end, cuts-most}
-use Rattle.cut_lines.proofs.Pigeons.{pigeons}
+use Rattle.order.proofs.Pigeons.{pigeons}
 
 -- Only the first bytes of a text matter.
 

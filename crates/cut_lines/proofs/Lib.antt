@@ -2,6 +2,5 @@ pub mod Forms
 pub mod Lines
 pub mod Round
 pub mod Meets
-pub mod Pigeons
 pub mod Enough
 pub mod Replay

@@ -4,3 +4,4 @@ pub mod Prefix
 pub mod Before
 pub mod Steps
 pub mod First
+pub mod Pigeons
