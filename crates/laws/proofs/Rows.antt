@@ -13,7 +13,7 @@ use Rattle.laws.specs.Message.{movedOf}
 use Rattle.laws.specs.Replay.{EventsInRow}
 use Rattle.laws.proofs.Replay.{lengths-kept, length-numbers, events-follow}
 
-kind-at : (ms : List Moved) (m : ℕ) → getD (numbers ms) (2 * m) 0 ≡ movedOf m ms .event .kind
+pub kind-at : (ms : List Moved) (m : ℕ) → getD (numbers ms) (2 * m) 0 ≡ movedOf m ms .event .kind
 unfolding numbers
 kind-at [] m = refl
 kind-at (v ∷ ms) zero = refl
@@ -21,7 +21,7 @@ kind-at (v ∷ ms) (suc m) =
     let e : 2 * suc m ≡ suc (suc (2 * m)) = omega arith in
     ap (λ (j : ℕ). getD (numbers (v ∷ ms)) j 0) e ∙ kind-at ms m
 
-number-at : (ms : List Moved) (m : ℕ) → getD (numbers ms) (2 * m + 1) 0 ≡ movedOf m ms .event .number
+pub number-at : (ms : List Moved) (m : ℕ) → getD (numbers ms) (2 * m + 1) 0 ≡ movedOf m ms .event .number
 unfolding numbers
 number-at [] m = refl
 number-at (v ∷ ms) zero = refl

@@ -78,7 +78,7 @@ module _ (row : List ℕ) (z : Sizes) (p : Picked) (h : Holding row z p) (e : �
       (c .0, c .1, eqb-true (cutLink (cutsOf p) (c .0)) e (c .2))
 
 -- what is down with one pair more
-down-more : (plan : Plan) (pre down : List ℕ) (d s e i x : ℕ) → length pre ≡ 2 * d → e < length down → s ≤ i →
+pub down-more : (plan : Plan) (pre down : List ℕ) (d s e i x : ℕ) → length pre ≡ 2 * d → e < length down → s ≤ i →
     isDown down x ≡ isCut plan pre i x → isDown (set down e 1) x ≡ isCut plan (pre ++ s ∷ e ∷ []) i x
 down-more plan pre down d s e i x long there early is = by (eqb e x) refl
   where

@@ -1,0 +1,4 @@
+pub mod Crossings
+pub mod Lists
+pub mod Looking
+pub mod Suspecting

@@ -1,0 +1,94 @@
+-- A list one named pair longer: what it cuts, what it matches, and how many links it can name.
+use Prim.Native.Nat.{ℕ, _+_, _*_, _≤_, _<_}
+use native.Mathlib.Omega.{arith}
+use mathlib.Core.Path.{_≡_, refl, sym, _∙_, ap}
+use mathlib.Core.Bool.{Bool, true, false, _&&_, _||_, and-eq-true-iff}
+use mathlib.Core.List.{List, [], _∷_, _++_}
+use lib.ListN.{length}
+use lib.Dec.{ltb, leb, eqb}
+use borrow.Author.Tests.{ltb-true, ltb-false, eqb-true, eq-eqb, leb-true}
+use Rattle.scope.specs.Lowest.{lowest, some}
+use Rattle.scope.specs.Plan.{Plan}
+use Rattle.scope.specs.Cuts.{pairs, cutSlot, cutLink, isCut}
+use Rattle.scope.proofs.Lowest.{seek-is}
+use Rattle.laws.specs.Named.{Within}
+use Rattle.laws.proofs.Cuts.{is-cut, cuts-grow}
+use Rattle.order.proofs.Parts.{link-left, link-right}
+use Rattle.order.proofs.Prefix.{cut-more, event-before}
+use Rattle.order.proofs.Pigeons.{pigeons}
+use Rattle.clues.specs.Clues.{crossingOf, MatchesBefore}
+
+module _ (plan : Plan) (pre : List ℕ) (d : ℕ) (long : length pre ≡ 2 * d) (s e : ℕ) where
+  -- before the slot of its last pair it matches what it does without that pair
+  pub matches-more : (crossed : List ℕ) → MatchesBefore plan crossed pre s → MatchesBefore plan crossed (pre ++ s ∷ e ∷ []) s
+  matches-more crossed h i l m there =
+      ap crossingOf (event-before plan pre (s ∷ e ∷ []) d 1 s long refl (λ j g. here j (omega arith)) i m l) ∙ h i l m there
+    where
+      here : (j : ℕ) → j ≡ 0 → s ≤ cutSlot (s ∷ e ∷ []) j
+      here j is = rw is (omega arith)
+
+  -- whatever it cuts another list cuts, if that is so of what came before and of the last pair
+  pub within-more : (others : List ℕ) → Within (isCut plan pre) (isCut plan others) → isCut plan others s e ≡ true →
+      Within (isCut plan (pre ++ s ∷ e ∷ [])) (isCut plan others)
+  within-more others h last i x cut = by (isCut plan pre i x) refl (sym (cut-more plan pre d s e long i x) ∙ cut)
+    where
+      here : (eqb e x && leb s i) ≡ true → isCut plan others i x ≡ true
+      here g =
+          let two = and-eq-true-iff (eqb e x) (leb s i) .0 g in
+          let same : e ≡ x = eqb-true e x (two .0) in
+          ap (isCut plan others i) (sym same) ∙ cuts-grow plan others s i e (leb-true s i (two .1)) last
+
+      by : (t : Bool) → isCut plan pre i x ≡ t → (t || (eqb e x && leb s i)) ≡ true → isCut plan others i x ≡ true
+      by true q g = h i x q
+      by false q g = here g
+
+-- the first n pairs of a list name different links
+abbrev pub Apart : List ℕ → ℕ → Type 0
+Apart cuts n = (i j : ℕ) → j < i → i < n → cutLink cuts j ≡ cutLink cuts i → ⊥
+
+pub apart-more : (pre : List ℕ) (d s e : ℕ) → length pre ≡ 2 * d → Apart pre d → ((j : ℕ) → j < d → cutLink pre j ≡ e → ⊥) →
+    Apart (pre ++ s ∷ e ∷ []) (d + 1)
+apart-more pre d s e long apart new i j h l same = by (ltb i d) refl
+  where
+    left : (k : ℕ) → k < d → cutLink (pre ++ s ∷ e ∷ []) k ≡ cutLink pre k
+    left k g = link-left pre (s ∷ e ∷ []) d long k g
+
+    by : (t : Bool) → ltb i d ≡ t → ⊥
+    by true q =
+        let g = ltb-true i d q in
+        apart i j h g (sym (left j (omega arith)) ∙ same ∙ left i g)
+    by false q =
+        let is : i ≡ d + 0 = omega (arith, ltb-false i d q) in
+        let last : cutLink (pre ++ s ∷ e ∷ []) i ≡ e = ap (cutLink (pre ++ s ∷ e ∷ [])) is ∙ link-right pre (s ∷ e ∷ []) d long 0 in
+        new j (omega arith) (sym (left j (omega arith)) ∙ same ∙ last)
+
+-- n + 1 different links are not all cut by a list of n pairs
+module _ (plan : Plan) (cuts others : List ℕ) (n : ℕ) (long : length cuts ≡ 2 * (n + 1)) (few : length others ≡ 2 * n)
+    (apart : Apart cuts (n + 1)) (within : Within (isCut plan cuts) (isCut plan others)) where
+  -- pair i's link is cut by this pair of the others
+  test : ℕ → ℕ → Bool
+  test i j = eqb (cutLink others j) (cutLink cuts i) && leb (cutSlot others j) (cutSlot cuts i)
+
+  cutter : ℕ → ℕ
+  cutter i = lowest (test i) n
+
+  there : (i : ℕ) → i < n + 1 → cutter i < n
+  unfolding isCut cutter test
+  there i l =
+      let count : pairs others ≡ n = omega arith in
+      let cut : isCut plan others (cutSlot cuts i) (cutLink cuts i) ≡ true =
+      within (cutSlot cuts i) (cutLink cuts i) (is-cut plan cuts (cutSlot cuts i) (cutLink cuts i) i (omega arith) (eq-eqb (cutLink cuts i) (cutLink cuts i) refl) (omega arith)) in
+      ltb-true (lowest (test i) n) n (ap (some (test i)) (sym count) ∙ cut)
+
+  names : (i : ℕ) → i < n + 1 → cutLink others (cutter i) ≡ cutLink cuts i
+  unfolding cutter test
+  names i l =
+      let is = seek-is (test i) n 0 (omega (arith, there i l)) in
+      eqb-true (cutLink others (cutter i)) (cutLink cuts i)
+      (and-eq-true-iff (eqb (cutLink others (cutter i)) (cutLink cuts i)) (leb (cutSlot others (cutter i)) (cutSlot cuts i)) .0 is .0)
+
+  pub too-many : ⊥
+  too-many =
+      pigeons n cutter (λ i h. there i (omega arith))
+      (λ i j h l same. apart i j h (omega arith)
+      (sym (names j (omega arith)) ∙ ap (cutLink others) same ∙ names i (omega arith)))

@@ -1,0 +1,119 @@
+// What a capture says of the cuts: a slot is played and held against the table of crossings, and where they differ the foremost message
+// names a link that every list with these crossings has cut by then, or there is no such list. `look` reads one slot; `hopeless` cuts what
+// is named, slot by slot, and says that no list with so many pairs more has the crossings of the table. That a link is named at all is
+// `Named` of `laws`; it leans on `step` for a slot, on `picks` for the pairs picked and on `order` for lists with one pair more.
+use picks::Picked;
+use picks::Sizes;
+use scope::limits::MESSAGES;
+use scope::limits::SLOT_EVENTS;
+use step::Standing;
+ghost use Prim.Native.Nat.{_+_, _*_, _<_};
+ghost use mathlib.Core.Path.{_≡_};
+ghost use Rattle.capture.specs.Kept.{crossedAt};
+ghost use Rattle.clues.specs.Clues.{crossingOf, clueOf, Says, anEvent, eventAt, MayCompare, MayLook, Looked, MaySuspect, Suspected};
+
+// What a slot says of the cuts: nothing, where its crossings are those of the table; a link that is cut; or that there is no list.
+pub enum Clue {
+    Nothing,
+    Link(usize),
+    Dead,
+}
+
+// What a slot says, and where the messages stand after it.
+pub struct Seen {
+    pub clue: Clue,
+    pub next: Standing,
+}
+
+// The link that an event crosses, plus one, or 0.
+fn crossing(kind: u16, number: u16) -> usize
+    ensures { λ r. ⌜ r ≡ crossingOf (anEvent kind number) ⌝ }
+{
+    match kind {
+        2 | 3 => number as usize + 1,
+        _ => 0,
+    }
+}
+
+// What the event of the foremost message that differs says.
+fn clue_of(kind: u16, number: u16) -> Clue
+    ensures { λ r. ⌜ r ≡ clueOf (anEvent kind number) ⌝ }
+{
+    match kind {
+        1..=3 => Clue::Link(number as usize),
+        _ => Clue::Dead,
+    }
+}
+
+// The events of n messages against slot i of the table, the foremost message first.
+fn compare(events: &[u16], crossed: &[u8], i: usize, n: usize) -> Clue
+    requires { ⌜ MayCompare (now events) (now crossed) i n ⌝ }
+    ensures { λ r. ⌜ Says (eventAt (now (events .entry))) (crossedAt (now (crossed .entry)) i) n r ⌝ }
+{
+    let mut m = 0;
+    while m < n {
+        let kind = events[2 * m];
+        let number = events[2 * m + 1];
+        if crossing(kind, number) != crossed[i * MESSAGES + m] as usize {
+            return clue_of(kind, number);
+        }
+        m += 1;
+    }
+    Clue::Nothing
+}
+
+// The slot that begins now, under what is down: what it says, and where the messages stand after it.
+pub fn look(row: &[u16], table: &[u8], crossed: &[u8], z: Sizes, down: &[u8], ps: Standing) -> Seen
+    requires { ⌜ MayLook (now row) (now table) (now crossed) z ps ⌝ }
+    ensures { λ r. ⌜ Looked (now (row .entry)) (now (crossed .entry)) z (now (down .entry)) ps r ⌝ }
+{
+    let time = ps.time();
+    let i = time.begins(z.timeout);
+    let mut events = [0u16; SLOT_EVENTS];
+    let next = ps.told(i, z.messages, row, table, down, &mut events);
+    let clue = compare(&events, crossed, i.number(), z.messages);
+    Seen { clue, next }
+}
+
+// No list that goes on from the pairs picked with n pairs more has the crossings of the table: they are played on, each link that a slot
+// names is cut from that slot on, and more links are named than pairs are to come, or none can be. Where n is 0 and nothing is named,
+// the pairs picked are such a list.
+pub fn hopeless(
+    row: &[u16],
+    table: &[u8],
+    crossed: &[u8],
+    z: Sizes,
+    ps: Standing,
+    p: Picked,
+    n: usize,
+) -> bool
+    requires { ⌜ MaySuspect (now row) (now table) (now crossed) z ps p ⌝ }
+    ensures { λ r. ⌜ Suspected (now (row .entry)) (now (crossed .entry)) p n r ⌝ }
+{
+    let mut down = p.down;
+    let mut qs = ps;
+    let mut left = n;
+    let mut i = p.slot;
+    while i < z.timeout {
+        let seen = look(row, table, crossed, z, &down, qs);
+        let clue = seen.clue;
+        match clue {
+            Clue::Nothing => {
+                let rs = seen.next;
+                qs = rs;
+                i += 1;
+            }
+            Clue::Link(x) => {
+                if left == 0 {
+                    return true;
+                }
+                down[x] = 1;
+                left -= 1;
+            }
+            Clue::Dead => {
+                return true;
+            }
+        }
+    }
+    false
+}
