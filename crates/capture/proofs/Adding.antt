@@ -39,9 +39,10 @@ not-risen plan k a b c h = rw h (and-false (inRange plan a b c))
 
 -- a triple that rises has a higher number than the last one
 risen : (k : Kept) (a b c : ℕ) → Fits k → risesBehind k a b c ≡ true → 0 < k .count → lastOf k < codeOf a b c
-risen k a b c f h l = law.before-code (k .slot) (k .link) (k .message) a b c (f .link) (f .message) (rw (ne-eqb (k .count) 0 (λ z. omega arith)) at h)
+risen k a b c f h l =
+    law.before-code (k .slot) (k .link) (k .message) a b c (f .link) (f .message) (rw (ne-eqb (k .count) 0 (λ z. omega arith)) at h)
 
--- no number is another where its successor is not
+-- two numbers are one where those after them are
 next-same : (b e : ℕ) → eqb b e ≡ eqb (b + 1) (e + 1)
 next-same b e = by (eqb b e) refl
   where
@@ -50,8 +51,8 @@ next-same b e = by (eqb b e) refl
     by false p = let q : b ≡ e → ⊥ = eqb-false b e p in sym (ne-eqb (b + 1) (e + 1) (λ z. q (omega arith)))
 
 -- the table with one link more
-marks-size : (crossed : List ℕ) (a b c : ℕ) (crossed′ : List ℕ) (again : Bool) → length crossed ≡ crossedSize → Marks crossed a b c crossed′ again →
-    length crossed′ ≡ crossedSize
+marks-size : (crossed : List ℕ) (a b c : ℕ) (crossed′ : List ℕ) (again : Bool) → length crossed ≡ crossedSize →
+    Marks crossed a b c crossed′ again → length crossed′ ≡ crossedSize
 marks-size crossed a b c crossed′ again size marks = by again (marks .table)
   where
     by : (t : Bool) → crossed′ ≡ cond t crossed (set crossed (crossedIndex a c) (b + 1)) → length crossed′ ≡ crossedSize
@@ -73,7 +74,7 @@ module _ (plan : Plan) (capture crossed : List ℕ) (k : Kept) (keeps : Keeps pl
   bad-now : badTriple plan (capture ++ a ∷ b ∷ c ∷ []) (k .count) ≡ not (inRange plan a b c && risesBehind k a b c)
   bad-now =
       let all = keeps .all good in
-      law.one-bad plan capture (k .count) (all .long) a b c (k .slot) (k .link) (k .message) (all .slot) (all .link) (all .message)
+      law.one-bad capture (k .count) (all .long) a b c plan (k .slot) (k .link) (k .message) (all .slot) (all .link) (all .message)
 
   -- it is bad
   pub one-spoilt : (inRange plan a b c && risesBehind k a b c) ≡ false → Keeps plan (capture ++ a ∷ b ∷ c ∷ []) crossed (spoilt k)
@@ -85,7 +86,7 @@ module _ (plan : Plan) (capture crossed : List ℕ) (k : Kept) (keeps : Keeps pl
   module _ (crossed′ : List ℕ) (again : Bool) (range : inRange plan a b c ≡ true) (rises : risesBehind k a b c ≡ true)
       (early : a < mostSlots) (low : b < mostLinks) (known : c < mostMessages) (marks : Marks crossed a b c crossed′ again) where
     captured : (i e m : ℕ) → isCaptured (capture ++ a ∷ b ∷ c ∷ []) i e m ≡ (isCaptured capture i e m || (eqb a i && eqb b e && eqb c m))
-    captured = law.one-captured plan capture (k .count) (keeps .all good .long) a b c
+    captured = law.one-captured capture (k .count) (keeps .all good .long) a b c
 
     -- what was captured is, and so is the new triple
     still : (i e m : ℕ) → isCaptured capture i e m ≡ true → isCaptured (capture ++ a ∷ b ∷ c ∷ []) i e m ≡ true
@@ -144,7 +145,8 @@ module _ (plan : Plan) (capture crossed : List ℕ) (k : Kept) (keeps : Keeps pl
             let v : c ≡ m = eqb-true c m q in
             let w : crossedIndex i m ≡ crossedIndex a c = omega arith in
             let was : isCaptured capture i e m ≡ false = old ∙ rw (w, empty) (ne-eqb 0 (e + 1) (λ z. omega arith)) in
-            let is : crossedAt crossed′ i m ≡ b + 1 = rw (w, table) (getD-set-same crossed (crossedIndex a c) (b + 1) 0 (omega (arith, keeps .size))) in
+            let inside : crossedIndex a c < length crossed = omega (arith, keeps .size) in
+            let is : crossedAt crossed′ i m ≡ b + 1 = rw (w, table) (getD-set-same crossed (crossedIndex a c) (b + 1) 0 inside) in
             rw (was, is) (and-true (eqb b e) ∙ next-same b e)
 
     -- where one was, it is another, for the new triple is not captured before
@@ -191,14 +193,15 @@ module _ (plan : Plan) (capture crossed : List ℕ) (k : Kept) (keeps : Keeps pl
     one-kept = record {
       size = marks-size crossed a b c crossed′ again (keeps .size) marks;
       fits = fits-more k a b c again (keeps .fits) early low known rises;
-      bad = sym (none (badTriple plan (capture ++ a ∷ b ∷ c ∷ [])) (triples (capture ++ a ∷ b ∷ c ∷ [])) (λ j l. fine j l (ltb j (k .count)) refl));
+      bad = sym (none (badTriple plan (capture ++ a ∷ b ∷ c ∷ [])) (triples (capture ++ a ∷ b ∷ c ∷ []))
+          (λ j l. fine j l (ltb j (k .count)) refl));
       place = λ h. absurd (false≢true h);
       all = λ _. record {
-        long = law.one-long plan capture (k .count) (keeps .all good .long) a b c;
-        slot = λ _. ap (seenSlot (capture ++ a ∷ b ∷ c ∷ [])) (omega arith) ∙ law.slot-is plan capture (k .count) (keeps .all good .long) a b c;
-        link = λ _. ap (seenLink (capture ++ a ∷ b ∷ c ∷ [])) (omega arith) ∙ law.link-is plan capture (k .count) (keeps .all good .long) a b c;
+        long = law.one-long capture (k .count) (keeps .all good .long) a b c;
+        slot = λ _. ap (seenSlot (capture ++ a ∷ b ∷ c ∷ [])) (omega arith) ∙ law.slot-is capture (k .count) (keeps .all good .long) a b c;
+        link = λ _. ap (seenLink (capture ++ a ∷ b ∷ c ∷ [])) (omega arith) ∙ law.link-is capture (k .count) (keeps .all good .long) a b c;
         message = λ _. ap (seenMessage (capture ++ a ∷ b ∷ c ∷ [])) (omega arith) ∙
-            law.message-is plan capture (k .count) (keeps .all good .long) a b c;
+            law.message-is capture (k .count) (keeps .all good .long) a b c;
         last = last;
         marks = marked;
         clash = clashes;
@@ -242,11 +245,10 @@ module _ (row crossed : List ℕ) (k : Kept) (may : MayAdd row crossed k) (a b c
     omega (arith, message-below (planOf row) a b c h, message-count row, may .small .messages),
   )
 
-  pub adds-good : (crossed′ : List ℕ) (again twice : Bool) → k .bad ≡ false → inRange (planOf row) a b c ≡ true → risesBehind k a b c ≡ true →
-      Marks crossed a b c crossed′ again → twice ≡ (k .twice || again) →
-      Adds (planOf row) a b c crossed k crossed′ (record { count = k .count + 1; slot = a; link = b; message = c; twice = twice; bad = false })
-  adds-good crossed′ again twice good range rises marks e =
-      let small = in-table range in rw e record {
+  pub adds-good : (crossed′ : List ℕ) (again : Bool) → k .bad ≡ false → inRange (planOf row) a b c ≡ true → risesBehind k a b c ≡ true →
+      Marks crossed a b c crossed′ again → Adds (planOf row) a b c crossed k crossed′ (withTriple k a b c again)
+  adds-good crossed′ again good range rises marks =
+      let small = in-table range in record {
         size = marks-size crossed a b c crossed′ again (may .size) marks;
         fits = fits-more k a b c again (may .fits) (small .0) (small .1) (small .2) rises;
         keeps = λ capture w keeps.

@@ -70,8 +70,8 @@ module _ (plan : Plan) (capture crossed : List ℕ) (k : Kept) (keeps : Keeps pl
       }
 
   -- a bad triple behind good ones
-  pub keeps-spoilt : k .bad ≡ false → (more : List ℕ) → k .count < triples (capture ++ more) → badTriple plan (capture ++ more) (k .count) ≡ true →
-      Keeps plan (capture ++ more) crossed (spoilt k)
+  pub keeps-spoilt : k .bad ≡ false → (more : List ℕ) → k .count < triples (capture ++ more) →
+      badTriple plan (capture ++ more) (k .count) ≡ true → Keeps plan (capture ++ more) crossed (spoilt k)
   keeps-spoilt h more l t = record {
     size = keeps .size;
     fits = fits-spoilt k (keeps .fits);

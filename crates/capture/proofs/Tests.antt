@@ -40,4 +40,10 @@ module _ (k : Kept) (a b c : ℕ) where
 
     pub rises-message : k .slot ≡ a → k .link ≡ b → ltb (k .message) c ≡ risesBehind k a b c
     rises-message p q =
-        rw (ne-eqb (k .count) 0 some, le-ltb (k .slot) a (omega arith), eq-eqb (k .slot) a p, le-ltb (k .link) b (omega arith), eq-eqb (k .link) b q)
+        rw (
+          ne-eqb (k .count) 0 some,
+          le-ltb (k .slot) a (omega arith),
+          eq-eqb (k .slot) a p,
+          le-ltb (k .link) b (omega arith),
+          eq-eqb (k .link) b q,
+        )

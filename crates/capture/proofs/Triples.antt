@@ -83,7 +83,7 @@ pub captured-none : (i e m : ℕ) → isCaptured [] i e m ≡ false
 unfolding isCaptured
 captured-none i e m = none _ (triples []) (λ j l. absurd (omega arith))
 
--- none of six rules is broken, or one is
+-- a triple that breaks one of the rules does not keep them all
 bad-is : (x y z o t : Bool) → (not x || not y || not z || (not o && not t)) ≡ not ((x && y && z) && (o || t))
 bad-is true true true true t = refl
 bad-is true true true false t = refl
@@ -92,7 +92,7 @@ bad-is true false z o t = refl
 bad-is false y z o t = refl
 
 -- one triple more
-module _ (plan : Plan) (capture : List ℕ) (n : ℕ) (long : length capture ≡ 3 * n) (a b c : ℕ) where
+module _ (capture : List ℕ) (n : ℕ) (long : length capture ≡ 3 * n) (a b c : ℕ) where
   abbrev more : List ℕ
   more = capture ++ a ∷ b ∷ c ∷ []
 
@@ -109,10 +109,10 @@ module _ (plan : Plan) (capture : List ℕ) (n : ℕ) (long : length capture ≡
   message-is = ap (λ i. getD more i 0) (omega arith) ∙ getD-append-add capture (a ∷ b ∷ c ∷ []) 2 0
 
   -- it is bad where the plan has it not, or where it does not come after the one before it
-  pub one-bad : (i e m : ℕ) → (0 < n → seenSlot capture (n - 1) ≡ i) → (0 < n → seenLink capture (n - 1) ≡ e) →
+  pub one-bad : (plan : Plan) (i e m : ℕ) → (0 < n → seenSlot capture (n - 1) ≡ i) → (0 < n → seenLink capture (n - 1) ≡ e) →
       (0 < n → seenMessage capture (n - 1) ≡ m) →
       badTriple plan (capture ++ a ∷ b ∷ c ∷ []) n ≡ not (inRange plan a b c && (eqb n 0 || tripleBefore i e m a b c))
-  one-bad i e m p q r =
+  one-bad plan i e m p q r =
       rw (le-ltb (length more) (3 * n + 3) (omega (arith, one-long)), slot-is, link-is, message-is)
       (by (ltb 0 n) refl)
     where

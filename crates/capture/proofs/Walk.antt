@@ -50,7 +50,8 @@ module _ (plan : Plan) (capture : List ℕ) where
         (keeps-more plan (take (3 * (j + 1)) capture) crossed′ r walk-next (whole (j + 1) (omega arith)) t (drop (3 * (j + 1)) capture))
 
   -- all complete triples were kept
-  module _ (j n : ℕ) (crossed : List ℕ) (k : Kept) (count : n ≡ length capture / 3) (last : j ≡ n) (keeps : Keeps plan (take (3 * j) capture) crossed k) where
+  module _ (j n : ℕ) (crossed : List ℕ) (k : Kept) (count : n ≡ length capture / 3) (last : j ≡ n)
+      (keeps : Keeps plan (take (3 * j) capture) crossed k) where
     pub walk-done : length capture ≡ 3 * n → Keeps plan capture crossed k
     walk-done h = rw (take-all (3 * j) capture (omega arith)) at keeps
 

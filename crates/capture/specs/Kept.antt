@@ -74,7 +74,7 @@ pub record Small (row : List ℕ) : Type 0 where
   pub links : linkCount row ≤ mostLinks
   pub messages : messageCount row ≤ mostMessages
 
--- so is kept the capture without a triple
+-- what is kept of the capture without a triple, beside a table of zeros
 pub record Begins (k : Kept) : Type 0 where
   pub fits : Fits k
   pub keeps : (plan : Plan) → Keeps plan [] (replicate crossedSize 0) k
@@ -85,7 +85,7 @@ pub record MayAdd (row crossed : List ℕ) (k : Kept) : Type 0 where
   pub size : length crossed ≡ crossedSize
   pub fits : Fits k
 
--- it was added, whatever the capture was
+-- it was added to every capture of which this was kept; behind a bad triple nothing changes
 pub record Adds (plan : Plan) (i e m : ℕ) (crossed : List ℕ) (k : Kept) (crossed′ : List ℕ) (r : Kept) : Type 0 where
   pub size : length crossed′ ≡ crossedSize
   pub fits : Fits r

@@ -121,7 +121,7 @@ pub fn add(
         slot,
         link,
         message,
-        twice: if kept.twice { true } else { again },
+        twice: kept.twice | again,
         bad: false,
     }
 }

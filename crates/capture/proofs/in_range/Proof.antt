@@ -21,8 +21,8 @@ returns-3 c =
     let e = c .before in
     let t = e .before .before in
     let a = t .before .before .before .args in
-    has-both (a .row .now) (a .slot) (a .link) (a .message) _ _ _ (t .before .timeout .ensures .is) (t .if1 .left) (e .before .links .ensures .is)
-    (e .if2 .left) (c .messages .ensures .is)
+    has-both (a .row .now) (a .slot) (a .link) (a .message) _ _ _ (t .before .timeout .ensures .is) (t .if1 .left)
+    (e .before .links .ensures .is) (e .if2 .left) (c .messages .ensures .is)
 
 pub in-range-spec : {M : Type 1} → statement M
 in-range-spec =

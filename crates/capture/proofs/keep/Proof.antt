@@ -81,13 +81,13 @@ returns-3 c =
     let e = c .before .before in
     let l = e .before in
     let s = l .before .before .before .before .before in
-    walk-end (planOf (s .args .row .now)) (s .args .capture .now) (l .loop .j) _ _ _ refl (omega arith) (l .loop .inv .1) _ (c .before .if2 .left)
-    (c .unfinished .ensures)
+    walk-end (planOf (s .args .row .now)) (s .args .capture .now) (l .loop .j) _ _ _ refl (omega arith) (l .loop .inv .1) _
+    (c .before .if2 .left) (c .unfinished .ensures)
 
 pub keep-spec : {M : Type 1} → statement M
 keep-spec =
     tie.close
-    (tie.spec Inv-loop μ-loop (λ c κs. search needs) loop-holds (λ c. search needs) (λ c κs. search needs) (λ c. search needs) (λ c. search needs)
-    (λ c κs. search needs) (λ c. search needs) (λ c. search needs) (λ c κs. search needs) add-requires same-length returns
+    (tie.spec Inv-loop μ-loop (λ c κs. search needs) loop-holds (λ c. search needs) (λ c κs. search needs) (λ c. search needs)
+    (λ c. search needs) (λ c κs. search needs) (λ c. search needs) (λ c. search needs) (λ c κs. search needs) add-requires same-length returns
     (λ c. search needs) (λ c. search needs) loop-again (λ c. search needs) same-length-2 returns-2 (λ c κs. search needs)
     same-length-3 returns-3)
