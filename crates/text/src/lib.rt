@@ -82,7 +82,7 @@ pub struct Number {
 }
 
 // A digit goes on with a number.
-fn goes_on(most: usize, begun: bool, a: usize, b: usize) -> bool
+pub fn goes_on(most: usize, begun: bool, a: usize, b: usize) -> bool
     requires { ⌜ (a ≤ 65535) × (b < 256) ⌝ }
     ensures { λ r. ⌜ r ≡ goesOn most begun a b ⌝ }
 {
