@@ -1,2 +1,3 @@
 mod Reading
 pub mod Fits
+pub mod Pieces

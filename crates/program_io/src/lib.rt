@@ -1,11 +1,12 @@
 // What the programs read and write: the file `plan.bin`, standard input, standard output, and what they say on standard error. No contract
 // can say which bytes were read or written; that each count lies within its buffer and came from a read that did not fail is proved. It
 // leans on `io`, `os` and `libc`, whose calls of C are assumed. Nothing else here writes, and only `print` writes standard output.
-ghost use Prim.Native.Nat.{_≤_};
+ghost use Prim.Native.Nat.{_≤_, _<_};
 ghost use lib.ListN.{length};
 ghost use Rattle.io.specs.Counts.{Counts};
 ghost use Rattle.program_io.specs.Came.{Came, planFile, Reads, Prints};
 ghost use Rattle.program_io.specs.More.{More};
+ghost use Rattle.program_io.specs.Pieces.{ReadsPiece};
 use libc::STDERR_FILENO;
 use libc::STDIN_FILENO;
 use libc::STDOUT_FILENO;
@@ -80,6 +81,22 @@ pub fn read_input(name: &[u8], buf: &mut [u8]) -> Read
     ensures { λ r. ⌜ Reads r (now (buf .exit)) ⌝ }
 {
     let read = read_all(STDIN_FILENO, buf);
+    match read {
+        Read::Bytes(n) => Read::Bytes(n),
+        Read::Failed => {
+            tell(name, b": standard input cannot be read");
+            Read::Failed
+        }
+    }
+}
+
+// One read of standard input, after `turn` others: as many bytes as came, at least one, or none at its end.
+// A read that fails is no end of it, as above. Only the promise looks at `turn`: what came is what came in all turns before, and this piece.
+pub fn read_piece(name: &[u8], turn: u64, buf: &mut [u8]) -> Read
+    requires { ⌜ 0 < length (now buf) ⌝ }
+    ensures { λ r. ⌜ ReadsPiece r turn (now (buf .exit)) ⌝ }
+{
+    let read = read_more(STDIN_FILENO, buf, 0);
     match read {
         Read::Bytes(n) => Read::Bytes(n),
         Read::Failed => {
