@@ -1,12 +1,12 @@
 -- What a byte does to a line: a law for each way in which the code tells it.
 use Prim.Native.Nat.{ℕ, _<_, _≤_}
 use mathlib.Core.Path.{_≡_}
-use mathlib.Core.Bool.{Bool, true, false}
+use mathlib.Core.Bool.{true, false}
 use native.Mathlib.Omega.{arith}
 use borrow.Author.Tests.{lt-ltb, le-ltb, eq-eqb, ne-eqb}
 use Rattle.text.specs.Reading.{goesOn}
 use Rattle.text.proofs.Going.{goes-digit}
-use Rattle.capture_lines.specs.Rest.{endMark, withDigit, withNumber, stepOf, SmallLine}
+use Rattle.capture_lines.specs.Rest.{withDigit, withNumber, stepOf, SmallLine}
 use Rattle.capture_lines.specs.declared.Line.{Line}
 use Rattle.capture_lines.specs.declared.Step.the-variants.{On, End, Out}
 

@@ -1,16 +1,16 @@
 -- The numbers that a text adds, byte by byte, are the capture that its lines are.
 use Prim.Native.Nat.{ℕ, zero, suc, _+_, _-_, _*_, _≤_, _<_}
 use mathlib.Core.Path.{_≡_, refl, sym, _∙_, ap}
-use mathlib.Core.Bool.{Bool, true, false, not, cond, _&&_, _||_, true≢false}
-use mathlib.Core.List.{List, [], _∷_, _++_}
+use mathlib.Core.Bool.{Bool, true, false, not, cond, _&&_}
+use mathlib.Core.List.{List, [], _∷_}
 use native.Mathlib.Omega.{arith}
 use native.Mathlib.Numerals.{add-one}
-use lib.ListN.{length, getD, drop, length-drop, drop-of-length-le, List·getD-eq-default}
+use lib.ListN.{length, drop, length-drop, drop-of-length-le, List·getD-eq-default}
 use lib.Seq.{drop-cons, getD-drop, drop-drop}
 use lib.Dec.{ltb, eqb}
-use borrow.Author.Tests.{lt-ltb, le-ltb, eq-eqb, ne-eqb, ltb-true, ltb-false, eqb-true}
+use borrow.Author.Tests.{ne-eqb, ltb-true, ltb-false, eqb-true}
 use Rattle.scope.proofs.Bools.{and-left, and-right, not-true}
-use Rattle.scope.specs.Lines.{byteAt, isDigit, numberAt, numberSize, pastNumber, secondNumber, thirdNumber, endOfTriple, isTripleLine}
+use Rattle.scope.specs.Lines.{byteAt, numberAt, numberSize, pastNumber, secondNumber, thirdNumber, endOfTriple, isTripleLine}
 use Rattle.scope.specs.Lines.{captureFrom, captureOf}
 use Rattle.text.specs.declared.Number.{Number}
 use Rattle.text.specs.Reading.{goesOn, sizeFrom, valueFrom, sizeAt, valueAt, Reads}
@@ -18,7 +18,7 @@ use Rattle.text.proofs.Going.{goes-digit}
 use Rattle.text.proofs.Read.{run-along, number-stops}
 use Rattle.cut_lines.proofs.Forms.{digit-low}
 use Rattle.cut_lines.proofs.Meets.{Meets, none, cut-off, one, two, meets}
-use Rattle.capture_lines.specs.Rest.{lineOf, fresh, endMark, stepOf, lineAfter, adds, isFresh, restOf}
+use Rattle.capture_lines.specs.Rest.{lineOf, fresh, endMark, lineAfter, adds, isFresh, restOf}
 use Rattle.capture_lines.specs.declared.Line.{Line}
 use Rattle.capture_lines.specs.declared.Step.the-variants.{On, End, Out}
 

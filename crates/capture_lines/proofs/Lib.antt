@@ -1,3 +1,4 @@
 pub mod Bytes
 pub mod Capture
 pub mod Round
+pub mod Pieces
