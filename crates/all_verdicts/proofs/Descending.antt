@@ -44,7 +44,7 @@ lower-resistant plan k l m r h cuts good few = let enough = r cuts good few in o
 
 -- the answers above l are there, and h is what was found for l
 pub record Descending (row : List ℕ) (o : Opening) (k : ℕ) (entry : List ℕ) (l : ℕ) (h : Hunted) (out : List ℕ) : Type 0 where
-  pub within : l ≤ o .asked .messages
+  pub within : l ≤ o .sizes .messages
   pub hunts : Hunts row l k h
   pub same : length out ≡ length entry
   pub each : (m : ℕ) → l < m → m ≤ length (planOf row .messages) → Says (planOf row) k m (seven m out)
@@ -53,18 +53,18 @@ pub record Descending (row : List ℕ) (o : Opening) (k : ℕ) (entry : List ℕ
 module _ (row table touchSets stripSets weights most : List ℕ) (o : Opening) (k : ℕ) (entry : List ℕ)
     (f : MayFill row table touchSets stripSets weights most o k (length entry)) where
   -- any l may be asked
-  asking : (l low : ℕ) → l ≤ o .asked .messages → low ≤ k + 1 → ((i : ℕ) → i < low → NoneOf (planOf row) (Fails (planOf row) l) [] i) →
+  asking : (l low : ℕ) → l ≤ o .sizes .messages → low ≤ k + 1 → ((i : ℕ) → i < low → NoneOf (planOf row) (Fails (planOf row) l) [] i) →
       MayAskOn row table touchSets stripSets weights most o l low k
   asking l low least within before =
       record { lent = f .ask .lent; least = least; few = f .ask .few; within = within; before = before }
 
-  count : o .asked .messages ≡ length (planOf row .messages)
+  count : o .sizes .messages ≡ length (planOf row .messages)
   count = f .ask .lent .play .messages
 
-  pub ask-first : (l : ℕ) → l ≡ o .asked .messages → MayAskOn row table touchSets stripSets weights most o l 0 k
+  pub ask-first : (l : ℕ) → l ≡ o .sizes .messages → MayAskOn row table touchSets stripSets weights most o l 0 k
   ask-first l e = asking l 0 (omega arith) (omega arith) (λ i z. absurd (omega arith))
 
-  pub descend-first : (l : ℕ) (h : Hunted) → l ≡ o .asked .messages → Hunts row l k h → Descending row o k entry l h entry
+  pub descend-first : (l : ℕ) (h : Hunted) → l ≡ o .sizes .messages → Hunts row l k h → Descending row o k entry l h entry
   descend-first l h e hunts =
       record {
         within = omega arith;

@@ -72,8 +72,7 @@ fn descend(
     requires { ⌜ MayFill (now row) (now table) (now touches) (now strips) (now weights) (now most) o k (length (now out)) ⌝ }
     ensures { λ _. ⌜ AllSaid (planOf (now (row .entry))) k (now (out .entry)) (now (out .exit)) ⌝ }
 {
-    let a = o.asked;
-    let mut l = a.messages;
+    let mut l = o.sizes.messages;
     let mut h = verdicts::ask(row, table, touches, strips, weights, most, o, l, 0, k);
     while h.found {
         put_failing(out, l, h);

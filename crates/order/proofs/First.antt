@@ -1,7 +1,7 @@
 -- The first list that answers, and that none does, from searches for each number of pairs. The question that is asked of a list is any.
 use Prim.Native.Nat.{ℕ, _+_, _≤_, _<_}
 use native.Mathlib.Omega.{arith}
-use mathlib.Core.Path.{_≡_, refl, _∙_, ap}
+use mathlib.Core.Path.{_≡_, refl, _∙_, ap, subst}
 use mathlib.Core.Bool.{Bool, true, false, _&&_, _||_}
 use mathlib.Core.List.{List, []}
 use lib.ListN.{length}
@@ -12,6 +12,13 @@ use Rattle.scope.specs.Cuts.{pairs, isCutList}
 use Rattle.scope.specs.Verdict.{earlier, goesBefore, First}
 use Rattle.scope.proofs.Cuts.{even}
 use Rattle.order.specs.Search.{Not, NoneOf, FirstOf}
+use Rattle.order.proofs.Steps.{split}
+
+-- one number of pairs more
+pub none-more : (plan : Plan) (Answers : List ℕ → Type 0) (n : ℕ) → ((i : ℕ) → i < n → NoneOf plan Answers [] i) → NoneOf plan Answers [] n →
+    (i : ℕ) → i < n + 1 → NoneOf plan Answers [] i
+none-more plan Answers n fewer here i l =
+    split i n (fewer i) (λ no-less. let same : n ≡ i = omega arith in subst (NoneOf plan Answers []) same here)
 
 module _ (plan : Plan) (Answers : List ℕ → Type 0) (k : ℕ) where
   pub no-list : ((i : ℕ) → i < k + 1 → NoneOf plan Answers [] i) → (cuts : List ℕ) → pairs cuts ≤ k → Not plan Answers cuts

@@ -1,5 +1,6 @@
--- What a search over the lists that extend a given one says, whatever it seeks: `Answers cuts` says that a list is sought. A pair has
--- a code, and codes rise as pairs do: by slot, then by link.
+-- What a search over the lists that extend a given one says, whatever it seeks: `Answers cuts` says that a list is sought. Two questions
+-- are asked so: which list leaves too few arrivals, and which explains a capture. A pair has a code, and codes rise as pairs do: by slot,
+-- then by link.
 use Prim.Native.Nat.{ℕ, _+_, _*_, _≤_, _<_}
 use mathlib.Core.Path.{_≡_}
 use mathlib.Core.Bool.{true}

@@ -24,7 +24,7 @@ use Rattle.picks.specs.declared.Picked.{Picked}
 use Rattle.picks.specs.Picks.{cutsOf, withPair, noPair, Playable, Holding, StandAt}
 
 -- zeros, and zeros past them
-noughts : (k w : ℕ) → _≡_ {A = ℕ} (getD {A = ℕ} (replicate {A = ℕ} k 0) w 0) 0
+pub noughts : (k w : ℕ) → _≡_ {A = ℕ} (getD {A = ℕ} (replicate {A = ℕ} k 0) w 0) 0
 noughts zero w = refl
 noughts (suc k) zero = refl
 noughts (suc k) (suc w) = noughts k w

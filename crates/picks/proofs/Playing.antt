@@ -1,5 +1,5 @@
 -- One slot on: what is lent to the slot, the table and what is down, says what the plan and the list say.
-use Prim.Native.Nat.{ℕ, _+_, _<_}
+use Prim.Native.Nat.{ℕ, _+_, _≤_, _<_}
 use native.Mathlib.Omega.{arith}
 use mathlib.Core.Path.{_≡_, sym, _∙_, ap, subst, fun-ext}
 use mathlib.Core.List.{List}
@@ -17,7 +17,7 @@ use Rattle.cycle.proofs.Agree.{slot-same}
 use Rattle.order.proofs.Prefix.{one-slot}
 use Rattle.picks.specs.declared.Sizes.{Sizes}
 use Rattle.picks.specs.declared.Picked.{Picked}
-use Rattle.picks.specs.Picks.{cutsOf, Playable, StandAt, MayAdvance}
+use Rattle.picks.specs.Picks.{cutsOf, Playable, Holding, StandAt, MayAdvance}
 
 -- under any list, whose links are down in the slot
 pub advanced : (row table : List ℕ) (z : Sizes) → Playable row table z → (cuts down : List ℕ) (s : ℕ) (ps qs : Standing) → s < z .timeout →
@@ -38,6 +38,18 @@ advanced row table z y cuts down s ps qs early are stand g =
                 sym (one-slot plan cuts s);
             stand = b .stand;
           };
+    }
+
+-- the list picked may be played on from where the messages stand
+pub may-advance : (row table : List ℕ) (z : Sizes) (ps : Standing) (p : Picked) (s : ℕ) → Playable row table z → Holding row z p →
+    StandAt row (z .messages) (cutsOf p) s ps → p .slot ≤ s → s < z .timeout → MayAdvance row table z ps p
+may-advance row table z ps p s play holding stand from early =
+    record {
+      play = play;
+      holding = holding;
+      stand = subst (λ (j : ℕ). StandAt row (z .messages) (cutsOf p) j ps) (sym (stand .time)) stand;
+      from = rw (stand .time) from;
+      early = rw (stand .time) early;
     }
 
 -- by the slot that begins at the time

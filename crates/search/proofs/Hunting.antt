@@ -1,47 +1,26 @@
 -- The loop over the number of pairs.
 use Prim.Native.Nat.{ℕ, _+_, _*_, _≤_, _<_}
 use native.Mathlib.Omega.{arith}
-use mathlib.Core.Path.{_≡_, refl, sym, _∙_, ap, subst}
-use mathlib.Core.Bool.{Bool, true, false, true≢false}
+use mathlib.Core.Path.{_≡_, sym, _∙_, ap}
+use mathlib.Core.Bool.{true, false, true≢false}
 use mathlib.Core.List.{List, []}
 use lib.ListN.{length, take}
-use lib.Dec.{ltb}
-use borrow.Author.Tests.{ltb-true, ltb-false}
-use Rattle.scope.specs.Limits.{mostLinks, mostCuts}
 use Rattle.scope.specs.Verdict.{Fails}
 use Rattle.scope.specs.Plan.{planOf}
 use Rattle.scope.specs.Cuts.{pairs}
 use Rattle.scope.specs.Cycle.{arrivals}
-use Rattle.laws.proofs.Cuts.{no-cuts}
 use Rattle.step.specs.declared.Standing.{Standing}
+use Rattle.picks.specs.Picks.{noPair}
 use Rattle.search.specs.declared.Asked.{Asked}
-use Rattle.search.specs.declared.Picked.{Picked}
+use Rattle.picks.specs.declared.Picked.{Picked}
 use Rattle.search.specs.declared.Hits.{Hits}
 use Rattle.search.specs.declared.Found.{Found}
 use Rattle.search.specs.declared.Hunted.{Hunted}
 use Rattle.order.specs.Search.{NoneOf}
-use Rattle.search.specs.Hunt.{noPair, noHits, Seeks, noHunted, Holding, AreAway, MaySeek, Sought, MayHunt, Hunts}
-use Rattle.order.proofs.Pairs.{is-cut-list}
-use Rattle.search.proofs.Answer.{first-failing}
-use Rattle.search.proofs.Risks.{noughts, covers-none}
-
-holding-none : (row : List ℕ) (a : Asked) → Holding row a noPair
-holding-none row a =
-    record {
-      long = refl;
-      slot = omega arith;
-      link = omega arith;
-      chosen =
-          record {
-            long = refl;
-            good = is-cut-list (planOf row) [] (λ i h. absurd (omega arith));
-            none = λ e. refl;
-            next = λ j e. absurd (omega arith);
-          };
-      size = refl;
-      down = λ i e h. ap (ltb 0) (noughts mostLinks e) ∙ sym (ap (λ (f : ℕ → ℕ → Bool). f i e) (no-cuts (planOf row)));
-      past = λ i h. noughts (2 * mostCuts) i;
-    }
+use Rattle.search.specs.Hunt.{noHits, Seeks, noHunted, AreAway, MaySeek, Sought, MayHunt, Hunts}
+use Rattle.order.proofs.First.{first-list, none-more}
+use Rattle.picks.proofs.Picking.{holding-none}
+use Rattle.search.proofs.Risks.{covers-none}
 
 -- nothing is found
 pub hunts-none : (row : List ℕ) (l k : ℕ) (h : Hunted) → h ≡ noHunted →
@@ -70,11 +49,11 @@ module _ (row table touchSets stripSets weights most : List ℕ) (a : Asked) (ps
   hunt-first = record { within = m .within; leave = m .before }
 
   pub may-seek : (n : ℕ) (p : Picked) (hits : Hits) (left : ℕ) → n ≤ k → p ≡ noPair → hits ≡ noHits →
-      AreAway (ps .positions) (a .messages) left → MaySeek row table touchSets stripSets weights most a hits ps left p n
+      AreAway (ps .positions) (a .sizes .messages) left → MaySeek row table touchSets stripSets weights most a hits ps left p n
   may-seek n p hits left h is none are =
       record {
         ready = m .ready;
-        holding = rw is (holding-none row a);
+        holding = rw is (holding-none row (a .sizes));
         covers = rw (is, none) (covers-none row);
         stand = rw is (m .stand);
         away = are;
@@ -97,20 +76,15 @@ module _ (row table touchSets stripSets weights most : List ℕ) (a : Asked) (ps
           none = λ z. absurd (true≢false (sym u ∙ z));
           some = λ z.
               rw (q, w)
-              (first-failing (planOf row) k (a .least) n (take (2 * n) (r .numbers)) few (g .leave) (rw same at (found .some t)));
+              (first-list (planOf row) (Seeks row a) k n (take (2 * n) (r .numbers)) few (g .leave) (rw same at (found .some t)));
           left = λ z. v ∙ rw (q, w) (rw same at (found .left t));
           past = λ z i l. rw w (found .past t i (omega arith));
           fewer = λ z i l. g .leave i (omega arith);
         }
 
     pub hunt-on : n ≤ k → r .found ≡ false → Hunting row a low k (n + 1)
-    hunt-on few t = record { within = omega arith; leave = λ i l. by i l (ltb i n) refl }
-      where
-        by : (i : ℕ) → i < n + 1 → (b : Bool) → ltb i n ≡ b → NoneOf (planOf row) (Seeks row a) [] i
-        by i l true e = g .leave i (ltb-true i n e)
-        by i l false e =
-            let at : n ≡ i = omega (arith, ltb-false i n e) in
-            subst (λ (j : ℕ). NoneOf (planOf row) (Seeks row a) [] j) at (found .none t .1)
+    hunt-on few t =
+        record { within = omega arith; leave = none-more (planOf row) (Seeks row a) n (g .leave) (found .none t .1) }
 
   pub hunt-over : (n : ℕ) (h : Hunted) → Hunting row a low k n → k < n → h ≡ noHunted → Hunts row (a .least) k h
   hunt-over n h g over is = hunts-none row (a .least) k h is (λ i l. g .leave i (omega arith))

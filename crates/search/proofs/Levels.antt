@@ -1,7 +1,7 @@
 -- The two loops of the search: over the links of a slot, and over the slots.
 use Prim.Native.Nat.{ℕ, _+_, _-_, _*_, _≤_, _<_}
 use native.Mathlib.Omega.{arith}
-use mathlib.Core.Path.{_≡_, refl, sym, subst}
+use mathlib.Core.Path.{_≡_, refl, subst}
 use mathlib.Core.Bool.{Bool, true, false, not, _&&_, cond, and-eq-true-iff}
 use mathlib.Core.List.{List, [], _∷_, _++_}
 use lib.ListN.{length, take}
@@ -16,48 +16,50 @@ use Rattle.step.specs.declared.Standing.{Standing}
 use Rattle.losses.specs.Harmed.{harmed}
 use Rattle.losses.specs.Strips.{bared}
 use Rattle.bound.specs.Bounds.{weightIn, topIn, frontIn, harmedAndBared}
+use Rattle.picks.specs.Picks.{cutsOf, withPair, Holding, StandAt, MayAdvance}
 use Rattle.search.specs.declared.Asked.{Asked}
-use Rattle.search.specs.declared.Picked.{Picked}
+use Rattle.picks.specs.declared.Picked.{Picked}
 use Rattle.search.specs.declared.Hits.{Hits}
 use Rattle.search.specs.declared.Risk.{Risk}
 use Rattle.search.specs.declared.Rest.{Rest}
 use Rattle.search.specs.declared.Found.{Found}
 use Rattle.order.specs.Search.{code, Not, NoneOf, NoneIn}
-use Rattle.search.specs.Hunt.{cutsOf, withPair, restOf, lossWith, tooLight, passes, Seeks, Fits, noFound, Ready, Holding}
-use Rattle.search.specs.Hunt.{StandAt, AreAway, Leaves}
-use Rattle.search.specs.Hunt.{MayPlayOut, MayAdvance, MaySeek, MaySeekIn, Sought, SoughtIn}
+use Rattle.search.specs.Hunt.{restOf, lossWith, tooLight, passes, Seeks, Fits, noFound, Ready}
+use Rattle.search.specs.Hunt.{AreAway, Leaves}
+use Rattle.search.specs.Hunt.{MayPlayOut, MaySeek, MaySeekIn, Sought, SoughtIn}
 use Rattle.order.proofs.Steps.{after, no-more, none-before, passed, cut-already, no-list-here, first-here, slot-over, joined, first-in-slot}
 use Rattle.order.proofs.Steps.{all-over, first-of-all}
 use Rattle.search.proofs.Weigh.{which, not-before, too-light}
 use Rattle.search.proofs.Telling.{tells-none, tells-more}
 use Rattle.search.specs.Risks.{risksOf, MayHit, IsHit, MayWeigh, MayTry}
-use Rattle.search.proofs.Picking.{named, cuts-more, holding-more, stand-more}
+use Rattle.picks.proofs.Playing.{may-advance}
+use Rattle.picks.proofs.Picking.{cut-by, cuts-more, holding-more, stand-more}
 use Rattle.search.proofs.Risks.{covers-more, counted, may-weigh}
 
 -- in slot s, from link e on: the lists whose next pair is there and before link i leave enough
 pub record Looking (row weights most : List ℕ) (a : Asked) (p : Picked) (n s e i : ℕ) (rest : Rest) : Type 0 where
   pub leave : NoneIn (planOf row) (Seeks row a) (cutsOf p) (n - 1) (code s e) (code s i)
   pub start : e ≤ i
-  pub within : i ≤ a .links
-  pub may : i < a .links → passes (p .down) weights most (a .need) rest s i ≡ true
+  pub within : i ≤ a .sizes .links
+  pub may : i < a .sizes .links → passes (p .down) weights most (a .need) rest s i ≡ true
 
 -- over the slots: the lists whose next pair comes before slot s and link e leave enough, and those of a set are still away
 pub record Climbing (row : List ℕ) (a : Asked) (p : Picked) (n s e : ℕ) (qs : Standing) (still : ℕ) : Type 0 where
   pub leave : NoneIn (planOf row) (Seeks row a) (cutsOf p) (n - 1) 0 (code s e)
-  pub stand : StandAt row (a .messages) (cutsOf p) s qs
-  pub away : AreAway (qs .positions) (a .messages) still
+  pub stand : StandAt row (a .sizes .messages) (cutsOf p) s qs
+  pub away : AreAway (qs .positions) (a .sizes .messages) still
   pub from : p .slot ≤ s
-  pub early : s ≤ a .timeout
-  pub link : e ≤ a .links
+  pub early : s ≤ a .sizes .timeout
+  pub link : e ≤ a .sizes .links
   pub later : code (p .slot) (p .link) ≤ code s e
 
 module _ (row table touchSets stripSets weights most : List ℕ) (a : Asked) (p : Picked) (n : ℕ)
-    (y : Ready row table touchSets stripSets weights most a) (h : Holding row a p) (some : 0 < n) (room : p .count + n ≤ mostCuts) where
+    (y : Ready row table touchSets stripSets weights most a) (h : Holding row (a .sizes) p) (some : 0 < n) (room : p .count + n ≤ mostCuts) where
   few : length (planOf row .links) ≤ mostLinks
   few = omega (arith, y .play .links, y .play .few)
 
   -- where too little is lost with a pair of slot s, it is with one of a later slot
-  all-light : (s i b : ℕ) (rest : Rest) → Leaves row (cutsOf p) most s (n - 1) rest → s ≤ i → b < a .links →
+  all-light : (s i b : ℕ) (rest : Rest) → Leaves row (cutsOf p) most s (n - 1) rest → s ≤ i → b < a .sizes .links →
       tooLight (a .need) (lossWith rest weights most (a .need) s b) ≡ true → (x : List ℕ) → length x ≡ 2 * (n - 1) →
       Not (planOf row) (Seeks row a) (cutsOf p ++ i ∷ b ∷ x)
   all-light s i b rest v later there light x long =
@@ -100,7 +102,7 @@ module _ (row table touchSets stripSets weights most : List ℕ) (a : Asked) (p 
           (p .count) (code (p .slot) (p .link)) (h .chosen) (n - 1) s i b later known (omega (arith, less, v .strips)) x long
 
   -- a link that may not be tried in slot s is not to be tried in a later one
-  not-tried : (s i b : ℕ) (rest : Rest) → Leaves row (cutsOf p) most s (n - 1) rest → s ≤ i → b < a .links →
+  not-tried : (s i b : ℕ) (rest : Rest) → Leaves row (cutsOf p) most s (n - 1) rest → s ≤ i → b < a .sizes .links →
       passes (p .down) weights most (a .need) rest s b ≡ false → (x : List ℕ) → length x ≡ 2 * (n - 1) →
       Not (planOf row) (Seeks row a) (cutsOf p ++ i ∷ b ∷ x)
   not-tried s i b rest v later l no-pass x long = by (isDown (p .down) b) refl no-pass
@@ -109,12 +111,12 @@ module _ (row table touchSets stripSets weights most : List ℕ) (a : Asked) (p 
           Not (planOf row) (Seeks row a) (cutsOf p ++ i ∷ b ∷ x)
       by false e light = all-light s i b rest v later l (not-false (tooLight (a .need) (lossWith rest weights most (a .need) s b)) light) x long
       by true e light =
-          let who = named row a p h b e in
+          let who = cut-by row (a .sizes) p h b e in
           cut-already (planOf row) (Seeks row a) few (cutsOf p) (p .count) (code (p .slot) (p .link)) (h .chosen) (n - 1) i b (who .0)
           (omega (arith, who .1, h .chosen .long)) (who .2) x
 
   -- links of slot s passed over, none of which may be tried
-  skipped : (lo s e f : ℕ) (rest : Rest) → Leaves row (cutsOf p) most s (n - 1) rest → f ≤ a .links →
+  skipped : (lo s e f : ℕ) (rest : Rest) → Leaves row (cutsOf p) most s (n - 1) rest → f ≤ a .sizes .links →
       ((b : ℕ) → e ≤ b → b < f → passes (p .down) weights most (a .need) rest s b ≡ false) →
       NoneIn (planOf row) (Seeks row a) (cutsOf p) (n - 1) lo (code s e) → NoneIn (planOf row) (Seeks row a) (cutsOf p) (n - 1) lo (code s f)
   skipped lo s e f rest v within none leave =
@@ -122,19 +124,19 @@ module _ (row table touchSets stripSets weights most : List ℕ) (a : Asked) (p 
       (omega (arith, y .play .few)) leave
       (λ b u w. not-tried s s b rest v (omega arith) (omega arith) (none b u w))
 
-  pub looked : (s e i : ℕ) (rest : Rest) (r : ℕ) → Leaves row (cutsOf p) most s (n - 1) rest → e ≤ i → i ≤ a .links →
+  pub looked : (s e i : ℕ) (rest : Rest) (r : ℕ) → Leaves row (cutsOf p) most s (n - 1) rest → e ≤ i → i ≤ a .sizes .links →
       NoneIn (planOf row) (Seeks row a) (cutsOf p) (n - 1) (code s e) (code s i) →
-      r ≡ seek (passes (p .down) weights most (a .need) rest s) (a .links - i) i → Looking row weights most a p n s e r rest
+      r ≡ seek (passes (p .down) weights most (a .need) rest s) (a .sizes .links - i) i → Looking row weights most a p n s e r rest
   looked s e i rest r v low high leave found =
       let test = passes (p .down) weights most (a .need) rest s in
-      let from = seek-from test (a .links - i) i in
-      let most′ = seek-most test (a .links - i) i in
+      let from = seek-from test (a .sizes .links - i) i in
+      let most′ = seek-most test (a .sizes .links - i) i in
       record {
         leave =
-            skipped (code s e) s i r rest v (omega arith) (λ b u w. seek-low test (a .links - i) i b u (omega arith)) leave;
+            skipped (code s e) s i r rest v (omega arith) (λ b u w. seek-low test (a .sizes .links - i) i b u (omega arith)) leave;
         start = omega arith;
         within = omega arith;
-        may = λ l. rw found (seek-is test (a .links - i) i (omega arith));
+        may = λ l. rw found (seek-is test (a .sizes .links - i) i (omega arith));
       }
 
   -- the place where to look first
@@ -142,14 +144,14 @@ module _ (row table touchSets stripSets weights most : List ℕ) (a : Asked) (p 
   look-first s e x y z long low high = absurd (omega arith)
 
   module _ (s e i : ℕ) (rest : Rest) (g : Looking row weights most a p n s e i rest) where
-    pub not-cut-yet : i < a .links → isDown (p .down) i ≡ false
+    pub not-cut-yet : i < a .sizes .links → isDown (p .down) i ≡ false
     not-cut-yet l =
         not-true (isDown (p .down) i)
         (and-eq-true-iff (not (isDown (p .down) i)) (not (tooLight (a .need) (lossWith rest weights most (a .need) s i))) .0 (g .may l) .0)
 
-    module _ (r : Found) (l : i < a .links) (f : Sought row a (withPair p s i) (n - 1) r) where
+    module _ (r : Found) (l : i < a .sizes .links) (f : Sought row a (withPair p s i) (n - 1) r) where
       more : cutsOf (withPair p s i) ≡ cutsOf p ++ s ∷ i ∷ []
-      more = cuts-more row table a p (y .play) h s i (omega arith)
+      more = cuts-more row table (a .sizes) p (y .play) h s i (omega arith)
 
       pub look-some : r .found ≡ true → SoughtIn row a p n s e r
       look-some t =
@@ -168,15 +170,15 @@ module _ (row table touchSets stripSets weights most : List ℕ) (a : Asked) (p 
           subst (λ (j : ℕ). (x : List ℕ) → length x ≡ 2 * (n - 1) → Not (planOf row) (Seeks row a) (cutsOf p ++ s ∷ j ∷ x)) at
           (no-list-here (planOf row) (Seeks row a) few (cutsOf p) (p .count) (code (p .slot) (p .link)) (h .chosen) (n - 1) s i all))
 
-    pub look-done : (r : Found) → a .links ≤ i → r ≡ noFound → SoughtIn row a p n s e r
+    pub look-done : (r : Found) → a .sizes .links ≤ i → r ≡ noFound → SoughtIn row a p n s e r
     look-done r l is =
         let end : i ≡ length (planOf row .links) = omega (arith, g .within, y .play .links) in
         tells-none row _ _ (p .count + n) r is
         (slot-over (planOf row) (Seeks row a) few (cutsOf p) (p .count) (code (p .slot) (p .link)) (h .chosen) (n - 1) (code s e) s
         (subst (λ (j : ℕ). NoneIn (planOf row) (Seeks row a) (cutsOf p) (n - 1) (code s e) (code s j)) end (g .leave)))
 
-  pub climb-first : (ps : Standing) (left : ℕ) → StandAt row (a .messages) (cutsOf p) (p .slot) ps →
-      AreAway (ps .positions) (a .messages) left → Climbing row a p n (p .slot) (p .link) ps left
+  pub climb-first : (ps : Standing) (left : ℕ) → StandAt row (a .sizes .messages) (cutsOf p) (p .slot) ps →
+      AreAway (ps .positions) (a .sizes .messages) left → Climbing row a p n (p .slot) (p .link) ps left
   climb-first ps left stand are =
       record {
         leave = none-before (planOf row) (Seeks row a) few (cutsOf p) (p .count) (code (p .slot) (p .link)) (h .chosen) (n - 1);
@@ -194,7 +196,7 @@ module _ (row table touchSets stripSets weights most : List ℕ) (a : Asked) (p 
   module _ (s e : ℕ) (qs : Standing) (still : ℕ) (g : Climbing row a p n s e qs still) where
     -- no link of this slot may be tried
     pub climb-stop : (r : Found) (rest : Rest) (f : ℕ) → r ≡ noFound → Leaves row (cutsOf p) most s (n - 1) rest →
-        f ≡ seek (passes (p .down) weights most (a .need) rest s) (a .links - 0) 0 → a .links ≤ f → Sought row a p n r
+        f ≡ seek (passes (p .down) weights most (a .need) rest s) (a .sizes .links - 0) 0 → a .sizes .links ≤ f → Sought row a p n r
     climb-stop r rest f is v found over =
         let plan = planOf row in
         let Answers = Seeks row a in
@@ -203,19 +205,19 @@ module _ (row table touchSets stripSets weights most : List ℕ) (a : Asked) (p 
         (no-more plan Answers few (cutsOf p) (p .count) (code (p .slot) (p .link)) (h .chosen) (n - 1) s e (g .leave)
         (λ i b x long low good it.
         let next = after plan Answers few (cutsOf p) (p .count) (code (p .slot) (p .link)) (h .chosen) (n - 1) i b x good in
-        let there : b < a .links = omega (arith, next .link, y .play .links) in
+        let there : b < a .sizes .links = omega (arith, next .link, y .play .links) in
         not-tried s i b rest v (omega (arith, low, next .link, few, g .link, y .play .few)) there
-        (seek-low (passes (p .down) weights most (a .need) rest s) (a .links - 0) 0 b (omega arith) (omega arith)) x long good it)))
+        (seek-low (passes (p .down) weights most (a .need) rest s) (a .sizes .links - 0) 0 b (omega arith) (omega arith)) x long good it)))
 
     -- no list goes on with a link of this slot before the first that may be tried
     pub climb-skip : (rest : Rest) (f j : ℕ) → Leaves row (cutsOf p) most s (n - 1) rest →
-        f ≡ seek (passes (p .down) weights most (a .need) rest s) (a .links - 0) 0 → j ≡ e + (f - e) → Climbing row a p n s j qs still
+        f ≡ seek (passes (p .down) weights most (a .need) rest s) (a .sizes .links - 0) 0 → j ≡ e + (f - e) → Climbing row a p n s j qs still
     climb-skip rest f j v found is =
         let test = passes (p .down) weights most (a .need) rest s in
-        let within : j ≤ a .links = omega (arith, g .link, seek-most test (a .links - 0) 0) in
+        let within : j ≤ a .sizes .links = omega (arith, g .link, seek-most test (a .sizes .links - 0) 0) in
         record {
           leave =
-              skipped 0 s e j rest v within (λ b u w. seek-low test (a .links - 0) 0 b (omega arith) (omega arith)) (g .leave);
+              skipped 0 s e j rest v within (λ b u w. seek-low test (a .sizes .links - 0) 0 b (omega arith) (omega arith)) (g .leave);
           stand = g .stand;
           away = g .away;
           from = g .from;
@@ -224,7 +226,7 @@ module _ (row table touchSets stripSets weights most : List ℕ) (a : Asked) (p 
           later = omega (arith, g .later);
         }
 
-    pub climb-over : (r : Found) → r ≡ noFound → a .timeout ≤ s → Sought row a p n r
+    pub climb-over : (r : Found) → r ≡ noFound → a .sizes .timeout ≤ s → Sought row a p n r
     climb-over r is over =
         tells-none row _ _ (p .count + n) r is
         (rw whole at
@@ -243,8 +245,8 @@ module _ (row table touchSets stripSets weights most : List ℕ) (a : Asked) (p 
           (first-in-slot (planOf row) (Seeks row a) few (cutsOf p) (p .count) (code (p .slot) (p .link)) (h .chosen) (n - 1) 0 (code s e)
           (take (2 * (p .count + n)) (r .numbers)) (g .leave) first)))
 
-      pub climb-on : (rs : Standing) (then : ℕ) → r .found ≡ false → s < a .timeout → StandAt row (a .messages) (cutsOf p) (s + 1) rs →
-          AreAway (rs .positions) (a .messages) then → Climbing row a p n (s + 1) 0 rs then
+      pub climb-on : (rs : Standing) (then : ℕ) → r .found ≡ false → s < a .sizes .timeout → StandAt row (a .sizes .messages) (cutsOf p) (s + 1) rs →
+          AreAway (rs .positions) (a .sizes .messages) then → Climbing row a p n (s + 1) 0 rs then
       climb-on rs then t early stand are =
           record {
             leave =
@@ -266,9 +268,9 @@ goes-up test n i r e = omega (arith, seek-from test n (i + 1))
 -- the calls
 module _ (row table touchSets stripSets weights most : List ℕ) (a : Asked) (hits : Hits) (ps : Standing) (left : ℕ) (p : Picked) (n s e : ℕ)
     (rest : Rest) (m : MaySeekIn row table touchSets stripSets weights most a hits ps left p n s e rest) where
-  next-holds : (i : ℕ) → Looking row weights most a p n s e i rest → i < a .links → Holding row a (withPair p s i)
+  next-holds : (i : ℕ) → Looking row weights most a p n s e i rest → i < a .sizes .links → Holding row (a .sizes) (withPair p s i)
   next-holds i g l =
-      holding-more row table a p (m .ready .play) (m .holding) s i (omega (arith, m .few, m .some)) (omega (arith, m .later, g .start))
+      holding-more row table (a .sizes) p (m .ready .play) (m .holding) s i (omega (arith, m .few, m .some)) (omega (arith, m .later, g .start))
       (m .early) l
       (not-cut-yet row table touchSets stripSets weights most a p n (m .ready) (m .holding) (m .some) (m .few) s e i rest g l)
 
@@ -282,7 +284,7 @@ module _ (row table touchSets stripSets weights most : List ℕ) (a : Asked) (hi
         omega (arith, m .early, m .ready .play .short);
   }
 
-  pub may-hit : (i : ℕ) → i < a .links → MayHit touchSets stripSets s i
+  pub may-hit : (i : ℕ) → i < a .sizes .links → MayHit touchSets stripSets s i
   may-hit i l =
       record {
         touches = m .ready .hit .touch;
@@ -291,29 +293,29 @@ module _ (row table touchSets stripSets weights most : List ℕ) (a : Asked) (hi
         link = omega (arith, m .ready .play .few);
       }
 
-  pub may-go-on : (i : ℕ) (q : Picked) (more : Hits) → Looking row weights most a p n s e i rest → i < a .links → q ≡ withPair p s i →
+  pub may-go-on : (i : ℕ) (q : Picked) (more : Hits) → Looking row weights most a p n s e i rest → i < a .sizes .links → q ≡ withPair p s i →
       IsHit touchSets stripSets hits s i more → MaySeek row table touchSets stripSets weights most a more ps left q (n - 1)
   may-go-on i q more g l is hit =
       record {
         ready = m .ready;
         holding = rw is (next-holds i g l);
         covers =
-            rw (is, cuts-more row table a p (m .ready .play) (m .holding) s i (omega (arith, m .few, m .some)))
+            rw (is, cuts-more row table (a .sizes) p (m .ready .play) (m .holding) s i (omega (arith, m .few, m .some)))
             (covers-more row touchSets stripSets (cutsOf p) (p .count) s i hits more (m .ready .hit)
             (m .holding .chosen .long) (omega (arith, m .early, m .ready .play .timeout)) (omega (arith, m .ready .play .links)) (m .covers)
             hit);
-        stand = rw is (stand-more row table a p (m .ready .play) (m .holding) s i (omega (arith, m .few, m .some)) (a .messages) ps (m .stand));
+        stand = rw is (stand-more row table (a .sizes) p (m .ready .play) (m .holding) s i (omega (arith, m .few, m .some)) (a .sizes .messages) ps (m .stand));
         away = m .away;
         few = rw is (omega (arith, m .few, m .some));
       }
 
   pub looks-first : (r : ℕ) →
-      r ≡ seek (passes (p .down) weights most (a .need) rest s) (a .links - e) e → Looking row weights most a p n s e r rest
+      r ≡ seek (passes (p .down) weights most (a .need) rest s) (a .sizes .links - e) e → Looking row weights most a p n s e r rest
   looks-first r found =
       looked row table touchSets stripSets weights most a p n (m .ready) (m .holding) (m .some) (m .few) s e e rest r (m .leaves)
       (omega arith) (m .link) (look-first row table touchSets stripSets weights most a p n (m .ready) (m .holding) (m .some) (m .few) s e) found
 
-  module _ (i : ℕ) (q : Picked) (r : Found) (g : Looking row weights most a p n s e i rest) (l : i < a .links) (is : q ≡ withPair p s i)
+  module _ (i : ℕ) (q : Picked) (r : Found) (g : Looking row weights most a p n s e i rest) (l : i < a .sizes .links) (is : q ≡ withPair p s i)
       (f : Sought row a q (n - 1) r) where
     found : Sought row a (withPair p s i) (n - 1) r
     found = rw is at f
@@ -323,7 +325,7 @@ module _ (row table touchSets stripSets weights most : List ℕ) (a : Asked) (hi
         look-some row table touchSets stripSets weights most a p n (m .ready) (m .holding) (m .some) (m .few) s e i rest g r l found t
 
     pub looks-on : (j : ℕ) → r .found ≡ false →
-        j ≡ seek (passes (p .down) weights most (a .need) rest s) (a .links - (i + 1)) (i + 1) → Looking row weights most a p n s e j rest
+        j ≡ seek (passes (p .down) weights most (a .need) rest s) (a .sizes .links - (i + 1)) (i + 1) → Looking row weights most a p n s e j rest
     looks-on j t next =
         looked row table touchSets stripSets weights most a p n (m .ready) (m .holding) (m .some) (m .few) s e (i + 1) rest j (m .leaves)
         (omega (arith, g .start)) (omega arith)
@@ -353,17 +355,17 @@ module _ (row table touchSets stripSets weights most : List ℕ) (a : Asked) (hi
       climb-first row table touchSets stripSets weights most a p n (m .ready) (m .holding) positive (m .few) ps left (m .stand) (m .away)
 
   module _ (s e : ℕ) (qs : Standing) (still : ℕ) (g : Climbing row a p n s e qs still) where
-    pub may-weigh-rest : (risk : Risk) → s < a .timeout → risk ≡ risksOf hits still → MayWeigh risk (n - 1) most s
+    pub may-weigh-rest : (risk : Risk) → s < a .sizes .timeout → risk ≡ risksOf hits still → MayWeigh risk (n - 1) most s
     may-weigh-rest risk early is =
         may-weigh hits still most s (n - 1) risk is (omega (arith, m .few)) (m .ready .tops) (omega (arith, m .ready .play .short))
 
     module _ (risk : Risk) (rest : Rest) (is : risk ≡ risksOf hits still) (so : (rest ≡ restOf risk (n - 1) most s) × Fits rest) where
       leaves : Leaves row (cutsOf p) most s (n - 1) rest
       leaves =
-          counted row (a .messages) (cutsOf p) s qs (g .stand) (m .ready .play .messages) still (g .away) hits (m .covers) most (n - 1) risk
+          counted row (a .sizes .messages) (cutsOf p) s qs (g .stand) (m .ready .play .messages) still (g .away) hits (m .covers) most (n - 1) risk
           rest is (so .0) (so .1)
 
-      pub may-try-all : s < a .timeout → MayTry weights most (a .need) rest s
+      pub may-try-all : s < a .sizes .timeout → MayTry weights most (a .need) rest s
       may-try-all early =
           record {
             heavy = m .ready .heavy;
@@ -374,20 +376,20 @@ module _ (row table touchSets stripSets weights most : List ℕ) (a : Asked) (hi
                 omega (arith, m .ready .play .short);
           }
 
-      pub climbs-stop : (r : Found) (f : ℕ) → r ≡ noFound → f ≡ seek (passes (p .down) weights most (a .need) rest s) (a .links - 0) 0 →
-          a .links ≤ f → Sought row a p n r
+      pub climbs-stop : (r : Found) (f : ℕ) → r ≡ noFound → f ≡ seek (passes (p .down) weights most (a .need) rest s) (a .sizes .links - 0) 0 →
+          a .sizes .links ≤ f → Sought row a p n r
       climbs-stop r f none =
           climb-stop row table touchSets stripSets weights most a p n (m .ready) (m .holding) positive (m .few) s e qs still g r rest f none
           leaves
 
       -- from the first link of the slot that may be tried on, if that is a later one
-      module _ (f j : ℕ) (found : f ≡ seek (passes (p .down) weights most (a .need) rest s) (a .links - 0) 0) (next : j ≡ e + (f - e)) where
+      module _ (f j : ℕ) (found : f ≡ seek (passes (p .down) weights most (a .need) rest s) (a .sizes .links - 0) 0) (next : j ≡ e + (f - e)) where
         here : Climbing row a p n s j qs still
         here =
             climb-skip row table touchSets stripSets weights most a p n (m .ready) (m .holding) positive (m .few) s e qs still g rest f j leaves
             found next
 
-        pub may-look : s < a .timeout → MaySeekIn row table touchSets stripSets weights most a hits qs still p n s j rest
+        pub may-look : s < a .sizes .timeout → MaySeekIn row table touchSets stripSets weights most a hits qs still p n s j rest
         may-look early =
             record {
               ready = m .ready;
@@ -408,22 +410,15 @@ module _ (row table touchSets stripSets weights most : List ℕ) (a : Asked) (hi
           climbs-some =
               climb-some row table touchSets stripSets weights most a p n (m .ready) (m .holding) positive (m .few) s j qs still here r told
 
-          pub climbs-on : (rs : Standing) (then : ℕ) → r .found ≡ false → s < a .timeout →
-              StandAt row (a .messages) (cutsOf p) (qs .time .0 + 1) rs → AreAway (rs .positions) (a .messages) then →
+          pub climbs-on : (rs : Standing) (then : ℕ) → r .found ≡ false → s < a .sizes .timeout →
+              StandAt row (a .sizes .messages) (cutsOf p) (qs .time .0 + 1) rs → AreAway (rs .positions) (a .sizes .messages) then →
               Climbing row a p n (s + 1) 0 rs then
           climbs-on rs then t early stand =
               climb-on row table touchSets stripSets weights most a p n (m .ready) (m .holding) positive (m .few) s j qs still here r told rs
               then t early (rw (g .stand .time) at stand)
 
-    pub may-advance : s < a .timeout → MayAdvance row table a qs p
-    may-advance early =
-        record {
-          play = m .ready .play;
-          holding = m .holding;
-          stand = subst (λ (j : ℕ). StandAt row (a .messages) (cutsOf p) j qs) (sym (g .stand .time)) (g .stand);
-          from = rw (g .stand .time) (g .from);
-          early = rw (g .stand .time) early;
-        }
+    pub climbs-may : s < a .sizes .timeout → MayAdvance row table (a .sizes) qs p
+    climbs-may = may-advance row table (a .sizes) qs p s (m .ready .play) (m .holding) (g .stand) (g .from)
 
-    pub climbs-over : (r : Found) → r ≡ noFound → a .timeout ≤ s → Sought row a p n r
+    pub climbs-over : (r : Found) → r ≡ noFound → a .sizes .timeout ≤ s → Sought row a p n r
     climbs-over = climb-over row table touchSets stripSets weights most a p n (m .ready) (m .holding) positive (m .few) s e qs still g

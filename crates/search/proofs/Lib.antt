@@ -1,6 +1,5 @@
 pub mod Weigh
 pub mod Answer
-pub mod Picking
 pub mod Risks
 pub mod Telling
 pub mod Playing

@@ -1,7 +1,7 @@
--- What is lent to the play, the table and what is down, says what the plan and the list say.
+-- A list played to the end, as long as enough messages can be lost.
 use Prim.Native.Nat.{ℕ, _+_, _*_, _≤_, _<_}
 use native.Mathlib.Omega.{arith}
-use mathlib.Core.Path.{_≡_, sym, _∙_, ap, ap₂, subst, fun-ext}
+use mathlib.Core.Path.{_≡_, sym, _∙_, ap, ap₂}
 use mathlib.Core.Bool.{Bool, true, false}
 use mathlib.Core.List.{List}
 use lib.ListN.{length, take}
@@ -9,61 +9,35 @@ use lib.Dec.{ltb}
 use borrow.Author.Tests.{ltb-true, ltb-false}
 use Rattle.scope.specs.Plan.{planOf}
 use Rattle.scope.specs.Cuts.{isCut}
-use Rattle.scope.specs.Cycle.{orderOf, tableOf, start, nexts, positions, arrived, arrivals}
-use Rattle.table.specs.Table.{entryAt}
-use Rattle.step.specs.declared.Slot.{Slot}
-use Rattle.step.specs.declared.Time.{Time}
+use Rattle.scope.specs.Cycle.{orderOf, tableOf, start, positions, arrived, arrivals}
 use Rattle.step.specs.declared.Standing.{Standing}
 use Rattle.step.specs.Stand.{positionsOf}
-use Rattle.step.specs.Slot.{downNow, MayGo, GoesOn}
-use Rattle.cycle.proofs.Agree.{slot-same}
-use Rattle.order.proofs.Prefix.{one-slot}
 use Rattle.order.proofs.Steps.{nothing-more, itself}
+use Rattle.picks.specs.Picks.{cutsOf, StandAt, MayAdvance}
+use Rattle.picks.proofs.Playing.{may-advance}
 use Rattle.search.specs.declared.Asked.{Asked}
-use Rattle.search.specs.declared.Picked.{Picked}
+use Rattle.picks.specs.declared.Picked.{Picked}
 use Rattle.search.specs.declared.Hits.{Hits}
 use Rattle.search.specs.declared.Risk.{Risk}
 use Rattle.search.specs.declared.Found.{Found}
-use Rattle.search.specs.Hunt.{cutsOf, Seeks, noFound, Playable, Holding, StandAt, AreAway, MayPlayOut, MayAdvance, Sought}
+use Rattle.search.specs.Hunt.{Seeks, noFound, AreAway, MayPlayOut, Sought}
 use Rattle.search.specs.Risks.{risksOf}
 use Rattle.search.proofs.Risks.{lost-counted}
 use Rattle.search.proofs.Telling.{tells-none, tells-some}
 
-module _ (row table : List ℕ) (a : Asked) (p : Picked) (y : Playable row table a) (h : Holding row a p) where
-  -- one slot on
-  advanced : (s : ℕ) (ps qs : Standing) → p .slot ≤ s → s < a .timeout → StandAt row (a .messages) (cutsOf p) s ps →
-      GoesOn row table (p .down) (a .messages) s ps qs → StandAt row (a .messages) (cutsOf p) (s + 1) qs
-  unfolding positions
-  advanced s ps qs low early stand g =
-      let plan = planOf row in
-      let b = g .moves .next in
-      let same = slot-same (orderOf plan) (downNow (p .down)) (isCut plan (cutsOf p)) (entryAt table) (tableOf plan) s
-      (positionsOf row (a .messages) (ps .positions))
-      (fun-ext (λ e. h .down s e low)) (y .owner s (omega (arith, y .short))) in
-      record {
-        time = g .time;
-        next =
-            record {
-              is =
-                  b .is ∙ ap nexts same ∙ ap (positions (orderOf plan) (isCut plan (cutsOf p)) (tableOf plan) s 1) (stand .next .is) ∙
-                  sym (one-slot plan (cutsOf p) s);
-              stand = b .stand;
-            };
-      }
+-- the list picked stands at time i, and those of a set are still away
+pub record Ending (row : List ℕ) (a : Asked) (p : Picked) (i : ℕ) (qs : Standing) (still : ℕ) : Type 0 where
+  pub stand : StandAt row (a .sizes .messages) (cutsOf p) i qs
+  pub away : AreAway (qs .positions) (a .sizes .messages) still
+  pub from : p .slot ≤ i
+  pub early : i ≤ a .sizes .timeout
 
-  -- by the slot that begins at the time
-  module _ (ps : Standing) (m : MayAdvance row table a ps p) (t : Time) (i : Slot) (now : t ≡ ps .time) (begins : i .0 ≡ t .0) where
-    at : i .0 ≡ ps .time .0
-    at = begins ∙ ap (λ (x : Time). x .0) now
+module _ (row table : List ℕ) (a : Asked) (hits : Hits) (ps : Standing) (left : ℕ) (p : Picked)
+    (m : MayPlayOut row table a hits ps left p) where
+  pub ends-first : Ending row a p (p .slot) ps left
+  ends-first = record { stand = m .stand; away = m .away; from = omega arith; early = m .holding .slot }
 
-    pub may-step : MayGo row (a .messages) ps (i .0)
-    may-step = record { stand = m .stand .next .stand; at = sym at; early = omega (arith, at, m .early, m .play .short) }
-
-    pub stepped : (qs : Standing) → GoesOn row table (p .down) (a .messages) (i .0) ps qs →
-        StandAt row (a .messages) (cutsOf p) (ps .time .0 + 1) qs
-    stepped qs g =
-        advanced (ps .time .0) ps qs (m .from) (m .early) (m .stand) (subst (λ (j : ℕ). GoesOn row table (p .down) (a .messages) j ps qs) at g)
-
+  -- the answer at the end
   pub settled-none : (r : Found) (n : ℕ) (b : Bool) → r ≡ noFound → n ≡ arrivals (planOf row) (cutsOf p) → b ≡ ltb n (a .least) → b ≡ false →
       Sought row a p 0 r
   settled-none r n b is e t so =
@@ -72,38 +46,19 @@ module _ (row table : List ℕ) (a : Asked) (p : Picked) (y : Playable row table
 
   pub settled-some : (r : Found) (n : ℕ) (b : Bool) → r .arrivals ≡ n → r .numbers ≡ p .numbers → r .found ≡ true →
       n ≡ arrivals (planOf row) (cutsOf p) → b ≡ ltb n (a .least) → b ≡ true → Sought row a p 0 r
-  settled-some r n b i m f e t so =
+  settled-some r n b i same f e t so =
       let z : p .count + 0 ≡ p .count = omega arith in
-      let same : take (2 * (p .count + 0)) (r .numbers) ≡ cutsOf p = ap₂ (λ (k : ℕ) (l : List ℕ). take (2 * k) l) z m in
-      tells-some row _ _ (p .count + 0) r f (ap length m ∙ h .long)
-      (rw same (itself (planOf row) (Seeks row a) (cutsOf p) (h .chosen .good) (omega (arith, ltb-true n (a .least) (sym t ∙ so)))))
-      (i ∙ e ∙ ap (arrivals (planOf row)) (sym same)) (λ j l. rw m (h .past j (omega arith)))
-
--- the list picked stands at time i, and those of a set are still away
-pub record Ending (row : List ℕ) (a : Asked) (p : Picked) (i : ℕ) (qs : Standing) (still : ℕ) : Type 0 where
-  pub stand : StandAt row (a .messages) (cutsOf p) i qs
-  pub away : AreAway (qs .positions) (a .messages) still
-  pub from : p .slot ≤ i
-  pub early : i ≤ a .timeout
-
-module _ (row table : List ℕ) (a : Asked) (hits : Hits) (ps : Standing) (left : ℕ) (p : Picked)
-    (m : MayPlayOut row table a hits ps left p) where
-  pub ends-first : Ending row a p (p .slot) ps left
-  ends-first = record { stand = m .stand; away = m .away; from = omega arith; early = m .holding .slot }
+      let list : take (2 * (p .count + 0)) (r .numbers) ≡ cutsOf p = ap₂ (λ (k : ℕ) (l : List ℕ). take (2 * k) l) z same in
+      tells-some row _ _ (p .count + 0) r f (ap length same ∙ m .holding .long)
+      (rw list (itself (planOf row) (Seeks row a) (cutsOf p) (m .holding .chosen .good) (omega (arith, ltb-true n (a .least) (sym t ∙ so)))))
+      (i ∙ e ∙ ap (arrivals (planOf row)) (sym list)) (λ j l. rw same (m .holding .past j (omega arith)))
 
   module _ (i : ℕ) (qs : Standing) (still : ℕ) (g : Ending row a p i qs still) where
-    pub ends-may : i < a .timeout → MayAdvance row table a qs p
-    ends-may l =
-        record {
-          play = m .play;
-          holding = m .holding;
-          stand = subst (λ (j : ℕ). StandAt row (a .messages) (cutsOf p) j qs) (sym (g .stand .time)) (g .stand);
-          from = rw (g .stand .time) (g .from);
-          early = rw (g .stand .time) l;
-        }
+    pub ends-may : i < a .sizes .timeout → MayAdvance row table (a .sizes) qs p
+    ends-may = may-advance row table (a .sizes) qs p i (m .play) (m .holding) (g .stand) (g .from)
 
-    pub ends-more : (rs : Standing) (then : ℕ) → i < a .timeout → StandAt row (a .messages) (cutsOf p) (qs .time .0 + 1) rs →
-        AreAway (rs .positions) (a .messages) then → Ending row a p (i + 1) rs then
+    pub ends-more : (rs : Standing) (then : ℕ) → i < a .sizes .timeout → StandAt row (a .sizes .messages) (cutsOf p) (qs .time .0 + 1) rs →
+        AreAway (rs .positions) (a .sizes .messages) then → Ending row a p (i + 1) rs then
     ends-more rs then l s are =
         record { stand = rw (g .stand .time) at s; away = are; from = omega (arith, g .from); early = omega arith }
 
@@ -111,7 +66,7 @@ module _ (row table : List ℕ) (a : Asked) (hits : Hits) (ps : Standing) (left 
     pub ends-light : (r : Found) (risk : Risk) (b : Bool) → r ≡ noFound → risk ≡ risksOf hits still → b ≡ ltb (risk .lost) (a .need) →
         b ≡ true → Sought row a p 0 r
     ends-light r risk b is count t so =
-        let few = lost-counted row (a .messages) (cutsOf p) i qs (g .stand) (m .play .messages) still (g .away) hits (m .covers) in
+        let few = lost-counted row (a .sizes .messages) (cutsOf p) i qs (g .stand) (m .play .messages) still (g .away) hits (m .covers) in
         let light = ltb-true (risk .lost) (a .need) (sym t ∙ so) in
         tells-none row _ _ (p .count + 0) r is
         (nothing-more (planOf row) (Seeks row a) (cutsOf p)
@@ -126,7 +81,7 @@ module _ (row table : List ℕ) (a : Asked) (hits : Hits) (ps : Standing) (left 
         )))
 
     -- the end
-    pub ends-over : (n : ℕ) → a .timeout ≤ i → n ≡ arrived (positionsOf row (a .messages) (qs .positions)) →
+    pub ends-over : (n : ℕ) → a .sizes .timeout ≤ i → n ≡ arrived (positionsOf row (a .sizes .messages) (qs .positions)) →
         n ≡ arrivals (planOf row) (cutsOf p)
     unfolding arrivals
     ends-over n l e =

@@ -1,10 +1,10 @@
 -- The sets hold every message that the pairs picked touch and strip, so no fewer messages are counted at risk.
-use Prim.Native.Nat.{ℕ, zero, suc, _+_, _*_, _≤_, _<_}
+use Prim.Native.Nat.{ℕ, _+_, _*_, _≤_, _<_}
 use native.Mathlib.Omega.{arith}
 use mathlib.Core.Path.{_≡_, refl, sym, _∙_, ap, ap₂}
 use mathlib.Core.Bool.{Bool, true, false, not, _&&_, _||_, and-true, and-false, or-true, or-false, and-eq-true-iff}
 use mathlib.Core.List.{List, [], _∷_, _++_}
-use lib.ListN.{length, getD, take, replicate, List·getD-map}
+use lib.ListN.{length, getD, take, List·getD-map}
 use lib.Seq.{getD-take}
 use lib.Dec.{ltb, eqb}
 use lib.Arith.{lt-of-le-ne}
@@ -31,17 +31,12 @@ use Rattle.table.specs.Table.{indexOf}
 use Rattle.bound.specs.Sets.{setIn}
 use Rattle.losses.proofs.Parts.{harm-both}
 use Rattle.order.proofs.Parts.{pairs-both}
+use Rattle.picks.specs.Picks.{StandAt}
 use Rattle.search.specs.declared.Hits.{Hits}
 use Rattle.search.specs.declared.Risk.{Risk}
 use Rattle.search.specs.declared.Rest.{Rest}
-use Rattle.search.specs.Hunt.{noHits, restOf, Fits, Hittable, StandAt, AreAway, Covers, Leaves}
+use Rattle.search.specs.Hunt.{noHits, restOf, Fits, Hittable, AreAway, Covers, Leaves}
 use Rattle.search.specs.Risks.{countIn, risksOf, IsHit, MayWeigh}
-
--- zeros, and zeros past them
-pub noughts : (k w : ℕ) → _≡_ {A = ℕ} (getD {A = ℕ} (replicate {A = ℕ} k 0) w 0) 0
-noughts zero w = refl
-noughts (suc k) zero = refl
-noughts (suc k) (suc w) = noughts k w
 
 -- what one pair weighs
 one-pair : (weight : ℕ → ℕ → ℕ) (s e : ℕ) → harm weight (s ∷ e ∷ []) 1 ≡ weight s e

@@ -3,51 +3,31 @@ use Prim.Native.Nat.{ℕ, _+_, _-_, _*_, _≤_, _<_}
 use mathlib.Core.Path.{_≡_}
 use mathlib.Core.Bool.{Bool, true, false, not, _&&_, _||_, cond}
 use mathlib.Core.List.{List, []}
-use lib.ListN.{length, getD, take, set, replicate}
+use lib.ListN.{length, getD, take, replicate}
 use lib.Dec.{ltb, eqb}
-use Rattle.scope.specs.Limits.{mostCuts, mostSlots, mostLinks, planeSize, weightsSize, topsSize}
+use Rattle.scope.specs.Limits.{mostCuts, planeSize, weightsSize, topsSize}
 use Rattle.scope.specs.Plan.{planOf}
-use Rattle.scope.specs.Cuts.{isCut}
 use Rattle.scope.specs.Verdict.{Fails, FirstFailing}
-use Rattle.scope.specs.Cycle.{orderOf, tableOf, start, positions, arrivals}
+use Rattle.scope.specs.Cycle.{positions, arrivals}
 use Rattle.cuts.specs.Down.{isDown}
-use Rattle.table.specs.Table.{entryAt}
 use Rattle.step.specs.declared.Position.{Position}
 use Rattle.step.specs.declared.Standing.{Standing}
-use Rattle.step.specs.Stand.{home, Become}
+use Rattle.step.specs.Stand.{home}
 use Rattle.sets.specs.Sets.{has}
-use Rattle.order.specs.Search.{code, Chosen, NoneOf, FirstOf, NoneIn, FirstFrom}
+use Rattle.picks.specs.Picks.{cutsOf, Playable, Holding, StandAt}
+use Rattle.order.specs.Search.{code, NoneOf, FirstOf, NoneIn, FirstFrom}
 use Rattle.bound.specs.Bounds.{weightIn, topIn, frontIn, harmedAndBared, Bounds}
 use Rattle.losses.specs.Harmed.{hers, isTouched, harmed}
 use Rattle.losses.specs.Strips.{strips, isStripped, bared}
 use Rattle.bound.specs.Sets.{setIn}
 use Rattle.search.specs.declared.Asked.{Asked}
-use Rattle.search.specs.declared.Picked.{Picked}
+use Rattle.picks.specs.declared.Picked.{Picked}
 use Rattle.search.specs.declared.Hits.{Hits}
 use Rattle.search.specs.declared.Risk.{Risk}
 use Rattle.search.specs.declared.Loss.{Loss}
 use Rattle.search.specs.declared.Rest.{Rest}
 use Rattle.search.specs.declared.Found.{Found}
 use Rattle.search.specs.declared.Hunted.{Hunted}
-
--- the pairs picked, as a list
-abbrev pub cutsOf : Picked → List ℕ
-cutsOf p = take (2 * p .count) (p .numbers)
-
--- with one pair more
-abbrev pub withPair : Picked → ℕ → ℕ → Picked
-withPair p s e =
-    record {
-      count = p .count + 1;
-      slot = s;
-      link = e + 1;
-      numbers = set (set (p .numbers) (2 * p .count) s) (2 * p .count + 1) e;
-      down = set (p .down) e 1;
-    }
-
--- no pair
-abbrev pub noPair : Picked
-noPair = record { count = 0; slot = 0; link = 0; numbers = replicate (2 * mostCuts) 0; down = replicate mostLinks 0 }
 
 -- what can be lost where so many messages are at risk and n pairs more are to come, none before slot s
 abbrev pub restOf : Risk → ℕ → List ℕ → ℕ → Rest
@@ -102,15 +82,6 @@ noFound = record { found = false; arrivals = 0; numbers = replicate (2 * mostCut
 abbrev pub noHunted : Hunted
 noHunted = record { found = false; pairs = 0; arrivals = 0; numbers = replicate (2 * mostCuts) 0 }
 
--- what is asked of the plan of a row, with its table
-pub record Playable (row table : List ℕ) (a : Asked) : Type 0 where
-  pub timeout : a .timeout ≡ planOf row .timeout
-  pub short : a .timeout ≤ mostSlots
-  pub links : a .links ≡ length (planOf row .links)
-  pub few : a .links ≤ mostLinks
-  pub messages : a .messages ≡ length (planOf row .messages)
-  pub owner : (i : ℕ) → i < mostSlots → entryAt table i ≡ tableOf (planOf row) i
-
 -- with whom a pair hits: whom it touches, and whom it strips, is in its set
 pub record Hittable (row touchSets stripSets : List ℕ) : Type 0 where
   pub touch : length touchSets ≡ planeSize
@@ -122,28 +93,12 @@ pub record Hittable (row touchSets stripSets : List ℕ) : Type 0 where
 
 -- and with the bounds
 pub record Ready (row table touchSets stripSets weights most : List ℕ) (a : Asked) : Type 0 where
-  pub play : Playable row table a
+  pub play : Playable row table (a .sizes)
   pub hit : Hittable row touchSets stripSets
   pub heavy : length weights ≡ weightsSize
   pub tops : length most ≡ topsSize
   pub small : a .need ≤ 65536
   pub bounds : Bounds (planOf row) (Seeks row a) (a .need) weights most
-
--- the pairs picked are a cut list, none of them is later than the last one's slot, and from there on their links are down
-pub record Holding (row : List ℕ) (a : Asked) (p : Picked) : Type 0 where
-  pub long : length (p .numbers) ≡ 2 * mostCuts
-  pub slot : p .slot ≤ a .timeout
-  pub link : p .link ≤ a .links
-  pub chosen : Chosen (planOf row) (cutsOf p) (p .count) (code (p .slot) (p .link))
-  pub size : length (p .down) ≡ mostLinks
-  pub down : (i e : ℕ) → p .slot ≤ i → isDown (p .down) e ≡ isCut (planOf row) (cutsOf p) i e
-  pub past : (i : ℕ) → 2 * p .count ≤ i → getD (p .numbers) i 0 ≡ 0
-
--- the messages stand where they do at time s under a cut list
-pub record StandAt (row : List ℕ) (n : ℕ) (cuts : List ℕ) (s : ℕ) (ps : Standing) : Type 0 where
-  pub time : ps .time .0 ≡ s
-  pub next : Become row n (positions (orderOf (planOf row)) (isCut (planOf row) cuts) (tableOf (planOf row)) 0 s (start (planOf row)))
-      (ps .positions)
 
 -- the set of the first n messages that are not at their targets
 abbrev pub AreAway : List Position → ℕ → ℕ → Type 0
@@ -168,47 +123,40 @@ pub record Leaves (row cuts most : List ℕ) (s k : ℕ) (rest : Rest) : Type 0 
   pub both : harmedAndBared (planOf row) cuts s + k * topIn most 2 s ≤ rest .both
   pub fits : Fits rest
 
--- a list may be played to the end, and one slot on
+-- a list may be played to the end
 pub record MayPlayOut (row table : List ℕ) (a : Asked) (hits : Hits) (ps : Standing) (left : ℕ) (p : Picked) : Type 0 where
-  pub play : Playable row table a
-  pub holding : Holding row a p
-  pub stand : StandAt row (a .messages) (cutsOf p) (p .slot) ps
-  pub away : AreAway (ps .positions) (a .messages) left
+  pub play : Playable row table (a .sizes)
+  pub holding : Holding row (a .sizes) p
+  pub stand : StandAt row (a .sizes .messages) (cutsOf p) (p .slot) ps
+  pub away : AreAway (ps .positions) (a .sizes .messages) left
   pub covers : Covers row (cutsOf p) hits
   pub weights : List ℕ
   pub most : List ℕ
   pub bounds : Bounds (planOf row) (Seeks row a) (a .need) weights most
 
-pub record MayAdvance (row table : List ℕ) (a : Asked) (ps : Standing) (p : Picked) : Type 0 where
-  pub play : Playable row table a
-  pub holding : Holding row a p
-  pub stand : StandAt row (a .messages) (cutsOf p) (ps .time .0) ps
-  pub from : p .slot ≤ ps .time .0
-  pub early : ps .time .0 < a .timeout
-
 -- n pairs more may be sought
 pub record MaySeek (row table touchSets stripSets weights most : List ℕ) (a : Asked) (hits : Hits) (ps : Standing) (left : ℕ)
     (p : Picked) (n : ℕ) : Type 0 where
   pub ready : Ready row table touchSets stripSets weights most a
-  pub holding : Holding row a p
+  pub holding : Holding row (a .sizes) p
   pub covers : Covers row (cutsOf p) hits
-  pub stand : StandAt row (a .messages) (cutsOf p) (p .slot) ps
-  pub away : AreAway (ps .positions) (a .messages) left
+  pub stand : StandAt row (a .sizes .messages) (cutsOf p) (p .slot) ps
+  pub away : AreAway (ps .positions) (a .sizes .messages) left
   pub few : p .count + n ≤ mostCuts
 
 -- in one slot, from a link on, where so much can be lost besides the pair of that slot
 pub record MaySeekIn (row table touchSets stripSets weights most : List ℕ) (a : Asked) (hits : Hits) (ps : Standing) (left : ℕ)
     (p : Picked) (n s e : ℕ) (rest : Rest) : Type 0 where
   pub ready : Ready row table touchSets stripSets weights most a
-  pub holding : Holding row a p
+  pub holding : Holding row (a .sizes) p
   pub covers : Covers row (cutsOf p) hits
   pub leaves : Leaves row (cutsOf p) most s (n - 1) rest
-  pub stand : StandAt row (a .messages) (cutsOf p) s ps
-  pub away : AreAway (ps .positions) (a .messages) left
+  pub stand : StandAt row (a .sizes .messages) (cutsOf p) s ps
+  pub away : AreAway (ps .positions) (a .sizes .messages) left
   pub few : p .count + n ≤ mostCuts
   pub some : 0 < n
-  pub early : s < a .timeout
-  pub link : e ≤ a .links
+  pub early : s < a .sizes .timeout
+  pub link : e ≤ a .sizes .links
   pub later : code (p .slot) (p .link) ≤ code s e
 
 -- nothing, and then so much is known; or a list of c pairs, of which so much is known, with its arrivals and zeros after it
@@ -233,7 +181,7 @@ SoughtIn row a p n s e r =
 -- lists of at most k pairs may be sought, where those of fewer than `low` are known not to answer
 pub record MayHunt (row table touchSets stripSets weights most : List ℕ) (a : Asked) (ps : Standing) (low k : ℕ) : Type 0 where
   pub ready : Ready row table touchSets stripSets weights most a
-  pub stand : StandAt row (a .messages) [] 0 ps
+  pub stand : StandAt row (a .sizes .messages) [] 0 ps
   pub few : k ≤ mostCuts
   pub within : low ≤ k + 1
   pub before : (i : ℕ) → i < low → NoneOf (planOf row) (Seeks row a) [] i

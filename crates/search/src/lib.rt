@@ -1,9 +1,11 @@
-// The search over cut lists: lists are tried in the order of document 01's verdict, fewest pairs first; a list is played from its last
+// The search for a failing list: lists are tried in the order of document 01's verdict, fewest pairs first; a list is played from its last
 // pair on, and lists that a bound shows not to answer are passed over. What is asked of a list only `answers` knows, and `hopeless` that
-// no list from here can answer. Of the bound it knows only specs/Bounds of `bound`. It leans on `cycle` for a slot, on `sets` for
-// sets of messages, on `order` for the steps from pair to pair and on the theorems of `laws`.
+// no list from here can answer. Of the bound it knows only specs/Bounds of `bound`. It leans on `picks` for the pairs picked and a slot
+// played under them, on `order` for the steps from pair to pair and the first list, on `sets` for sets of messages, on `cycle` for the
+// arrivals and on the theorems of `laws`. What `picks` and `order` say serves two questions: this one, and which list explains a capture.
+use picks::Picked;
+use picks::Sizes;
 use scope::limits::CUT_NUMBERS;
-use scope::limits::LINKS;
 use scope::limits::MESSAGES;
 use scope::limits::PLANE;
 use scope::limits::SLOTS;
@@ -13,30 +15,17 @@ ghost use Prim.Native.Nat.{_+_, _-_, _*_, _<_, _≤_};
 ghost use mathlib.Core.Path.{_≡_};
 ghost use lib.ListN.{length, getD};
 ghost use lib.Dec.{ltb};
-ghost use Rattle.scope.specs.Limits.{mostCuts, mostSlots, mostLinks, mostMessages};
+ghost use Rattle.scope.specs.Limits.{mostCuts, mostLinks, mostMessages};
 ghost use Rattle.scope.specs.Lowest.{seek};
-ghost use Rattle.search.specs.Hunt.{cutsOf, withPair, noPair, noHits, restOf, stripsWith, lossWith, tooLight, passes, Fits, noFound};
-ghost use Rattle.search.specs.Hunt.{noHunted, StandAt, AreAway};
-ghost use Rattle.search.specs.Hunt.{MayPlayOut, MayAdvance, MaySeek, MaySeekIn, Sought, SoughtIn, MayHunt, Hunts};
+ghost use Rattle.search.specs.Hunt.{noHits, restOf, stripsWith, lossWith, tooLight, passes, Fits, noFound, noHunted, AreAway};
+ghost use Rattle.search.specs.Hunt.{MayPlayOut, MaySeek, MaySeekIn, Sought, SoughtIn, MayHunt, Hunts};
 ghost use Rattle.search.specs.Risks.{risksOf, MayHit, IsHit, MayWeigh, MayStrip, MayTry};
 
-// What is asked of a plan: its timeout, links and messages, the least number of arrivals, and what a list must weigh to leave fewer.
+// What is asked of a plan: its sizes, the least number of arrivals, and what a list must weigh to leave fewer.
 pub struct Asked {
-    pub timeout: usize,
-    pub links: usize,
-    pub messages: usize,
+    pub sizes: Sizes,
     pub least: usize,
     pub need: usize,
-}
-
-// The pairs picked so far: how many, the place from which the next one is to be picked, their numbers, and what is down from the last
-// one's slot on.
-pub struct Picked {
-    pub count: usize,
-    pub slot: usize,
-    pub link: usize,
-    pub numbers: [u16; CUT_NUMBERS],
-    pub down: [u8; LINKS],
 }
 
 // A list that answers, with its arrivals; or none.
@@ -73,34 +62,6 @@ pub fn no_list() -> Hunted
         arrivals: 0,
         numbers: [0u16; CUT_NUMBERS],
     }
-}
-
-fn no_pair() -> Picked
-    ensures { λ r. ⌜ r ≡ noPair ⌝ }
-{
-    Picked {
-        count: 0,
-        slot: 0,
-        link: 0,
-        numbers: [0u16; CUT_NUMBERS],
-        down: [0u8; LINKS],
-    }
-}
-
-// One pair more.
-fn pick(p: Picked, s: usize, e: usize) -> Picked
-    requires { ⌜ (p .count < mostCuts) × (s < mostSlots) × (e < mostLinks) ⌝ }
-    ensures { λ r. ⌜ r ≡ withPair p s e ⌝ }
-{
-    let at = 2 * p.count;
-    let mut q = p;
-    q.count = p.count + 1;
-    q.slot = s;
-    q.link = e + 1;
-    q.numbers[at] = s as u16;
-    q.numbers[at + 1] = e as u16;
-    q.down[e] = 1;
-    q
 }
 
 // This list answers: it leaves too few arrivals.
@@ -338,17 +299,6 @@ fn hit(touches: &[u32], strips: &[u32], hits: Hits, s: usize, e: usize) -> Hits
     }
 }
 
-// Where the messages stand one slot on, under the list picked.
-fn advance(row: &[u16], table: &[u8], a: Asked, standing: Standing, p: Picked) -> Standing
-    requires { ⌜ MayAdvance (now row) (now table) a standing p ⌝ }
-    ensures { λ r. ⌜ StandAt (now (row .entry)) (a .messages) (cutsOf p) (standing .time .0 + 1) r ⌝ }
-{
-    let down = p.down;
-    let time = standing.time();
-    let i = time.begins(a.timeout);
-    standing.after(i, a.messages, row, table, &down)
-}
-
 // The list picked, played from its last pair on as long as enough messages can be lost; those of `left` are away where it begins.
 fn play_out(
     row: &[u16],
@@ -365,17 +315,17 @@ fn play_out(
     let mut qs = ps;
     let mut still = left;
     let mut i = p.slot;
-    while i < a.timeout {
+    while i < a.sizes.timeout {
         let risk = at_risk(hits, still);
         if too_few(a.need, risk.lost) {
             return nothing();
         }
-        let rs = advance(row, table, a, qs, p);
+        let rs = picks::advance(row, table, a.sizes, qs, p);
         qs = rs;
-        still = away(qs, a.messages);
+        still = away(qs, a.sizes.messages);
         i += 1;
     }
-    let arrivals = cycle::count_home(qs, a.messages);
+    let arrivals = cycle::count_home(qs, a.sizes.messages);
     if answers(a.least, arrivals) {
         let numbers = p.numbers;
         Found {
@@ -410,10 +360,10 @@ fn in_slot(
     ensures { λ r. ⌜ SoughtIn (now (row .entry)) a p n s e r ⌝ }
 {
     let down = p.down;
-    let links = a.links;
+    let links = a.sizes.links;
     let mut i = next_link(&down, weights, most, a.need, rest, s, e, links);
     while i < links {
-        let q = pick(p, s, i);
+        let q = picks::pick(p, s, i);
         let more = hit(touches, strips, hits, s, i);
         let r = level(
             row,
@@ -464,11 +414,11 @@ fn level(
     let mut still = left;
     let mut s = p.slot;
     let mut e = p.link;
-    while s < a.timeout {
+    while s < a.sizes.timeout {
         let risk = at_risk(hits, still);
         let rest = losses(risk, n - 1, most, s);
-        let f = next_link(&down, weights, most, a.need, rest, s, 0, a.links);
-        if a.links <= f {
+        let f = next_link(&down, weights, most, a.need, rest, s, 0, a.sizes.links);
+        if a.sizes.links <= f {
             return nothing();
         }
         let from = later(e, f);
@@ -492,9 +442,9 @@ fn level(
         if r.found {
             return r;
         }
-        let rs = advance(row, table, a, qs, p);
+        let rs = picks::advance(row, table, a.sizes, qs, p);
         qs = rs;
-        still = away(qs, a.messages);
+        still = away(qs, a.sizes.messages);
         s += 1;
         e = 0;
     }
@@ -517,9 +467,9 @@ pub fn first_list(
     requires { ⌜ MayHunt (now row) (now table) (now touches) (now strips) (now weights) (now most) a ps low k ⌝ }
     ensures { λ r. ⌜ Hunts (now (row .entry)) (a .least) k r ⌝ }
 {
-    let p = no_pair();
+    let p = picks::no_pair();
     let hits = no_hits();
-    let left = away(ps, a.messages);
+    let left = away(ps, a.sizes.messages);
     let mut n = low;
     while n <= k {
         let r = level(

@@ -24,7 +24,7 @@ use Rattle.cycle.proofs.Whole.{start-is}
 use Rattle.cycle.proofs.Agree.{owner-same}
 use Rattle.search.specs.declared.Hunted.{Hunted}
 use Rattle.search.specs.Hunt.{noHunted, MayHunt, Hunts}
-use Rattle.search.proofs.Risks.{noughts}
+use Rattle.picks.proofs.Picking.{noughts}
 use Rattle.search.proofs.Hunting.{hunts-none}
 use Rattle.verdicts.specs.declared.Opening.{Opening}
 use Rattle.verdicts.specs.Lent.{Lent, MayAskOn}
@@ -79,11 +79,11 @@ module _ (row : List ℕ) (good : GoodRow row) where
     many : length (planOf row .messages) ≤ mostMessages
     many = omega (arith, message-count row, lies .messages)
 
-    pub lends : (e n l d : ℕ) (ps : Standing) → e ≡ linkCount row → n ≡ messageCount row → Begins row n ps →
+    pub lends : (e n : ℕ) (ps : Standing) → e ≡ linkCount row → n ≡ messageCount row → Begins row n ps →
         Lent row table touchSets stripSets weights most
-        (record { asked = record { timeout = t; links = e; messages = n; least = l; need = d }; standing = ps })
+        (record { sizes = record { timeout = t; links = e; messages = n }; standing = ps })
     unfolding positions
-    lends e n l d ps he hn b =
+    lends e n ps he hn b =
         record {
           play =
               record {
@@ -120,7 +120,7 @@ module _ (row : List ℕ) (good : GoodRow row) where
 
 -- the list of k pairs that is asked for first
 pub may-ask-on : (row table touchSets stripSets weights most : List ℕ) (o : Opening) → Lent row table touchSets stripSets weights most o →
-    (l k : ℕ) → l ≤ o .asked .messages → k ≤ mostCuts → MayAskOn row table touchSets stripSets weights most o l 0 k
+    (l k : ℕ) → l ≤ o .sizes .messages → k ≤ mostCuts → MayAskOn row table touchSets stripSets weights most o l 0 k
 may-ask-on row table touchSets stripSets weights most o is l k least few =
     record { lent = is; least = least; few = few; within = omega arith; before = λ i z. absurd (omega arith) }
 
@@ -130,24 +130,13 @@ module _ (row table touchSets stripSets weights most : List ℕ) (o : Opening) (
   pub asks-nought : (h : Hunted) → l ≡ 0 → h ≡ noHunted → Hunts row l k h
   asks-nought h z is = hunts-none row l k h is (λ i le x long good fails. omega arith)
 
-  pub asks : (need : ℕ) → need ≡ o .asked .messages + 1 - l →
-      MayHunt row table touchSets stripSets weights most
-      (record { timeout = o .asked .timeout; links = o .asked .links; messages = o .asked .messages; least = l; need = need }) (o .standing)
-      low k
+  pub asks : (need : ℕ) → need ≡ o .sizes .messages + 1 - l →
+      MayHunt row table touchSets stripSets weights most (record { sizes = o .sizes; least = l; need = need }) (o .standing) low k
   asks need e =
-      let p = m .lent .play in
       record {
         ready =
             record {
-              play =
-                  record {
-                    timeout = p .timeout;
-                    short = p .short;
-                    links = p .links;
-                    few = p .few;
-                    messages = p .messages;
-                    owner = p .owner;
-                  };
+              play = m .lent .play;
               hit = m .lent .hit;
               heavy = m .lent .heavy;
               tops = m .lent .tops;

@@ -1,6 +1,7 @@
 // The verdict: whether every cut list of at most k pairs leaves at least l arrivals, and if not, the first list that does not.
 // `verdict` takes anything and asks nothing; `verdict_good` takes a row that is known to be good. It leans on `plan` for refusals 1 to
 // 10, on `search` for the search, and on `table`, `strips`, `bound` and `cycle` for what the search is lent.
+use picks::Sizes;
 use scope::Answer;
 use scope::Refusal;
 use scope::limits::CUTS;
@@ -24,9 +25,9 @@ pub enum Ruling {
     Refused(Refusal),
 }
 
-// What is asked of a good row, but for l, and where its messages stand at the start.
+// The sizes of a good row's plan, and where its messages stand at the start.
 pub struct Opening {
-    pub asked: Asked,
+    pub sizes: Sizes,
     pub standing: Standing,
 }
 
@@ -54,14 +55,12 @@ pub fn lend(
     bound::tops_all(weights, slots, most);
     let messages = rows::messages(row);
     let standing = cycle::start_all(row, messages);
-    let asked = Asked {
+    let sizes = Sizes {
         timeout: slots,
         links: rows::links(row),
         messages,
-        least: 0,
-        need: 0,
     };
-    Opening { asked, standing }
+    Opening { sizes, standing }
 }
 
 // The first failing list for l, where lists of fewer than `low` pairs are known to leave l arrivals.
@@ -83,16 +82,14 @@ pub fn ask(
     if l == 0 {
         return search::no_list();
     }
-    let a = o.asked;
+    let sizes = o.sizes;
     let ps = o.standing;
-    let b = Asked {
-        timeout: a.timeout,
-        links: a.links,
-        messages: a.messages,
+    let a = Asked {
+        sizes,
         least: l,
-        need: bound::need(a.messages, l),
+        need: bound::need(sizes.messages, l),
     };
-    search::first_list(row, table, touches, strips, weights, most, b, ps, low, k)
+    search::first_list(row, table, touches, strips, weights, most, a, ps, low, k)
 }
 
 // The first failing list of a row that may be asked about.

@@ -5,7 +5,7 @@ use mathlib.Core.Path.{sym}
 use native.Mathlib.Omega.{arith}
 use borrow.Author.Needs.{needs}
 use Rattle.search.proofs.Levels.{goes-up, Looking, Climbing, may-try, may-hit, may-go-on, looks-first, looks-some, looks-on, look-done}
-use Rattle.search.proofs.Levels.{may-play-out, climbs-first, may-weigh-rest, may-try-all, may-look, may-advance}
+use Rattle.search.proofs.Levels.{may-play-out, climbs-first, may-weigh-rest, may-try-all, may-look, climbs-may}
 use Rattle.search.proofs.Levels.{climbs-stop, climbs-over, climbs-some, climbs-on}
 use borrow.Fn.Kinds.{In}
 use borrow.Fn.PlainCycle.{Measures, is, falls, and}
@@ -15,7 +15,7 @@ use Rattle.search.proofs.+in_slot+level.Lts-in_slot as in-slot-lts
 use Rattle.search.proofs.level.Reads as level
 use Rattle.search.proofs.level.Kinds as level-kinds
 use Rattle.search.proofs.+in_slot+level.Lts-level as level-lts
-use Rattle.search.proofs.advance.Reads as advance-reads
+use Rattle.picks.proofs.advance.Reads as advance-reads
 use Rattle.search.proofs.at_risk.Reads as at-risk-reads
 use Rattle.search.proofs.away.Reads as away-reads
 use Rattle.search.proofs.hit.Reads as hit-reads
@@ -23,7 +23,7 @@ use Rattle.search.proofs.later.Reads as later-reads
 use Rattle.search.proofs.losses.Reads as losses-reads
 use Rattle.search.proofs.next_link.Reads as next-link-reads
 use Rattle.search.proofs.nothing.Reads as nothing-reads
-use Rattle.search.proofs.pick.Reads as pick-reads
+use Rattle.picks.proofs.pick.Reads as pick-reads
 use Rattle.search.proofs.play_out.Reads as play-out-reads
 use Rattle.search.proofs.+in_slot+level.{statement}
 use Rattle.search.proofs.+in_slot+level.Tie.{close}
@@ -197,7 +197,7 @@ abbrev level-inv : level-lts.InvT-loop
 level-inv row table touchSets stripSets weights most a hits left p n down qs₀ still₀ s₀ e₀ qs still s e = Climbing row a p n s e qs still
 
 abbrev level-less : level-lts.MeasureT-loop
-level-less row table touchSets stripSets weights most a hits left p n down qs₀ still₀ s₀ e₀ qs still s e = a .timeout - s
+level-less row table touchSets stripSets weights most a hits left p n down qs₀ still₀ s₀ e₀ qs still s e = a .sizes .timeout - s
 
 level-play-out-requires : (t : ℕ) → level-lts.Need-play-out-requires (level-calls t) (level-at t) level.Post level-inv level-less
 level-play-out-requires t c κs = may-play-out _ _ _ _ _ _ _ _ _ _ _ _ (c .before .before .before .before .before .before .before .pre .1)
@@ -284,7 +284,7 @@ level-returns-3 t c =
 
 level-advance-requires : (t : ℕ) → level-lts.Need-advance-requires (level-calls t) (level-at t) level.Post level-inv level-less
 level-advance-requires t c κs =
-    may-advance _ _ _ _ _ _ _ _ _ _ _ _
+    climbs-may _ _ _ _ _ _ _ _ _ _ _ _
     (c .before .before .before .before .before .before .before .before .before .before .before .before .before .before .before .before .before
     .before .before .before .pre .1)
     (c .before .before .before .before .before .before .before .before .before .before .before .before .before .if1 .left) _ _ _ _

@@ -11,7 +11,7 @@ abbrev Inv-loop : tie.InvT-loop
 Inv-loop row table a hits left p qs₀ still₀ i₀ qs still i = Ending row a p i qs still
 
 abbrev μ-loop : tie.MeasureT-loop
-μ-loop row table a hits left p qs₀ still₀ i₀ qs still i = a .timeout - i
+μ-loop row table a hits left p qs₀ still₀ i₀ qs still i = a .sizes .timeout - i
 
 loop-holds : tie.Need-loop-holds Inv-loop μ-loop
 loop-holds c = ends-first _ _ _ _ _ _ _ (c .before .before .pre)
@@ -52,8 +52,7 @@ count-home-requires c κs = c .before .before .loop .inv .stand .next .stand .fe
 
 returns-2 : tie.Need-returns-2 Inv-loop μ-loop
 returns-2 c =
-    settled-some _ _ _ _ (c .before .before .before .before .before .before .before .before .before .pre .play)
-    (c .before .before .before .before .before .before .before .before .before .pre .holding) _ _ _ refl refl refl
+    settled-some _ _ _ _ _ _ _ (c .before .before .before .before .before .before .before .before .before .pre) _ _ _ refl refl refl
     (ends-over _ _ _ _ _ _ _ (c .before .before .before .before .before .before .before .before .before .pre) _ _ _
     (c .before .before .before .before .before .before .loop .inv) _ (c .before .before .before .before .if1 .left)
     (c .before .before .before .count-home .ensures _))
@@ -61,8 +60,7 @@ returns-2 c =
 
 returns-3 : tie.Need-returns-3 Inv-loop μ-loop
 returns-3 c =
-    settled-none _ _ _ _ (c .before .before .before .before .before .before .before .before .before .pre .play)
-    (c .before .before .before .before .before .before .before .before .before .pre .holding) _ _ _ (c .nothing2 .ensures)
+    settled-none _ _ _ _ _ _ _ (c .before .before .before .before .before .before .before .before .before .pre) _ _ _ (c .nothing2 .ensures)
     (ends-over _ _ _ _ _ _ _ (c .before .before .before .before .before .before .before .before .before .pre) _ _ _
     (c .before .before .before .before .before .before .loop .inv) _ (c .before .before .before .before .if1 .left)
     (c .before .before .before .count-home .ensures _))

@@ -72,7 +72,7 @@ returns c =
     lends _ (start t .pre .good) _ (t .timeout .ensures .is) _ _ _ _ _ _ _ (entered t .fill-table .ensures) (filled t .fill .ensures)
     (w .before .before .before .before .before .before .before .before .before .before .before .before .before .touch-sets .ensures)
     (w .before .before .before .before .before .before .before .strip-sets .ensures) (w .weigh-all .ensures)
-    (c .before .before .before .before .before .tops-all .ensures) _ _ _ _ _ (c .links .ensures .is) (c .before .before .messages .ensures .is)
+    (c .before .before .before .before .before .tops-all .ensures) _ _ _ (c .links .ensures .is) (c .before .before .messages .ensures .is)
     (c .before .start-all .ensures)
 
 pub lend-spec : {M : Type 1} → statement M
