@@ -12,8 +12,10 @@ use Rattle.scope.specs.Cuts.{checkCuts, isCut}
 use Rattle.scope.specs.Cycle.{foremost, tableOf, moves, slot, numbers, positions, events, arrived, arrivals, eventRow}
 use Rattle.scope.specs.Verdict.{FirstFailing, earlier}
 use Rattle.scope.specs.Spare.{entriesOf, entries, hasSecondThrough, lowerThrough, delay}
-use Rattle.scope.specs.Questions.{judge, readFile, writeFile, replay, mayJudge, maySpare, slack}
+use Rattle.scope.specs.Capture.{checkCapture}
+use Rattle.scope.specs.Questions.{judge, readFile, writeFile, replay, mayJudge, mayExplain, maySpare, slack}
 use Rattle.scope.specs.Cases.{table, ownTable, All, rowA, rowLate, rowOrder}
+use Rattle.scope.proofs.Explained.{first-of-B}
 use Rattle.scope.proofs.First.{every, spared, before-one, before-two}
 
 -- "A: cuts (0,0), (0,2): .. this is the list for k 2, l 1"
@@ -106,5 +108,14 @@ pub own-cases : All ownTable
 unfolding seek bitsOf bits numberFrom bytesOf walkBits fieldsOf zeros endsAt walkFile rowOf packed fileOf walkFrom walkRow numbersAt linksAt
     placesAt afterPlaces messagesAt afterMessages planOf has different areLinks joins visited slotsRise holds taken goodSeconds rules checkCuts
     isCut foremost tableOf moves slot numbers positions events arrived arrivals eventRow entriesOf entries hasSecondThrough lowerThrough delay
-    judge readFile writeFile replay mayJudge maySpare slack
-own-cases = ((refl, first-of-late), ((refl, first-of-order), ((refl, refl), ((refl, refl), (refl, ((refl, refl), ((refl, refl), tt)))))))
+    judge readFile writeFile replay mayJudge checkCapture mayExplain maySpare slack
+own-cases = (
+  (refl, first-of-late),
+  (
+    (refl, first-of-order),
+    (
+      (refl, refl),
+      ((refl, refl), (refl, ((refl, refl), ((refl, refl), ((refl, first-of-B), (refl, (refl, (refl, (refl, (refl, (refl, tt))))))))))),
+    ),
+  ),
+)

@@ -4,6 +4,7 @@ pub mod Lowest
 pub mod Cuts
 pub mod Order
 pub mod First
+pub mod Explained
 pub mod Cases
 pub mod Seek
 pub mod Some

@@ -14,7 +14,8 @@ use Rattle.scope.specs.Cuts.{isCut}
 use Rattle.scope.specs.Slot.{onSecond, atTarget}
 use Rattle.scope.specs.Cycle.{orderOf, tableOf, start, positions, events, eventRow}
 use Rattle.scope.specs.Verdict.{FirstFailing}
-use Rattle.scope.specs.Questions.{readFile, writeFile, replay, mayJudge, slack, maySpare}
+use Rattle.scope.specs.Capture.{FirstExplaining}
+use Rattle.scope.specs.Questions.{readFile, writeFile, replay, mayJudge, mayExplain, slack, maySpare}
 
 -- Plan B: "links 0→1, 0→2, 2→1 and t = 4. Both messages have first path link 0, message 0 in slot 0 and message 1 in slot 1, and second path
 -- links 1, 2."
@@ -67,6 +68,10 @@ abbrev pub rowThree : List ℕ
 rowThree =
     1 ∷ 2 ∷ 2 ∷ 2 ∷ 3 ∷ 0 ∷ 1 ∷ 0 ∷ 2 ∷ 2 ∷ 1 ∷ 0 ∷ 0 ∷ 0 ∷ 1 ∷ 1 ∷ 1 ∷ 2 ∷ 0 ∷ 0 ∷ 1 ∷ 1 ∷ 1 ∷ 1 ∷ 2 ∷ 0 ∷ 0 ∷ 2 ∷ 1 ∷ 1 ∷ 1 ∷ 2 ∷ []
 
+-- what plan B's capture is where link 0 is cut in slot 1: message 0 crosses it, and message 1 goes round
+abbrev pub seenB : List ℕ
+seenB = 0 ∷ 0 ∷ 0 ∷ 1 ∷ 1 ∷ 1 ∷ 2 ∷ 2 ∷ 1 ∷ []
+
 -- link 0 is down in slot 0 and whole again from slot 1 on: no cut list does this, and a message once turned stays turned
 abbrev pub brief : ℕ → ℕ → Bool
 brief i e = eqb i 0 && eqb e 0
@@ -93,6 +98,10 @@ pub data Case : Type 0 where
   spares : List ℕ → ℕ → ℕ → ℤ → Case
   -- a row, k, l, and the list that the verdict answers, with exactly the room needed
   fails : List ℕ → ℕ → ℕ → List ℕ → Case
+  -- a row, k, a capture, and the first list that explains it, with exactly the room needed
+  explains : List ℕ → ℕ → List ℕ → List ℕ → Case
+  -- a row, k, a capture, the room lent, and what is refused of them
+  refuses : List ℕ → ℕ → List ℕ → ℕ → Outcome → Case
 
 abbrev pub Holds : Case → Type 0
 Holds (reads file lent says) = readFile file lent ≡ says
@@ -106,6 +115,8 @@ Holds (comesAndGoes row down told) =
     events (orderOf (planOf row)) down (tableOf (planOf row)) 0 (planOf row .timeout) (start (planOf row)) ≡ told
 Holds (spares row m p z) = (maySpare row m p ≡ gives 0) × (slack row m p ≡ z)
 Holds (fails row k l cuts) = (mayJudge row k l (2 * k) ≡ gives (2 * k)) × FirstFailing (planOf row) k l cuts
+Holds (explains row k capture cuts) = (mayExplain row k capture (2 * k) ≡ gives (2 * k)) × FirstExplaining (planOf row) k capture cuts
+Holds (refuses row k capture lent says) = mayExplain row k capture lent ≡ says
 
 -- the cases marked P
 abbrev pub table : List Case
@@ -145,6 +156,13 @@ ownTable =
     spares rowTwice 1 0 (pos 3) ∷
     plays rowThree (1 ∷ 0 ∷ []) 3
     (2 ∷ 0 ∷ 1 ∷ 0 ∷ 1 ∷ 0 ∷ 0 ∷ 0 ∷ 3 ∷ 1 ∷ 5 ∷ 1 ∷ 0 ∷ 0 ∷ 3 ∷ 2 ∷ 3 ∷ 1 ∷ 0 ∷ 0 ∷ 0 ∷ 0 ∷ 3 ∷ 2 ∷ []) ∷
+    explains rowB 2 seenB (1 ∷ 0 ∷ []) ∷
+    refuses rowB 4 (4 ∷ []) 0 (refuse 11 0) ∷
+    refuses rowB 2 (1 ∷ 1 ∷ 1 ∷ 1 ∷ 0 ∷ 1 ∷ []) 0 (refuse 23 1) ∷
+    refuses rowB 2 (1 ∷ 1 ∷ 1 ∷ 1 ∷ 1 ∷ 1 ∷ []) 0 (refuse 23 1) ∷
+    refuses rowB 2 (0 ∷ 0 ∷ 0 ∷ 1 ∷ 1 ∷ 2 ∷ []) 0 (refuse 23 1) ∷
+    refuses rowB 2 (0 ∷ 0 ∷ 0 ∷ 1 ∷ 1 ∷ []) 0 (refuse 23 1) ∷
+    refuses rowB 2 [] 3 (refuse 13 4) ∷
     []
 
 -- every row of a table holds
