@@ -1,0 +1,5 @@
+pub mod Telling
+pub mod Matching
+pub mod Levels
+pub mod Hunting
+pub mod Once

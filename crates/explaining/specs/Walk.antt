@@ -1,0 +1,94 @@
+-- The walk in the code's own terms: what it may be asked, and what it tells of the lists that match a table of crossings.
+use Prim.Native.Nat.{ℕ, _+_, _-_, _*_, _≤_, _<_}
+use mathlib.Core.Path.{_≡_}
+use mathlib.Core.Bool.{Bool, true, false, not}
+use mathlib.Core.List.{List, []}
+use lib.ListN.{length, getD, take, replicate}
+use Rattle.scope.specs.Limits.{mostCuts, crossedSize}
+use Rattle.scope.specs.Outcome.{gives}
+use Rattle.scope.specs.Good.{rules}
+use Rattle.scope.specs.Plan.{planOf}
+use Rattle.scope.specs.Cuts.{pairs}
+use Rattle.scope.specs.Verdict.{First}
+use Rattle.cuts.specs.Down.{isDown}
+use Rattle.step.specs.declared.Standing.{Standing}
+use Rattle.order.specs.Search.{code, Not, NoneOf, FirstOf, NoneIn, FirstFrom}
+use Rattle.picks.specs.declared.Sizes.{Sizes}
+use Rattle.picks.specs.declared.Picked.{Picked}
+use Rattle.picks.specs.Picks.{cutsOf, Playable, Holding, StandAt}
+use Rattle.clues.specs.declared.Clue.{Clue}
+use Rattle.clues.specs.declared.Clue.the-variants.{Nothing, Link, Dead}
+use Rattle.clues.specs.Clues.{MatchesBefore, Matches, MaySuspect}
+use Rattle.explaining.specs.declared.Found.{Found}
+use Rattle.explaining.specs.declared.Hunted.{Hunted}
+
+-- a link that is not down
+abbrev pub isWhole : List ℕ → ℕ → Bool
+isWhole down e = not (isDown down e)
+
+-- a slot differs
+abbrev pub isClue : Clue → Bool
+isClue Nothing = false
+isClue (Link x) = true
+isClue Dead = true
+
+-- nothing found
+abbrev pub noFound : Found
+noFound = record { found = false; numbers = replicate (2 * mostCuts) 0 }
+
+abbrev pub noHunted : Hunted
+noHunted = record { found = false; pairs = 0; numbers = replicate (2 * mostCuts) 0 }
+
+-- n pairs more may be sought
+pub record MaySeek (row table crossed : List ℕ) (z : Sizes) (ps : Standing) (p : Picked) (n : ℕ) : Type 0 where
+  pub suspect : MaySuspect row table crossed z ps p
+  pub few : p .count + n ≤ mostCuts
+
+-- the first of them in slot s, from link e on
+pub record MaySeekIn (row table crossed : List ℕ) (z : Sizes) (ps : Standing) (p : Picked) (n s e : ℕ) : Type 0 where
+  pub good : rules (planOf row) ≡ gives 0
+  pub play : Playable row table z
+  pub holding : Holding row z p
+  pub stand : StandAt row (z .messages) (cutsOf p) s ps
+  pub before : MatchesBefore (planOf row) crossed (cutsOf p) s
+  pub size : length crossed ≡ crossedSize
+  pub few : p .count + n ≤ mostCuts
+  pub some : 0 < n
+  pub early : s < z .timeout
+  pub link : e ≤ z .links
+  pub later : code (p .slot) (p .link) ≤ code s e
+
+-- nothing, and then so much is known; or a list of c pairs, of which so much is known, with zeros after it
+pub record Tells (None : Type 0) (First : List ℕ → Type 0) (c : ℕ) (r : Found) : Type 0 where
+  pub long : length (r .numbers) ≡ 2 * mostCuts
+  pub none : r .found ≡ false → None
+  pub some : r .found ≡ true → First (take (2 * c) (r .numbers))
+  pub past : r .found ≡ true → (i : ℕ) → 2 * c ≤ i → getD (r .numbers) i 0 ≡ 0
+
+-- what was found of all lists with n pairs more
+abbrev pub Sought : List ℕ → List ℕ → Picked → ℕ → Found → Type 0
+Sought row crossed p n r =
+    Tells (NoneOf (planOf row) (Matches (planOf row) crossed) (cutsOf p) n) (FirstOf (planOf row) (Matches (planOf row) crossed) (cutsOf p) n)
+    (p .count + n) r
+
+-- and of those whose next pair is in one slot
+abbrev pub SoughtIn : List ℕ → List ℕ → Picked → ℕ → ℕ → ℕ → Found → Type 0
+SoughtIn row crossed p n s e r =
+    Tells (NoneIn (planOf row) (Matches (planOf row) crossed) (cutsOf p) (n - 1) (code s e) (code (s + 1) 0))
+    (FirstFrom (planOf row) (Matches (planOf row) crossed) (cutsOf p) (n - 1) (code s e)) (p .count + n) r
+
+-- lists of at most k pairs may be sought
+pub record MayHunt (row table crossed : List ℕ) (z : Sizes) (ps : Standing) (k : ℕ) : Type 0 where
+  pub good : rules (planOf row) ≡ gives 0
+  pub play : Playable row table z
+  pub stand : StandAt row (z .messages) [] 0 ps
+  pub size : length crossed ≡ crossedSize
+  pub few : k ≤ mostCuts
+
+-- none of them matches, or the first one that does has so many pairs; zeros in every other place
+pub record Hunts (row crossed : List ℕ) (k : ℕ) (r : Hunted) : Type 0 where
+  pub long : length (r .numbers) ≡ 2 * mostCuts
+  pub few : r .pairs ≤ k
+  pub none : r .found ≡ false → (r ≡ noHunted) × ((cuts : List ℕ) → pairs cuts ≤ k → Not (planOf row) (Matches (planOf row) crossed) cuts)
+  pub some : r .found ≡ true → First (planOf row) (Matches (planOf row) crossed) k (take (2 * r .pairs) (r .numbers))
+  pub past : r .found ≡ true → (i : ℕ) → 2 * r .pairs ≤ i → getD (r .numbers) i 0 ≡ 0

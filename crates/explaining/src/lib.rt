@@ -1,0 +1,182 @@
+// The walk over cut lists that seeks those whose replay crosses what a table of crossings has: lists are tried in the order of document
+// 01's verdict, fewest pairs first. `clues::hopeless` says of most that no list from here can match, so that nearly every list that is tried
+// leads to one; and where the slot before the next pair differs from the table, no later pair mends it. It leans on `picks` for the pairs
+// picked, on `clues` for what a slot says, and on `order` for the steps from pair to pair.
+use clues::Clue;
+use picks::Picked;
+use picks::Sizes;
+use scope::limits::CUT_NUMBERS;
+use step::Standing;
+ghost use Prim.Native.Nat.{_-_, _≤_};
+ghost use mathlib.Core.Path.{_≡_};
+ghost use Rattle.scope.specs.Limits.{mostLinks};
+ghost use Rattle.scope.specs.Lowest.{seek};
+ghost use Rattle.explaining.specs.Walk.{isWhole, isClue, noFound, noHunted, MaySeek, MaySeekIn, Sought, SoughtIn, MayHunt, Hunts};
+
+// A list that matches; or none.
+pub struct Found {
+    pub found: bool,
+    pub numbers: [u16; CUT_NUMBERS],
+}
+
+// The first list that matches, with its pairs; or none.
+pub struct Hunted {
+    pub found: bool,
+    pub pairs: usize,
+    pub numbers: [u16; CUT_NUMBERS],
+}
+
+fn nothing() -> Found
+    ensures { λ r. ⌜ r ≡ noFound ⌝ }
+{
+    Found {
+        found: false,
+        numbers: [0u16; CUT_NUMBERS],
+    }
+}
+
+fn no_list() -> Hunted
+    ensures { λ r. ⌜ r ≡ noHunted ⌝ }
+{
+    Hunted {
+        found: false,
+        pairs: 0,
+        numbers: [0u16; CUT_NUMBERS],
+    }
+}
+
+// A slot has said something: it differs.
+fn differs(clue: Clue) -> bool
+    ensures { λ r. ⌜ r ≡ isClue clue ⌝ }
+{
+    match clue {
+        Clue::Nothing => false,
+        Clue::Link(_) => true,
+        Clue::Dead => true,
+    }
+}
+
+// A link is not cut already.
+fn whole(down: &[u8], e: usize) -> bool
+    ensures { λ r. ⌜ r ≡ isWhole (now (down .entry)) e ⌝ }
+{
+    !cuts::is_down(down, e)
+}
+
+// The first link from e on that is not cut already, or how many links there are.
+fn next_link(down: &[u8], e: usize, links: usize) -> usize
+    requires { ⌜ (e ≤ links) × (links ≤ mostLinks) ⌝ }
+    ensures { λ r. ⌜ r ≡ seek (isWhole (now (down .entry))) (links - e) e ⌝ }
+{
+    let mut i = e;
+    while i < links {
+        if whole(down, i) {
+            return i;
+        }
+        i += 1;
+    }
+    i
+}
+
+// All lists that go on with a pair of slot s, from link e on, and have n pairs more.
+fn in_slot(
+    row: &[u16],
+    table: &[u8],
+    crossed: &[u8],
+    z: Sizes,
+    ps: Standing,
+    p: Picked,
+    n: usize,
+    s: usize,
+    e: usize,
+) -> Found
+    requires { ⌜ MaySeekIn (now row) (now table) (now crossed) z ps p n s e ⌝ }
+    ensures { λ r. ⌜ SoughtIn (now (row .entry)) (now (crossed .entry)) p n s e r ⌝ }
+{
+    let down = p.down;
+    let links = z.links;
+    let mut i = next_link(&down, e, links);
+    while i < links {
+        let q = picks::pick(p, s, i);
+        let r = level(row, table, crossed, z, ps, q, n - 1);
+        if r.found {
+            return r;
+        }
+        i = next_link(&down, i + 1, links);
+    }
+    nothing()
+}
+
+// All lists with n pairs more. Up to its next pair's slot a list does what the pairs picked do: once that differs, no list goes on.
+fn level(
+    row: &[u16],
+    table: &[u8],
+    crossed: &[u8],
+    z: Sizes,
+    ps: Standing,
+    p: Picked,
+    n: usize,
+) -> Found
+    requires { ⌜ MaySeek (now row) (now table) (now crossed) z ps p n ⌝ }
+    ensures { λ r. ⌜ Sought (now (row .entry)) (now (crossed .entry)) p n r ⌝ }
+{
+    if clues::hopeless(row, table, crossed, z, ps, p, n) {
+        return nothing();
+    }
+    if n == 0 {
+        let numbers = p.numbers;
+        return Found {
+            found: true,
+            numbers,
+        };
+    }
+    let down = p.down;
+    let mut qs = ps;
+    let mut s = p.slot;
+    let mut e = p.link;
+    while s < z.timeout {
+        let r = in_slot(row, table, crossed, z, qs, p, n, s, e);
+        if r.found {
+            return r;
+        }
+        let seen = clues::look(row, table, crossed, z, &down, qs);
+        let clue = seen.clue;
+        if differs(clue) {
+            return nothing();
+        }
+        let next = seen.next;
+        qs = next;
+        s += 1;
+        e = 0;
+    }
+    nothing()
+}
+
+// The first list of at most k pairs that matches.
+pub fn first_list(
+    row: &[u16],
+    table: &[u8],
+    crossed: &[u8],
+    z: Sizes,
+    ps: Standing,
+    k: usize,
+) -> Hunted
+    requires { ⌜ MayHunt (now row) (now table) (now crossed) z ps k ⌝ }
+    ensures { λ r. ⌜ Hunts (now (row .entry)) (now (crossed .entry)) k r ⌝ }
+{
+    let p = picks::no_pair();
+    let mut n = 0;
+    while n <= k {
+        let r = level(row, table, crossed, z, ps, p, n);
+        if r.found {
+            let numbers = r.numbers;
+            return Hunted {
+                found: true,
+                pairs: n,
+                numbers,
+            };
+        }
+        n += 1;
+    }
+    no_list()
+}
