@@ -1,0 +1,3 @@
+pub mod Crossings
+pub mod Ways
+pub mod Asking
