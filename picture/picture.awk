@@ -1,135 +1,40 @@
 # Draws a replay's listing (standard input) as one SVG picture (standard output): a row for each message, a column for
-# each slot. It knows the listing and the cuts alone, so it shows what was proved and nothing else. POSIX awk.
+# each slot. It knows the listing and the cuts alone, so it shows what was proved and nothing else. POSIX awk; listing.awk reads.
 #
-#   awk -f picture.awk < listing > cycle.svg
-#   awk -v title='Plan B, link 0 cut in slot 0' -v cuts=cuts -f picture.awk < listing > cycle.svg
+#   awk -f listing.awk -f picture.awk < listing > cycle.svg
+#   awk -v title='Plan B, link 0 cut in slot 0' -v cuts=cuts -f listing.awk -f picture.awk < listing > cycle.svg
 #
-# The title and the name of the file with the cuts may also come as PICTURE_TITLE and PICTURE_CUTS in the environment. Without the cuts it
-# shows a cut where the listing first shows it. What is no listing, or has other cuts, gets a message on standard error, exit status 1 and
-# no picture.
+# The title and the name of the file with the cuts may also come as PICTURE_TITLE and PICTURE_CUTS in the environment. What `explain` prints has its
+# cuts with it. Without cuts it shows a cut where the listing first shows it. What is no listing, or has other cuts, gets a message on standard error,
+# exit status 1 and no picture.
 
 BEGIN {
-    MOST_SLOTS = 64
-    MOST_MESSAGES = 32
-    MOST_LINKS = 64
-    NUMBER = "(0|[1-9][0-9]?)"
-    EVENT = "^" NUMBER " " NUMBER " [0-7] " NUMBER "$"
-    LAST = "^arrived " NUMBER " of " NUMBER "$"
-    REFUSED = "^refused [1-9][0-9]* place [0-9]+$"
-    AGAIN = "Give it what the replay printed, whole:\n  ./nuthatchet replay < cuts | ./nuthatchet picture cuts > cycle.svg"
-
+    tool = "picture"
+    again = "Give it what the replay printed, whole:\n  ./nuthatchet replay < cuts | ./nuthatchet picture cuts > cycle.svg"
     CUT = "^cut " NUMBER " " NUMBER "$"
     if (title == "") title = ENVIRON["PICTURE_TITLE"]
     if (cuts == "") cuts = ENVIRON["PICTURE_CUTS"]
-
     split("D W C S T H X Z", letters, " ")
-    slot = -1
-    message = lanes = ended = failed = 0
 }
-
-NR == 1 && $0 ~ REFUSED {
-    no_picture("the replay refused the plan or the cuts (" $0 "), so there is no cycle to draw.\n" \
-        "README.md says what to do about refusal " $2 "; then replay again.")
-}
-
-NR == 1 {
-    if ($0 != "slot message kind number") no_listing("line 1 is not `slot message kind number`")
-    next
-}
-
-ended { no_listing("something follows the line `arrived ..`") }
-
-$0 ~ LAST {
-    if (slot < 0) no_listing("there is no event in it")
-    if (lanes == 0) lanes = message + 1
-    if (message != lanes - 1) no_listing("slot " slot " has events for " (message + 1) " of " lanes " messages")
-    slots = slot + 1
-    arrived = $2 + 0
-    if ($4 + 0 != lanes) no_listing("its last line says " $4 " messages, and its events are of " lanes)
-    ended = 1
-    next
-}
-
-$0 ~ EVENT {
-    follow($1 + 0, $2 + 0)
-    take($3 + 0, $4 + 0)
-    next
-}
-
-{ no_listing("line " NR " is no event: " clean(substr($0, 1, 40))) }
 
 END {
-    if (failed) exit 1
-    if (NR == 0) {
-        no_picture("nothing came in.\n" AGAIN)
-        exit 1
-    }
-    if (!ended) no_listing("its last line `arrived N of M` is missing")
-    if (!failed) see()
+    see()
     if (failed) exit 1
     lay_out()
     draw()
 }
 
-# ---------------------------------------------------------------- reading
-
-function no_picture(why) {
-    if (failed) return
-    failed = 1
-    print "picture: " why | "cat 1>&2"
-    close("cat 1>&2")
-    exit 1
-}
-
-function no_listing(why) { no_picture("this is no listing of a replay: " why ".\n" AGAIN) }
-
-function clean(text) {
-    gsub(/[[:cntrl:]]/, "?", text)
-    return text
-}
-
-# The next event must be of the next message in the same slot, or of message 0 in the next slot.
-function follow(s, m) {
-    if (slot < 0) {
-        if (s != 0 || m != 0) no_listing("line 2 is not of slot 0 and message 0")
-    } else if (s == slot + 1 && m == 0 && (lanes == 0 || message == lanes - 1)) {
-        lanes = message + 1
-    } else if (s != slot || m != message + 1 || (lanes > 0 && m >= lanes)) {
-        no_listing("line " NR " is out of order: slot by slot, and in each slot message by message, from 0")
-    }
-    if (s >= MOST_SLOTS) no_listing("line " NR " has a slot above " (MOST_SLOTS - 1))
-    if (m >= MOST_MESSAGES) no_listing("line " NR " has a message above " (MOST_MESSAGES - 1))
-    slot = s
-    message = m
-}
-
-function second(k) { return k == 3 || k == 4 || k == 5 || k == 7 }
-
-function crosses(k) { return k == 2 || k == 3 }
-
-# Takes an event, if it can come after the message's last one.
-function take(k, n,    before) {
-    before = slot > 0 ? kind[slot - 1, message] : 1
-    if (k == 0 && (n != 0 || (before != 0 && !crosses(before))))
-        no_listing("line " NR ": message " message " did not come to its target")
-    if (k != 0 && before == 0)
-        no_listing("line " NR ": message " message " was at its target already")
-    if (k != 0 && second(before) && !second(k))
-        no_listing("line " NR ": message " message " was on its second path already")
-    if (n >= MOST_LINKS) no_listing("line " NR " has a number above " (MOST_LINKS - 1))
-    kind[slot, message] = k
-    number[slot, message] = n
-}
-
 # ---------------------------------------------------------------- what there is to see
 
 function see(    s, m) {
+    for (s = 0; s < slots; s++) tags[s] = 0
     for (m = 0; m < lanes; m++) {
         turned[m] = -1
         for (s = 0; s < slots; s++) see_event(s, m)
     }
-    if (cuts == "") see_cuts()
-    else read_cuts()
+    if (cuts != "") read_cuts()
+    else if (explained) explained_cuts()
+    else see_cuts()
     see_fates()
 }
 
@@ -147,7 +52,6 @@ function see_event(s, m,    k) {
 function see_cuts(    s, m) {
     named = 0
     for (s = 0; s < slots; s++) {
-        tags[s] = 0
         for (m = 0; m < lanes; m++) {
             if (kind[s, m] == 6 || kind[s, m] == 7) note_cut(s, number[s, m])
             if (turned[m] == s && s > 0 && kind[s - 1, m] == 1) note_cut(s, number[s - 1, m])
@@ -158,23 +62,36 @@ function see_cuts(    s, m) {
     }
 }
 
-# The cuts as they were given, each in its slot. They are those of this listing only if it shows no link as cut that is whole by them,
-# and none as whole that is cut.
-function read_cuts(    line, words, lines, s, m, before) {
-    before = -1
-    for (s = 0; s < slots; s++) tags[s] = 0
+# The cuts as they were given, each in its slot.
+function read_cuts(    line, words, lines) {
     while ((got = (getline line < cuts)) > 0) {
         split(line, words, " ")
-        if (line !~ CUT || words[2] >= slots || words[2] * MOST_LINKS + words[3] <= before || words[3] + 0 in cut)
-            no_picture("line " lines + 0 " of " clean(cuts) " is no cut of this cycle: " clean(substr(line, 1, 40)))
+        take_cut(line ~ CUT, words[2], words[3], "line " lines + 0 " of " clean(cuts), line)
         if (failed) return
-        before = words[2] * MOST_LINKS + words[3]
-        if (first_cut == "") first_cut = words[2] + 0
-        note_cut(words[2] + 0, words[3] + 0)
         lines++
     }
-    if (got < 0) no_picture("the cuts in " clean(cuts) " cannot be read")
+    if (got < 0) nothing("the cuts in " clean(cuts) " cannot be read")
     close(cuts)
+    all_agree()
+}
+
+# The cuts that stand before the listing.
+function explained_cuts(    i) {
+    for (i = 1; i < pairs; i += 2) take_cut(1, pair[i], pair[i + 1], "line 1", pair[i] " " pair[i + 1])
+    if (!failed) all_agree()
+}
+
+function take_cut(formed, s, link, where, line) {
+    if (!formed || s >= slots || s * MOST_LINKS + link < next_cut || link + 0 in cut)
+        nothing(where " is no cut of this cycle: " clean(substr(line, 1, 40)))
+    if (failed) return
+    next_cut = s * MOST_LINKS + link + 1
+    if (first_cut == "") first_cut = s + 0
+    note_cut(s + 0, link + 0)
+}
+
+# They are those of this listing only if it shows no link as cut that is whole by them, and none as whole that is cut.
+function all_agree(    s, m) {
     for (s = 0; s < slots; s++) {
         if (tags[s] > most_tags) most_tags = tags[s]
         for (m = 0; m < lanes; m++) agrees(s, m, kind[s, m], number[s, m])
@@ -190,7 +107,7 @@ function agrees(s, m, k, n) {
 
 function is_cut(s, link) { return link in cut && cut[link] <= s }
 
-function not_these(why) { no_picture("these are not the cuts of this listing, in which " why ".\n" AGAIN) }
+function not_these(why) { nothing("these are not the cuts of this listing, in which " why ".\n" again) }
 
 function note_cut(s, link) {
     if (link in cut) return

@@ -12,7 +12,7 @@ use Rattle.text.specs.Text.{Told}
 use Rattle.text.proofs.Decimal.{decimal-all}
 use Rattle.probe_words.specs.Words.{hexWord, pairsOf, filler, filler16, allAre}
 use Rattle.probe_lines.specs.Answers.{ending, okText, refusedText, numbersEnd, bytesEnd, told, toldBytes, Near}
-use Rattle.probe_lines.specs.Answers.{slackLine, refusedLine, resistantLine, failingLine, numbersOf, partLine, placeLine}
+use Rattle.probe_lines.specs.Answers.{slackLine, refusedLine, noListLine, listLine, numbersOf, partLine, placeLine, Worded}
 
 spaced-short : (s : List ℕ) → length (spaced s) ≤ 21 * length s
 unfolding spaced
@@ -103,16 +103,23 @@ module _ (at : ℕ) where
       let d = refused-short r in
       short-told (refusedLine r) h (omega arith)
 
-  pub resistant-told : (s : List ℕ) → at ≤ 2 ^ 63 → Told at (resistantLine s)
-  resistant-told s h = let e = ending-short (allAre filler16 s) in short-told (resistantLine s) h (omega arith)
+  module _ (word s : List ℕ) (w : Worded at word s) where
+    pub none-told : Told at (noListLine word s)
+    none-told =
+        let a = length-append word (ending (allAre filler16 s)) in
+        let e = ending-short (allAre filler16 s) in
+        let h = w .short in
+        short-told (noListLine word s) (w .near .from) (omega arith)
 
-  pub failing-told : (n : ℕ) (s : List ℕ) → Near at s → Told at (failingLine n s)
-  failing-told n s near =
-      let few = near .few in
-      let a = length-append (decimal n) (numbersEnd (numbersOf n) s) in
-      let d = decimal-all n in
-      let e = numbers-short (numbersOf n) s in
-      short-told (failingLine n s) (near .from) (omega arith)
+    pub list-told : (n : ℕ) → Told at (listLine word n s)
+    list-told n =
+        let few = w .near .few in
+        let h = w .short in
+        let a = length-append word (decimal n ++ numbersEnd (numbersOf n) s) in
+        let b = length-append (decimal n) (numbersEnd (numbersOf n) s) in
+        let d = decimal-all n in
+        let e = numbers-short (numbersOf n) s in
+        short-told (listLine word n s) (w .near .from) (omega arith)
 
   pub part-told : (s : List ℕ) → Near at s → Told at (partLine s)
   part-told s near =

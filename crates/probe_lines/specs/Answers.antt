@@ -56,14 +56,27 @@ refusedLine r = refusedText r ++ lineFeed
 abbrev pub numbersOf : ℕ → ℕ
 numbersOf pairs = cond (ltb pairs 4) (2 * pairs) 0
 
--- a verdict: `ok resistant`, or `ok failing` with how many pairs and their numbers
+-- a word where no list is found, and one with how many pairs and their numbers where there is one
+abbrev pub noListLine : List ℕ → List ℕ → List ℕ
+noListLine word lent = word ++ ending (allAre filler16 lent)
+
+abbrev pub listLine : List ℕ → ℕ → List ℕ → List ℕ
+listLine word n lent = word ++ (decimal n ++ numbersEnd (numbersOf n) lent)
+
+-- a verdict: `ok resistant`, or `ok failing` with the list
 abbrev pub resistantLine : List ℕ → List ℕ
-resistantLine lent = (111 ∷ 107 ∷ 32 ∷ 114 ∷ 101 ∷ 115 ∷ 105 ∷ 115 ∷ 116 ∷ 97 ∷ 110 ∷ 116 ∷ []) ++ ending (allAre filler16 lent)
+resistantLine = noListLine (111 ∷ 107 ∷ 32 ∷ 114 ∷ 101 ∷ 115 ∷ 105 ∷ 115 ∷ 116 ∷ 97 ∷ 110 ∷ 116 ∷ [])
 
 abbrev pub failingLine : ℕ → List ℕ → List ℕ
-failingLine n lent =
-    (111 ∷ 107 ∷ 32 ∷ 102 ∷ 97 ∷ 105 ∷ 108 ∷ 105 ∷ 110 ∷ 103 ∷ 32 ∷ []) ++
-    (decimal n ++ numbersEnd (numbersOf n) lent)
+failingLine = listLine (111 ∷ 107 ∷ 32 ∷ 102 ∷ 97 ∷ 105 ∷ 108 ∷ 105 ∷ 110 ∷ 103 ∷ 32 ∷ [])
+
+-- an explanation: `ok unexplained`, or `ok list` with the list
+abbrev pub unexplainedLine : List ℕ → List ℕ
+unexplainedLine =
+    noListLine (111 ∷ 107 ∷ 32 ∷ 117 ∷ 110 ∷ 101 ∷ 120 ∷ 112 ∷ 108 ∷ 97 ∷ 105 ∷ 110 ∷ 101 ∷ 100 ∷ [])
+
+abbrev pub explainedLine : ℕ → List ℕ → List ℕ
+explainedLine = listLine (111 ∷ 107 ∷ 32 ∷ 108 ∷ 105 ∷ 115 ∷ 116 ∷ 32 ∷ [])
 
 -- `part LENGTH LINKS...`, and `at INDEX LENGTH`
 abbrev pub partLine : List ℕ → List ℕ
@@ -76,3 +89,8 @@ placeLine index n = (97 ∷ 116 ∷ 32 ∷ []) ++ ((decimal index ++ space) ++ (
 pub record Near (at : ℕ) (lent : List ℕ) : Type 0 where
   pub from : at ≤ 2 ^ 63
   pub few : length lent ≤ 2 ^ 32
+
+-- and so can one with a word before it
+pub record Worded (at : ℕ) (word lent : List ℕ) : Type 0 where
+  pub near : Near at lent
+  pub short : length word ≤ 64

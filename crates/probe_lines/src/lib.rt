@@ -1,12 +1,12 @@
 // The lines that the probe answers with, laid into lent bytes from an index on: an answer with the numbers or bytes that it wrote and whether
-// the lent buffer is as it should be, a slack, a verdict, and a part of a row. The texts are in specs/Answers. Each function gives the
+// the lent buffer is as it should be, a slack, a list or that there is none, and a part of a row. The texts are in specs/Answers. Each function gives the
 // index after its line, and asks that it begins in the lower half of what can be told. It leans on `text`, `verdict_lines` and `probe_words`.
 ghost use Prim.Native.Nat.{_≤_, _^_};
 ghost use mathlib.Core.Path.{_≡_};
 ghost use Rattle.scope.specs.Outcome.{outcomeOf};
 ghost use Rattle.text.specs.Text.{Puts, Told};
 ghost use Rattle.probe_lines.specs.Answers.{unknownLine, ending, okText, refusedText, toldBytes, slackLine, refusedLine};
-ghost use Rattle.probe_lines.specs.Answers.{resistantLine, failingLine, partLine, placeLine, numbersEnd, bytesEnd, Near};
+ghost use Rattle.probe_lines.specs.Answers.{noListLine, listLine, partLine, placeLine, numbersEnd, bytesEnd, Near, Worded};
 ghost use Rattle.probe_lines.specs.Answers.{told as Answers·told, numbersOf as Answers·numbersOf};
 use probe_words::kept;
 use probe_words::kept_16;
@@ -130,12 +130,12 @@ pub fn told_refusal(refusal: Refusal, out: &mut [u8], at: usize) -> usize
     put_byte(out, last, b'\n')
 }
 
-// A resistant plan.
-pub fn told_resistant(lent: &[u16], out: &mut [u8], at: usize) -> usize
-    requires { ⌜ at ≤ 2 ^ 63 ⌝ }
-    ensures { λ r. ⌜ Puts (resistantLine (now (lent .entry))) (now (out .entry)) (now (out .exit)) at r ⌝ }
+// No list is found.
+pub fn told_none(word: &[u8], lent: &[u16], out: &mut [u8], at: usize) -> usize
+    requires { ⌜ Worded at (now word) (now lent) ⌝ }
+    ensures { λ r. ⌜ Puts (noListLine (now (word .entry)) (now (lent .entry))) (now (out .entry)) (now (out .exit)) at r ⌝ }
 {
-    let last = put_word(out, at, b"ok resistant");
+    let last = put_word(out, at, word);
     end(out, last, kept_16(lent, 0))
 }
 
@@ -146,13 +146,13 @@ fn numbers_of(pairs: usize) -> usize
     if pairs < 4 { 2 * pairs } else { 0 }
 }
 
-// A failing list: how many pairs, and their numbers.
-pub fn told_failing(pairs: usize, lent: &[u16], out: &mut [u8], at: usize) -> usize
-    requires { ⌜ Near at (now lent) ⌝ }
-    ensures { λ r. ⌜ Puts (failingLine pairs (now (lent .entry))) (now (out .entry)) (now (out .exit)) at r ⌝ }
+// A list: how many pairs, and their numbers.
+pub fn told_list(word: &[u8], pairs: usize, lent: &[u16], out: &mut [u8], at: usize) -> usize
+    requires { ⌜ Worded at (now word) (now lent) ⌝ }
+    ensures { λ r. ⌜ Puts (listLine (now (word .entry)) pairs (now (lent .entry))) (now (out .entry)) (now (out .exit)) at r ⌝ }
 {
     let written = numbers_of(pairs);
-    let first = put_word(out, at, b"ok failing ");
+    let first = put_word(out, at, word);
     let next = put_decimal(out, first, pairs);
     numbers_end(out, next, lent, written)
 }
