@@ -7,7 +7,7 @@
    is none, and the result, 0 beside a refusal. A refusal changes no buffer; a success changes only the part that it writes. Nothing is
    kept between calls, and no memory is asked for; a call takes less than 100 kB of stack.
 
-   Rows, cut lists and events are as in README.md. Everything counts from 0. */
+   Rows, cut lists, captures and events are as in README.md. Everything counts from 0. */
 #ifndef NUTHATCHET_H
 #define NUTHATCHET_H
 
@@ -18,7 +18,7 @@
 extern "C" {
 #endif
 
-/* What is always enough room: a plan file, a row, the events of a replay, a failing list, all answers for one k. */
+/* What is always enough room: a plan file, a row, the events of a replay, a list of cuts that is handed over, all answers for one k. */
 #define NUTHATCHET_FILE 7348
 #define NUTHATCHET_ROW 10405
 #define NUTHATCHET_EVENTS 4096
@@ -45,6 +45,11 @@ size_t nuthatchet_replay(const uint16_t *row, size_t row_len, const uint16_t *cu
 /* Whether every list of at most k cuts leaves at least l arrivals; refusals 1 to 10, 11, 13. Pairs: 0 if so, and the list is as it was; or else
    how many pairs the first failing list has, and it stands at the front. */
 size_t nuthatchet_verdict(const uint16_t *row, size_t row_len, size_t k, size_t l, uint16_t *list, size_t list_len, size_t *place, size_t *pairs);
+
+/* Which cuts explain a capture (slot, link, message, slot, ..: every crossing of one cycle, rising): the first list of at most k pairs whose replay has
+   exactly these crossings; refusals 1 to 10, 11, 23, 13. Result: 0 if no list does, and the list is as it was; or else one more than the pairs of
+   that list, which stands at the front: 1 is the empty list, no cut at all. */
+size_t nuthatchet_explain(const uint16_t *row, size_t row_len, size_t k, const uint16_t *capture, size_t capture_len, uint16_t *list, size_t list_len, size_t *place, size_t *result);
 
 /* All answers for k at once, seven numbers for each l from 0 to M: 0 where the plan is resistant, else one more than the pairs of the first
    failing list, then its numbers, and zeros; refusals 1 to 10, 11, 13. Result: how many numbers. */

@@ -125,6 +125,14 @@ static void answer(void) {
         if (result == 0) printf("ok resistant");
         else printf("ok failing %zu", result), put_numbers(row16, 2 * result);
         put_end(2 * result, room, 1);
+    } else if (strncmp(line, "explain ", 8) == 0 && read_numbers(line + 7) >= 3 && numbers[2] <= count - 3) {
+        lend(room = numbers[1]);
+        uint16_t *row = numbers + 3 + numbers[2];
+        if (refused(nuthatchet_explain(row, count - 3 - numbers[2], numbers[0], numbers + 3, numbers[2], row16, room, &place, &result))) { put_end(0, room, 1); return; }
+        n = result == 0 ? 0 : 2 * (result - 1);
+        if (result == 0) printf("ok unexplained");
+        else printf("ok list %zu", result - 1), put_numbers(row16, n);
+        put_end(n, room, 1);
     } else if (strncmp(line, "slack ", 6) == 0 && read_numbers(line + 5) >= 2) {
         int32_t slots;
         number = nuthatchet_slack(numbers + 2, count - 2, numbers[0], numbers[1], &place, &slots);

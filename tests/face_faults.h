@@ -52,6 +52,13 @@ static size_t faulty_slack(const uint16_t *row, size_t row_len, size_t m, size_t
     return number;
 }
 
+static size_t faulty_explain(const uint16_t *row, size_t row_len, size_t k, const uint16_t *capture, size_t capture_len, uint16_t *list, size_t list_len, size_t *place, size_t *result) {
+    size_t number = nuthatchet_explain(row, row_len, k, capture, capture_len, list, list_len, place, result);
+    if (FAULT == 24 && number == 0 && *result == 1) *result = 0; /* the empty list told as unexplained */
+    if (FAULT == 25 && number == 0 && *result == 0 && list_len > 0) list[0] = 0; /* the list changed where nothing explains */
+    return number;
+}
+
 #define nuthatchet_all_answers faulty_all_answers
 #define nuthatchet_second_path faulty_second_path
 #define nuthatchet_replay_text faulty_replay_text
@@ -59,4 +66,5 @@ static size_t faulty_slack(const uint16_t *row, size_t row_len, size_t m, size_t
 #define nuthatchet_pack_text faulty_pack_text
 #define nuthatchet_judge faulty_judge
 #define nuthatchet_slack faulty_slack
-enum { FAULTS = 23 };
+#define nuthatchet_explain faulty_explain
+enum { FAULTS = 25 };

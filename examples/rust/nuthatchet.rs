@@ -7,6 +7,7 @@ extern "C" {
     fn nuthatchet_second_path(row: *const u16, row_len: usize, m: usize, p: usize, index: *mut usize) -> usize;
     fn nuthatchet_replay(row: *const u16, row_len: usize, cuts: *const u16, cuts_len: usize, events: *mut u16, events_len: usize, place: *mut usize, result: *mut usize) -> usize;
     fn nuthatchet_verdict(row: *const u16, row_len: usize, k: usize, l: usize, list: *mut u16, list_len: usize, place: *mut usize, pairs: *mut usize) -> usize;
+    fn nuthatchet_explain(row: *const u16, row_len: usize, k: usize, capture: *const u16, capture_len: usize, list: *mut u16, list_len: usize, place: *mut usize, result: *mut usize) -> usize;
     fn nuthatchet_all_answers(row: *const u16, row_len: usize, k: usize, out: *mut u16, out_len: usize, place: *mut usize, result: *mut usize) -> usize;
     fn nuthatchet_slack(row: *const u16, row_len: usize, m: usize, p: usize, place: *mut usize, slots: *mut i32) -> usize;
     fn nuthatchet_replay_text(file: *const u8, file_len: usize, input: *const u8, input_len: usize, out: *mut u8, out_len: usize, place: *mut usize, result: *mut usize) -> usize;
@@ -64,6 +65,13 @@ pub fn replay(row: &[u16], cuts: &[u16], events: &mut [u16]) -> Result<usize, Re
 /// 0 if resistant, or how many pairs the first failing list has, at the front of `list`.
 pub fn verdict(row: &[u16], k: usize, l: usize, list: &mut [u16]) -> Result<usize, Refusal> {
     told(|place, pairs| unsafe { nuthatchet_verdict(row.as_ptr(), row.len(), k, l, list.as_mut_ptr(), list.len(), place, pairs) })
+}
+
+/// 0 if unexplained, or one more than the pairs of the first list that explains the capture, at the front of `list`.
+pub fn explain(row: &[u16], k: usize, capture: &[u16], list: &mut [u16]) -> Result<usize, Refusal> {
+    told(|place, result| unsafe {
+        nuthatchet_explain(row.as_ptr(), row.len(), k, capture.as_ptr(), capture.len(), list.as_mut_ptr(), list.len(), place, result)
+    })
 }
 
 pub fn all_answers(row: &[u16], k: usize, out: &mut [u16]) -> Result<usize, Refusal> {

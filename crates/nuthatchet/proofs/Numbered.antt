@@ -17,8 +17,9 @@ use Rattle.scope.specs.Plan.{Plan, planOf}
 use Rattle.scope.specs.Good.{rules}
 use Rattle.scope.specs.Cuts.{pairs, badPair, checkCuts}
 use Rattle.scope.specs.Cycle.{eventRow, arrivals}
+use Rattle.scope.specs.Capture.{triples, badTriple, checkCapture}
 use Rattle.scope.specs.Spare.{placeOf, noSecond}
-use Rattle.scope.specs.Questions.{judge, readFile, writeFile, replay, mayJudge, maySpare}
+use Rattle.scope.specs.Questions.{judge, readFile, writeFile, replay, mayJudge, mayExplain, maySpare}
 use Rattle.scope.specs.Limits.{longestRow, longestEvents}
 use Rattle.scope.specs.Lines.{cutsOf}
 use Rattle.replay_text.specs.Text.{mayList}
@@ -112,6 +113,22 @@ rule-named row k l lent =
     (named 11 0 (λ e. omega arith))
     (room-named (2 * k) lent))
 
+capture-named : (plan : Plan) (capture : List ℕ) → Numbered (checkCapture plan capture)
+unfolding checkCapture
+capture-named plan capture =
+    pick (ltb (lowest (badTriple plan capture) (triples capture)) (triples capture))
+    (refuse 23 (lowest (badTriple plan capture) (triples capture))) (gives (triples capture))
+    (named 23 (lowest (badTriple plan capture) (triples capture)) (λ e. omega arith))
+    (given (triples capture))
+
+explain-named : (row : List ℕ) (k : ℕ) (capture : List ℕ) (lent : ℕ) → Numbered (mayExplain row k capture lent)
+unfolding mayExplain
+explain-named row k capture lent =
+    chain (judge row) _ (judged row)
+    (λ n e. pick (ltb 3 k) (refuse 11 0) _ (named 11 0 (λ e. omega arith))
+    (chain (checkCapture (planOf row) capture) (λ _. room (2 * k) lent) (capture-named (planOf row) capture)
+    (λ n e. room-named (2 * k) lent)))
+
 answer-named : (row : List ℕ) (k lent : ℕ) → Numbered (mayAnswer row k lent)
 unfolding mayAnswer
 answer-named row k lent =
@@ -141,6 +158,7 @@ zero-says-none =
       writes = write-named;
       replays = replay-named;
       rules = rule-named;
+      explains = explain-named;
       answers = answer-named;
       spares = spare-named;
       lists = list-named;

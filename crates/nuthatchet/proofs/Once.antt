@@ -12,11 +12,13 @@ use Rattle.scope.specs.Outcome.{Outcome, outcomeOf, gives, refused}
 use Rattle.scope.specs.Plan.{secondStart}
 use Rattle.scope.specs.SecondPath.{placeIndex}
 use Rattle.verdicts.proofs.Ways as verdict
+use Rattle.explanations.proofs.Ways as explanation
 use Rattle.all_verdicts.specs.Answers.{AnswersAll, mayAnswer}
 use Rattle.all_verdicts.proofs.Ways as all
 use Rattle.nuthatchet.specs.Told.{Told, Tells, TellsAll, TellsSlack}
 use Rattle.nuthatchet.specs.Part.{TellsPart}
 use Rattle.nuthatchet.specs.Ruled.{ruled, TellsRuling}
+use Rattle.nuthatchet.specs.Explained.{explained, TellsExplanation}
 
 answerOf : Outcome → Answer
 answerOf (gives i) = Gives i
@@ -42,6 +44,13 @@ module _ {n p v n′ p′ v′ : ℕ} where
       let same = verdict.one-outcome row k l entry exit exit′ (a .ruling) (b .ruling) (a .answered) (b .answered) in
       let t : Told (ruled (b .ruling)) n p v = rw (← same .0) (a .told) in
       (one-told (ruled (b .ruling)) t (b .told), same .1)
+
+  pub one-explanation : (row : List ℕ) (k : ℕ) (capture entry exit exit′ : List ℕ) → TellsExplanation row k capture entry exit n p v →
+      TellsExplanation row k capture entry exit′ n′ p′ v′ → ((n ≡ n′) × (p ≡ p′) × (v ≡ v′)) × (exit ≡ exit′)
+  one-explanation row k capture entry exit exit′ a b =
+      let same = explanation.one-outcome row k capture entry exit exit′ (a .explanation) (b .explanation) (a .answered) (b .answered) in
+      let t : Told (explained (b .explanation)) n p v = rw (← same .0) (a .told) in
+      (one-told (explained (b .explanation)) t (b .told), same .1)
 
   pub one-all : (row : List ℕ) (k : ℕ) (entry exit exit′ : List ℕ) → TellsAll row k entry exit n p v → TellsAll row k entry exit′ n′ p′ v′ →
       ((n ≡ n′) × (p ≡ p′) × (v ≡ v′)) × (exit ≡ exit′)

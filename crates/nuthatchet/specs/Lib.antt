@@ -1,3 +1,4 @@
 pub mod Told
 pub mod Part
 pub mod Ruled
+pub mod Explained

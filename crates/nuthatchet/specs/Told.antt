@@ -10,7 +10,7 @@ use Rattle.scope.specs.Outcome.{Outcome, refused, number, place, result, andThe
 use Rattle.scope.specs.File.{rowOf, fileOf}
 use Rattle.scope.specs.Plan.{planOf}
 use Rattle.scope.specs.Cycle.{eventRow}
-use Rattle.scope.specs.Questions.{after, judge, readFile, writeFile, replay, mayJudge, maySpare, slack}
+use Rattle.scope.specs.Questions.{after, judge, readFile, writeFile, replay, mayJudge, mayExplain, maySpare, slack}
 use Rattle.scope.specs.Limits.{longestRow}
 use Rattle.replay_text.specs.Text.{mayList}
 use Rattle.spare.specs.Slack.{unlessRefused}
@@ -65,6 +65,7 @@ pub record ZeroSaysNone : Type 0 where
   pub writes : (row : List ℕ) (lent : ℕ) → Numbered (writeFile row lent)
   pub replays : (row cuts : List ℕ) (lent : ℕ) → Numbered (replay row cuts lent)
   pub rules : (row : List ℕ) (k l lent : ℕ) → Numbered (mayJudge row k l lent)
+  pub explains : (row : List ℕ) (k : ℕ) (capture : List ℕ) (lent : ℕ) → Numbered (mayExplain row k capture lent)
   pub answers : (row : List ℕ) (k lent : ℕ) → Numbered (mayAnswer row k lent)
   pub spares : (row : List ℕ) (m q : ℕ) → Numbered (maySpare row m q)
   pub lists : (file input : List ℕ) (needed lent : ℕ) → Numbered (andThen (mayList file input) (λ _. room needed lent))

@@ -1,12 +1,15 @@
 // Every public question for programs in other languages: `rt staticlib nuthatchet`, include/nuthatchet.h, docs/FACE.md. Numbers and slices
 // only. Each function takes anything and asks nothing, returns the number of the refusal, 0 where there is none, and writes its place
 // and the result, zero where document 01 says zero. It leans on the crate that answers the question, and adds only how it is said.
+use explanations::Explanation;
 use scope::Answer;
 use scope::Refusal;
 use scope::refusal_at;
 use spare::Spare;
 use verdicts::Ruling;
-ghost use Rattle.scope.specs.Limits.{longestRow};
+ghost use Prim.Native.Nat.{_+_, _≤_};
+ghost use mathlib.Core.Path.{_≡_};
+ghost use Rattle.scope.specs.Limits.{longestRow, mostCuts};
 ghost use Rattle.scope.specs.Lines.{replayText, refusedLine};
 ghost use Rattle.scope.specs.Outcome.{outcomeOf, gives, refused, refusalAt};
 ghost use Rattle.scope.specs.Questions.{judge, readFile};
@@ -15,6 +18,7 @@ ghost use Rattle.row_text.specs.Rows.{rowText, numbersOf};
 ghost use Rattle.nuthatchet.specs.Told.{Told, TellsRead, TellsWritten, TellsReplay, TellsText, TellsAll, TellsSlack};
 ghost use Rattle.nuthatchet.specs.Part.{TellsPart};
 ghost use Rattle.nuthatchet.specs.Ruled.{ruled, TellsRuling};
+ghost use Rattle.nuthatchet.specs.Explained.{explained, Few, TellsExplanation};
 
 // A refusal: its number is returned, its place written, and zero for the result.
 fn refuse(refusal: Refusal, place: &mut usize, result: &mut usize) -> usize
@@ -55,6 +59,34 @@ fn tell_ruling(ruling: Ruling, place: &mut usize, result: &mut usize) -> usize
             0
         }
         Ruling::Refused(r) => refuse(r, place, result),
+    }
+}
+
+// How many pairs a list has, and one more: so 0 is left to say that there is none.
+fn one_more(pairs: usize) -> usize
+    requires { ⌜ pairs ≤ mostCuts ⌝ }
+    ensures { λ r. ⌜ r ≡ pairs + 1 ⌝ }
+{
+    pairs + 1
+}
+
+// An explanation as three numbers.
+fn tell_explanation(explanation: Explanation, place: &mut usize, result: &mut usize) -> usize
+    requires { ⌜ Few explanation ⌝ }
+    ensures { λ r. ⌜ Told (explained explanation) r (now (place .exit)) (now (result .exit)) ⌝ }
+{
+    match explanation {
+        Explanation::Unexplained => {
+            *place = 0;
+            *result = 0;
+            0
+        }
+        Explanation::Listed(n) => {
+            *place = 0;
+            *result = one_more(n);
+            0
+        }
+        Explanation::Refused(r) => refuse(r, place, result),
     }
 }
 
@@ -147,6 +179,24 @@ pub extern "C" fn nuthatchet_verdict(
 {
     let ruling = verdicts::verdict(row, k, l, list);
     tell_ruling(ruling, place, pairs)
+}
+
+// Which cuts explain a capture: 0 if no list of at most k pairs does, or one more than the pairs of the first list that does, with that
+// list; or refusal 1 to 10, 11, 23, 13.
+#[no_mangle]
+pub extern "C" fn nuthatchet_explain(
+    row: &[u16],
+    k: usize,
+    capture: &[u16],
+    list: &mut [u16],
+    place: &mut usize,
+    result: &mut usize,
+) -> usize
+    ensures { λ r. ⌜ TellsExplanation (now (row .entry)) k (now (capture .entry)) (now (list .entry)) (now (list .exit)) r (now (place .exit))
+        (now (result .exit)) ⌝ }
+{
+    let explanation = explanations::explain(row, k, capture, list);
+    tell_explanation(explanation, place, result)
 }
 
 // All answers of a row for k, seven numbers for each l from 0 to M: how many numbers, or refusal 1 to 10, 11, 13.

@@ -9,16 +9,18 @@ use Rattle.text.specs.Reading.{stands}
 use Rattle.probe_words.specs.Words.{isNumber, numberNext, numberValue, numbersFrom, areAll, lastWord, isBytes, bytesIn}
 use Rattle.probe_lines.specs.Answers.{unknownLine}
 use Rattle.probe_questions.specs.declared.OfPlace.the-variants as OfPlace·
-use Rattle.probe_questions.specs.Asked.{readAnswer, writeAnswer, replayAnswer, Judges, placeAnswer, spoilAnswer}
+use Rattle.probe_questions.specs.Asked.{readAnswer, writeAnswer, replayAnswer, Judges, Explains, placeAnswer, spoilAnswer}
 use Rattle.probe_dispatch.specs.declared.Question.{Question}
-use Rattle.probe_dispatch.specs.declared.Question.the-variants.{Read, Write, Replay, Verdict, Slack, Second, Where, Spoil, Unknown}
+use Rattle.probe_dispatch.specs.declared.Question.the-variants.{Read, Write, Replay, Verdict, Explain, Slack, Second, Where, Spoil}
+use Rattle.probe_dispatch.specs.declared.Question.the-variants.{Unknown}
 
--- the word that a question begins with: read, write, replay, verdict, slack, second, where, spoil
+-- the word that a question begins with: read, write, replay, verdict, explain, slack, second, where, spoil
 abbrev pub wordOf : Question → List ℕ
 wordOf Read = 114 ∷ 101 ∷ 97 ∷ 100 ∷ []
 wordOf Write = 119 ∷ 114 ∷ 105 ∷ 116 ∷ 101 ∷ []
 wordOf Replay = 114 ∷ 101 ∷ 112 ∷ 108 ∷ 97 ∷ 121 ∷ []
 wordOf Verdict = 118 ∷ 101 ∷ 114 ∷ 100 ∷ 105 ∷ 99 ∷ 116 ∷ []
+wordOf Explain = 101 ∷ 120 ∷ 112 ∷ 108 ∷ 97 ∷ 105 ∷ 110 ∷ []
 wordOf Slack = 115 ∷ 108 ∷ 97 ∷ 99 ∷ 107 ∷ []
 wordOf Second = 115 ∷ 101 ∷ 99 ∷ 111 ∷ 110 ∷ 100 ∷ []
 wordOf Where = 119 ∷ 104 ∷ 101 ∷ 114 ∷ 101 ∷ []
@@ -27,7 +29,7 @@ wordOf Unknown = []
 
 -- which of them a line is: the one whose word it begins with
 abbrev pub questions : List Question
-questions = Read ∷ Write ∷ Replay ∷ Verdict ∷ Slack ∷ Second ∷ Where ∷ Spoil ∷ []
+questions = Read ∷ Write ∷ Replay ∷ Verdict ∷ Explain ∷ Slack ∷ Second ∷ Where ∷ Spoil ∷ []
 
 abbrev pub firstOf : List ℕ → List Question → Question
 firstOf line [] = Unknown
@@ -53,6 +55,7 @@ Says Read line given lent file said = said ≡ readAsked lent file line
 Says Write line given lent file said = said ≡ writeAnswer file given
 Says Replay line given lent file said = said ≡ replayAnswer lent given
 Says Verdict line given lent file said = Judges lent given said
+Says Explain line given lent file said = Explains lent given said
 Says Slack line given lent file said = said ≡ placeAnswer OfPlace·.Slack given
 Says Second line given lent file said = said ≡ placeAnswer OfPlace·.Second given
 Says Where line given lent file said = said ≡ placeAnswer OfPlace·.Where given

@@ -18,6 +18,7 @@ pub enum Question {
     Write,
     Replay,
     Verdict,
+    Explain,
     Slack,
     Second,
     Where,
@@ -40,6 +41,9 @@ fn which(line: &[u8]) -> Question
     }
     if stands(line, 0, b"verdict") {
         return Question::Verdict;
+    }
+    if stands(line, 0, b"explain") {
+        return Question::Explain;
     }
     if stands(line, 0, b"slack") {
         return Question::Slack;
@@ -65,6 +69,7 @@ fn size(question: Question) -> usize
         Question::Write => 5,
         Question::Replay => 6,
         Question::Verdict => 7,
+        Question::Explain => 7,
         Question::Slack => 5,
         Question::Second => 6,
         Question::Where => 5,
@@ -111,6 +116,7 @@ fn asked(
         Question::Write => probe_questions::write(given, file, out, at),
         Question::Replay => probe_questions::replay(given, lent, out, at),
         Question::Verdict => probe_questions::verdict(given, lent, out, at),
+        Question::Explain => probe_questions::explain(given, lent, out, at),
         Question::Slack => of_place(OfPlace::Slack, given, out, at),
         Question::Second => of_place(OfPlace::Second, given, out, at),
         Question::Where => of_place(OfPlace::Where, given, out, at),

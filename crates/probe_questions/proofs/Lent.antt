@@ -13,9 +13,11 @@ use Rattle.scope.specs.Plan.{at}
 use Rattle.plan.specs.Answers.{Answers}
 use Rattle.verdicts.specs.declared.Ruling.{Ruling}
 use Rattle.verdicts.specs.Verdict.{Answered}
+use Rattle.explanations.specs.declared.Explanation.{Explanation}
+use Rattle.explanations.specs.Explained as Explained·
 use Rattle.probe_words.specs.Words.{filler16}
 use Rattle.probe_lines.specs.Answers.{unknownLine, told, Near}
-use Rattle.probe_questions.specs.Asked.{atLeast, lentAfter, replayLine, rulingLine, Ruled, Judges}
+use Rattle.probe_questions.specs.Asked.{atLeast, lentAfter, replayLine, rulingLine, Ruled, Asks, explanationLine, Explained}
 
 -- a question has so many numbers, or is none
 module _ (least least′ n : ℕ) (line : List ℕ) (e : least ≡ least′) where
@@ -118,26 +120,50 @@ module _ (room : ℕ) (lent filled : List ℕ) (fits : room + 16 ≤ length lent
         is = ap (rulingLine r) (margin-stays filler16 room lent filled fits is exit same);
       }
 
-module _ (size : ℕ) (given : List ℕ) where
-  pub judges-few : length given < 3 → Judges size given unknownLine
-  judges-few h = record { few = λ _. refl; short = λ _. refl; ruled = λ k _. absurd (omega arith) }
+  -- and of an explanation
+  pub explained : (exit : List ℕ) → length exit ≡ length (take room (filled ++ drop (room + 16) lent)) → (row capture : List ℕ) (k : ℕ)
+      (r : Explanation) → Explained·.Answered row k capture (take room (filled ++ drop (room + 16) lent)) exit r →
+      Explained row capture k room (explanationLine r (take (room + 16) (exit ++ drop room (filled ++ drop (room + 16) lent))))
+  explained exit same row capture k r w =
+      record {
+        explanation = r;
+        list = exit;
+        answered = subst (λ (entry : List ℕ). Explained·.Answered row k capture entry exit r) (front filler16 room lent filled fits is) w;
+        is = ap (explanationLine r) (margin-stays filler16 room lent filled fits is exit same);
+      }
 
-  module _ (k l room : ℕ) (e : k ≡ at given 0) (f : l ≡ at given 1) (g : room ≡ at given 2) where
-    pub judges-short : size < room + 16 → Judges size given unknownLine
-    judges-short h = record { few = λ _. refl; short = λ _. refl; ruled = λ _ k. absurd (omega arith) }
+-- a question that is answered, or is none
+module _ (least least′ room room′ size : ℕ) (given : List ℕ) (Answer : List ℕ → Type 0) (e : least ≡ least′) (f : room ≡ room′) where
+  pub asks-few : length given < least → Asks least′ room′ size given Answer unknownLine
+  asks-few h = record { few = λ _. refl; short = λ _. refl; asked = λ k _. absurd (omega arith) }
 
-    pub judges : (row line : List ℕ) → row ≡ drop 3 given → 3 ≤ length given → room + 16 ≤ size →
-        Ruled row k l room line → Judges size given line
-    judges row line is long fits r =
-        record {
-          few = λ k. absurd (omega arith);
-          short = λ k. absurd (omega arith);
-          ruled =
-              λ _ _.
-              subst (λ (x : ℕ). Ruled (drop 3 given) (at given 0) (at given 1) x line) g
-              (subst (λ (x : ℕ). Ruled (drop 3 given) (at given 0) x room line) f
-              (subst (λ (x : ℕ). Ruled (drop 3 given) x l room line) e (subst (λ (x : List ℕ). Ruled x k l room line) is r)));
-        }
+  pub asks-short : size < room + 16 → Asks least′ room′ size given Answer unknownLine
+  asks-short h = record { few = λ _. refl; short = λ _. refl; asked = λ _ k. absurd (omega arith) }
+
+  pub asks : (line : List ℕ) → least ≤ length given → room + 16 ≤ size → Answer line → Asks least′ room′ size given Answer line
+  asks line long fits r = record { few = λ k. absurd (omega arith); short = λ k. absurd (omega arith); asked = λ _ _. r }
+
+-- the numbers of a verdict
+pub ruled-of : (given : List ℕ) (k l room : ℕ) → k ≡ at given 0 → l ≡ at given 1 → room ≡ at given 2 → (row line : List ℕ) →
+    row ≡ drop 3 given → Ruled row k l room line → Ruled (drop 3 given) (at given 0) (at given 1) (at given 2) line
+ruled-of given k l room e f g row line is r =
+    subst (λ (x : ℕ). Ruled (drop 3 given) (at given 0) (at given 1) x line) g
+    (subst (λ (x : ℕ). Ruled (drop 3 given) (at given 0) x room line) f
+    (subst (λ (x : ℕ). Ruled (drop 3 given) x l room line) e (subst (λ (x : List ℕ). Ruled x k l room line) is r)))
+
+-- the numbers of an explanation
+pub explained-of : (given : List ℕ) (k room count : ℕ) → k ≡ at given 0 → room ≡ at given 1 → count ≡ at given 2 → (line : List ℕ) →
+    Explained (take (length given - (count + 3)) (drop (count + 3) given)) (take (count + 3 - 3) (drop 3 given)) k room line →
+    Explained (drop (at given 2 + 3) given) (take (at given 2) (drop 3 given)) (at given 0) (at given 1) line
+explained-of given k room count e f g line r =
+    let row : take (length given - (count + 3)) (drop (count + 3) given) ≡ drop (at given 2 + 3) given =
+    behind given (count + 3) ∙ ap (λ (n : ℕ). drop (n + 3) given) g
+    in
+    let n : count + 3 - 3 ≡ at given 2 = omega arith in
+    subst (λ (x : ℕ). Explained (drop (at given 2 + 3) given) (take (at given 2) (drop 3 given)) (at given 0) x line) f
+    (subst (λ (x : ℕ). Explained (drop (at given 2 + 3) given) (take (at given 2) (drop 3 given)) x room line) e
+    (subst (λ (x : ℕ). Explained (drop (at given 2 + 3) given) (take x (drop 3 given)) k room line) n
+    (subst (λ (x : List ℕ). Explained x (take (count + 3 - 3) (drop 3 given)) k room line) row r)))
 
 -- a replay's row and cuts
 pub replayed : (given : List ℕ) (cuts room : ℕ) → cuts ≡ at given 1 → room ≡ at given 0 →

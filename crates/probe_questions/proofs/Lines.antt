@@ -21,10 +21,11 @@ use Rattle.text.specs.Text.{Puts}
 use Rattle.spare.specs.declared.Spare.{Spare}
 use Rattle.spare.specs.Slack.{said, value, unlessRefused, Slacks, Between}
 use Rattle.probe_lines.specs.Answers.{unknownLine, partLine, placeLine, slackLine, refusedLine}
-use Rattle.probe_questions.specs.Asked.{Lays, partOrNone, slackOr, spareLine, ofPlace, placeAnswer, rulingLine}
+use Rattle.probe_questions.specs.Asked.{Lays, partOrNone, slackOr, spareLine, ofPlace, placeAnswer, rulingLine, explanationLine}
 use Rattle.probe_questions.specs.Asked.{spoiltRow, spoiltBytes, spoilAnswer}
 use Rattle.probe_questions.specs.declared.OfPlace.{OfPlace}
 use Rattle.verdicts.specs.declared.Ruling.{Ruling}
+use Rattle.explanations.specs.declared.Explanation.{Explanation}
 use Rattle.probe_questions.proofs.Lent.{enough}
 
 -- a text is laid, and so is another that is the same
@@ -79,6 +80,9 @@ placed asks is given row m p e f g h long =
 
 pub ruling-as : {r is : Ruling} (lent : List ℕ) → r ≡ is → rulingLine is lent ≡ rulingLine r lent
 ruling-as lent e = ap (λ (r : Ruling). rulingLine r lent) (sym e)
+
+pub explanation-as : {r is : Explanation} (lent : List ℕ) → r ≡ is → explanationLine is lent ≡ explanationLine r lent
+explanation-as lent e = ap (λ (r : Explanation). explanationLine r lent) (sym e)
 
 -- a spoilt front of a buffer
 module _ (fill index : ℕ) (lent exit : List ℕ) (long : 16 ≤ length lent) (same : length exit ≡ length (take 16 lent))

@@ -16,8 +16,13 @@ use Rattle.plan.specs.Answers.{shownIndex}
 use Rattle.verdicts.specs.declared.Ruling.{Ruling}
 use Rattle.verdicts.specs.declared.Ruling.the-variants.{Resistant, Failing, Refused}
 use Rattle.verdicts.specs.Verdict.{Answered}
+use Rattle.explanations.specs.declared.Explanation.{Explanation}
+use Rattle.explanations.specs.declared.Explanation.the-variants.{Unexplained, Listed}
+use Rattle.explanations.specs.declared.Explanation.the-variants as Explanation·
+use Rattle.explanations.specs.Explained as Explained·
 use Rattle.probe_words.specs.Words.{filler, filler16}
 use Rattle.probe_lines.specs.Answers.{unknownLine, partLine, placeLine, slackLine, refusedLine, resistantLine, failingLine, told, toldBytes}
+use Rattle.probe_lines.specs.Answers.{unexplainedLine, explainedLine}
 use Rattle.probe_questions.specs.declared.OfPlace.{OfPlace}
 use Rattle.probe_questions.specs.declared.OfPlace.the-variants.{Slack, Second, Where}
 
@@ -94,10 +99,31 @@ pub record Ruled (row : List ℕ) (k l room : ℕ) (line : List ℕ) : Type 0 wh
   pub answered : Answered row k l (replicate room filler16) list ruling
   pub is : line ≡ rulingLine ruling (list ++ replicate 16 filler16)
 
-pub record Judges (size : ℕ) (given line : List ℕ) : Type 0 where
-  pub few : length given < 3 → line ≡ unknownLine
-  pub short : size < at given 2 + 16 → line ≡ unknownLine
-  pub ruled : 3 ≤ length given → at given 2 + 16 ≤ size → Ruled (drop 3 given) (at given 0) (at given 1) (at given 2) line
+-- a question with at least so many numbers and so much room is answered so; with fewer it is none
+pub record Asks (least room size : ℕ) (given : List ℕ) (Answer : List ℕ → Type 0) (line : List ℕ) : Type 0 where
+  pub few : length given < least → line ≡ unknownLine
+  pub short : size < room + 16 → line ≡ unknownLine
+  pub asked : least ≤ length given → room + 16 ≤ size → Answer line
+
+abbrev pub Judges : ℕ → List ℕ → List ℕ → Type 0
+Judges size given = Asks 3 (at given 2) size given (Ruled (drop 3 given) (at given 0) (at given 1) (at given 2))
+
+-- `explain`, K ROOM COUNT n... ROW...: of an explanation, and of what the lent list then holds with its margin
+abbrev pub explanationLine : Explanation → List ℕ → List ℕ
+explanationLine Unexplained lent = unexplainedLine lent
+explanationLine (Listed n) lent = explainedLine n lent
+explanationLine (Explanation·.Refused r) lent = told (refused r) 0 lent
+
+pub record Explained (row capture : List ℕ) (k room : ℕ) (line : List ℕ) : Type 0 where
+  pub explanation : Explanation
+  pub list : List ℕ
+  pub answered : Explained·.Answered row k capture (replicate room filler16) list explanation
+  pub is : line ≡ explanationLine explanation (list ++ replicate 16 filler16)
+
+abbrev pub Explains : ℕ → List ℕ → List ℕ → Type 0
+Explains size given =
+    Asks (at given 2 + 3) (at given 1) size given
+    (Explained (drop (at given 2 + 3) given) (take (at given 2) (drop 3 given)) (at given 0) (at given 1))
 
 -- `spoil`, BITS INDEX: 16 numbers or bytes, filled, and one of them changed
 abbrev pub spoiltRow : ℕ → ℕ → List ℕ

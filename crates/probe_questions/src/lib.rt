@@ -9,10 +9,13 @@ ghost use Rattle.scope.specs.Plan.{timeoutOf, messageCount};
 ghost use Rattle.text.specs.Text.{Puts};
 ghost use Rattle.probe_words.specs.Words.{filler, filler16};
 ghost use Rattle.probe_lines.specs.Answers.{Near};
-ghost use Rattle.probe_questions.specs.Asked.{Lays, Judges, rulingLine, readAnswer, writeAnswer, replayAnswer, placeAnswer};
+ghost use Rattle.probe_questions.specs.Asked.{Lays, Judges, Explains, rulingLine, explanationLine, readAnswer, writeAnswer, replayAnswer, placeAnswer};
 ghost use Rattle.probe_questions.specs.Asked.{secondLine, whereLine, spareLine, spoilAnswer, spoiltRow, spoiltBytes};
+use explanations::Explanation;
 use probe_lines::told;
 use probe_lines::told_bytes;
+use probe_lines::told_list;
+use probe_lines::told_none;
 use probe_lines::unknown;
 use scope::Answer;
 use spare::Spare;
@@ -93,8 +96,8 @@ fn told_ruling(ruling: Ruling, lent: &[u16], out: &mut [u8], at: usize) -> usize
     ensures { λ r. ⌜ Puts (rulingLine ruling (now (lent .entry))) (now (out .entry)) (now (out .exit)) at r ⌝ }
 {
     match ruling {
-        Ruling::Resistant => probe_lines::told_resistant(lent, out, at),
-        Ruling::Failing(pairs) => probe_lines::told_failing(pairs, lent, out, at),
+        Ruling::Resistant => told_none(b"ok resistant", lent, out, at),
+        Ruling::Failing(pairs) => told_list(b"ok failing ", pairs, lent, out, at),
         Ruling::Refused(r) => told(Answer::Refused(r), 0, lent, out, at),
     }
 }
@@ -117,6 +120,43 @@ pub fn verdict(given: &[u16], lent: &mut [u16], out: &mut [u8], at: usize) -> us
     probe_words::fill_16(&mut lent[..all]);
     let ruling = verdicts::verdict(&given[3..], k, l, &mut lent[..room]);
     told_ruling(ruling, &lent[..all], out, at)
+}
+
+// An explanation: that there is none, or how many pairs with their numbers.
+fn told_explanation(explanation: Explanation, lent: &[u16], out: &mut [u8], at: usize) -> usize
+    requires { ⌜ Near at (now lent) ⌝ }
+    ensures { λ r. ⌜ Puts (explanationLine explanation (now (lent .entry))) (now (out .entry)) (now (out .exit)) at r ⌝ }
+{
+    match explanation {
+        Explanation::Unexplained => told_none(b"ok unexplained", lent, out, at),
+        Explanation::Listed(pairs) => told_list(b"ok list ", pairs, lent, out, at),
+        Explanation::Refused(r) => told(Answer::Refused(r), 0, lent, out, at),
+    }
+}
+
+// K ROOM COUNT n... ROW..., where COUNT says how many numbers of the capture follow
+pub fn explain(given: &[u16], lent: &mut [u16], out: &mut [u8], at: usize) -> usize
+    requires { ⌜ at ≤ 2 ^ 63 ⌝ }
+    ensures { λ r. ⌜ Lays (Explains (length (now (lent .entry))) (now (given .entry))) (now (out .entry)) (now (out .exit)) at r ⌝ }
+{
+    let k = rows::number(given, 0);
+    let room = rows::number(given, 1);
+    let split = rows::number(given, 2) + 3;
+    let all = room + MARGIN;
+    if given.len() < split {
+        return unknown(out, at);
+    }
+    if lent.len() < all {
+        return unknown(out, at);
+    }
+    probe_words::fill_16(&mut lent[..all]);
+    let explanation = explanations::explain(
+        &given[split..],
+        k,
+        &given[3..split],
+        &mut lent[..room],
+    );
+    told_explanation(explanation, &lent[..all], out, at)
 }
 
 // A second path, which has at most 16 links.

@@ -4,7 +4,7 @@ use mathlib.Core.Path.{_≡_, _∙_}
 use Prim.Native.Nat.{ℕ}
 use mathlib.Core.List.{List}
 use lib.ListN.{drop}
-use Rattle.probe_dispatch.specs.declared.Question.the-variants.{Read, Write, Replay, Verdict, Slack, Second, Where, Spoil}
+use Rattle.probe_dispatch.specs.declared.Question.the-variants.{Read, Write, Replay, Verdict, Explain, Slack, Second, Where, Spoil}
 use Rattle.probe_dispatch.specs.Line.{questions, firstOf, questionOf}
 use Rattle.probe_dispatch.proofs.Laws.{word-is, word-not}
 use Rattle.probe_dispatch.proofs.which.Statement.{statement}
@@ -39,25 +39,31 @@ abbrev line-5 : tie.Else5 → List ℕ
 line-5 c = line-4 (c .before .before .before)
 
 past-5 : (c : tie.Else5) → firstOf (line-5 c) (drop 5 questions) ≡ questionOf (line-5 c)
-past-5 c = word-not _ Slack (drop 5 questions) _ (c .before .stands5 .ensures) (c .if5 .left) ∙ past-4 (c .before .before .before)
+past-5 c = word-not _ Explain (drop 5 questions) _ (c .before .stands5 .ensures) (c .if5 .left) ∙ past-4 (c .before .before .before)
 
 abbrev line-6 : tie.Else6 → List ℕ
 line-6 c = line-5 (c .before .before .before)
 
 past-6 : (c : tie.Else6) → firstOf (line-6 c) (drop 6 questions) ≡ questionOf (line-6 c)
-past-6 c = word-not _ Second (drop 6 questions) _ (c .before .stands6 .ensures) (c .if6 .left) ∙ past-5 (c .before .before .before)
+past-6 c = word-not _ Slack (drop 6 questions) _ (c .before .stands6 .ensures) (c .if6 .left) ∙ past-5 (c .before .before .before)
 
 abbrev line-7 : tie.Else7 → List ℕ
 line-7 c = line-6 (c .before .before .before)
 
 past-7 : (c : tie.Else7) → firstOf (line-7 c) (drop 7 questions) ≡ questionOf (line-7 c)
-past-7 c = word-not _ Where (drop 7 questions) _ (c .before .stands7 .ensures) (c .if7 .left) ∙ past-6 (c .before .before .before)
+past-7 c = word-not _ Second (drop 7 questions) _ (c .before .stands7 .ensures) (c .if7 .left) ∙ past-6 (c .before .before .before)
 
 abbrev line-8 : tie.Else8 → List ℕ
 line-8 c = line-7 (c .before .before .before)
 
 past-8 : (c : tie.Else8) → firstOf (line-8 c) (drop 8 questions) ≡ questionOf (line-8 c)
-past-8 c = word-not _ Spoil (drop 8 questions) _ (c .before .stands8 .ensures) (c .if8 .left) ∙ past-7 (c .before .before .before)
+past-8 c = word-not _ Where (drop 8 questions) _ (c .before .stands8 .ensures) (c .if8 .left) ∙ past-7 (c .before .before .before)
+
+abbrev line-9 : tie.Else9 → List ℕ
+line-9 c = line-8 (c .before .before .before)
+
+past-9 : (c : tie.Else9) → firstOf (line-9 c) (drop 9 questions) ≡ questionOf (line-9 c)
+past-9 c = word-not _ Spoil (drop 9 questions) _ (c .before .stands9 .ensures) (c .if9 .left) ∙ past-8 (c .before .before .before)
 
 returns : tie.Need-returns
 returns c = word-is _ Read (drop 1 questions) _ (c .before .stands .ensures) (c .if1 .taken)
@@ -72,24 +78,27 @@ returns-4 : tie.Need-returns-4
 returns-4 c = word-is _ Verdict (drop 4 questions) _ (c .before .stands4 .ensures) (c .if4 .taken) ∙ past-3 (c .before .before .before)
 
 returns-5 : tie.Need-returns-5
-returns-5 c = word-is _ Slack (drop 5 questions) _ (c .before .stands5 .ensures) (c .if5 .taken) ∙ past-4 (c .before .before .before)
+returns-5 c = word-is _ Explain (drop 5 questions) _ (c .before .stands5 .ensures) (c .if5 .taken) ∙ past-4 (c .before .before .before)
 
 returns-6 : tie.Need-returns-6
-returns-6 c = word-is _ Second (drop 6 questions) _ (c .before .stands6 .ensures) (c .if6 .taken) ∙ past-5 (c .before .before .before)
+returns-6 c = word-is _ Slack (drop 6 questions) _ (c .before .stands6 .ensures) (c .if6 .taken) ∙ past-5 (c .before .before .before)
 
 returns-7 : tie.Need-returns-7
-returns-7 c = word-is _ Where (drop 7 questions) _ (c .before .stands7 .ensures) (c .if7 .taken) ∙ past-6 (c .before .before .before)
+returns-7 c = word-is _ Second (drop 7 questions) _ (c .before .stands7 .ensures) (c .if7 .taken) ∙ past-6 (c .before .before .before)
 
 returns-8 : tie.Need-returns-8
-returns-8 c = word-is _ Spoil (drop 8 questions) _ (c .before .stands8 .ensures) (c .if8 .taken) ∙ past-7 (c .before .before .before)
+returns-8 c = word-is _ Where (drop 8 questions) _ (c .before .stands8 .ensures) (c .if8 .taken) ∙ past-7 (c .before .before .before)
 
 returns-9 : tie.Need-returns-9
-returns-9 c = past-8 c
+returns-9 c = word-is _ Spoil (drop 9 questions) _ (c .before .stands9 .ensures) (c .if9 .taken) ∙ past-8 (c .before .before .before)
+
+returns-10 : tie.Need-returns-10
+returns-10 c = past-9 c
 
 pub which-spec : {M : Type 1} → statement M
 which-spec =
     tie.close
     (tie.spec (λ c. search needs) (λ c κs. search needs) returns (λ c. search needs) (λ c κs. search needs) returns-2 (λ c. search needs)
-    (λ c κs. search needs) returns-3 (λ c. search needs) (λ c κs. search needs) returns-4 (λ c. search needs) (λ c κs. search needs) returns-5
-    (λ c. search needs) (λ c κs. search needs) returns-6 (λ c. search needs) (λ c κs. search needs) returns-7 (λ c. search needs)
-    (λ c κs. search needs) returns-8 returns-9)
+    (λ c κs. search needs) returns-3 (λ c. search needs) (λ c κs. search needs) returns-4 (λ c. search needs) (λ c κs. search needs)
+    returns-5 (λ c. search needs) (λ c κs. search needs) returns-6 (λ c. search needs) (λ c κs. search needs) returns-7 (λ c. search needs)
+    (λ c κs. search needs) returns-8 (λ c. search needs) (λ c κs. search needs) returns-9 returns-10)

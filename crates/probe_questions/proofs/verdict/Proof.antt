@@ -1,24 +1,23 @@
 -- `probe_questions::verdict` meets its contract: the list is filled, and the line is told of the ruling.
 use borrow.Author.Needs.{needs}
 use Prim.Native.Nat.{_+_}
-use mathlib.Core.Path.{sym}
+use mathlib.Core.Path.{refl, sym}
 use lib.Seq.{length-take-le}
 use Rattle.probe_questions.proofs.Lines.{lays}
-use Rattle.probe_questions.proofs.Lent.{near, behind, ruled, judges-few, judges-short, judges}
+use Rattle.probe_questions.proofs.Lent.{near, behind, ruled, ruled-of, asks-few, asks-short, asks}
 use Rattle.probe_questions.proofs.verdict.Statement.{statement}
 use Rattle.probe_questions.proofs.verdict.Tie as tie
 
 returns : tie.Need-returns
-returns c = lays (judges-few _ _ (c .before .before .before .before .if1 .taken)) (c .before .before .unknown .ensures)
+returns c =
+    let s4 = c .before .before .before .before in
+    lays (asks-few _ _ _ _ _ _ _ refl (s4 .before .number3 .ensures .is) (s4 .if1 .taken)) (c .before .before .unknown .ensures)
 
 returns-2 : tie.Need-returns-2
 returns-2 c =
     let s4 = c .before .before .before .before in
     let s6 = s4 .before .before in
-    let s7 = s6 .before in
-    let s8 = s7 .before in
-    lays
-    (judges-short _ _ _ _ _ (s8 .number .ensures .is) (s7 .number2 .ensures .is) (s6 .number3 .ensures .is) (s4 .if2 .taken))
+    lays (asks-short _ _ _ _ _ _ _ refl (s6 .number3 .ensures .is) (s4 .if2 .taken))
     (c .before .before .unknown2 .ensures)
 
 slice-aggregate-fill-16 : tie.Need-slice-aggregate-fill-16
@@ -49,9 +48,10 @@ returns-3 c =
     let fits = s14 .if2 .left in
     let asked = s7 .verdict in
     lays
-    (judges _ (s22 .args .given .now) _ _ _ (s18 .number .ensures .is) (s17 .number2 .ensures .is) (s16 .number3 .ensures .is)
-    _ _ (behind (s22 .args .given .now) 3) (s15 .if1 .left) fits
-    (ruled _ _ _ fits (s12 .fill-16 .ensures) (asked .last .1 .1 .1 .0) (asked .kept .1 .1 .1 .0) _ _ _ (asked .result) (asked .ensures)))
+    (asks _ _ _ _ _ (s22 .args .given .now) _ refl (s16 .number3 .ensures .is) _ (s15 .if1 .left) fits
+    (ruled-of (s22 .args .given .now) _ _ _ (s18 .number .ensures .is) (s17 .number2 .ensures .is) (s16 .number3 .ensures .is) _ _
+    (behind (s22 .args .given .now) 3)
+    (ruled _ _ _ fits (s12 .fill-16 .ensures) (asked .last .1 .1 .1 .0) (asked .kept .1 .1 .1 .0) _ _ _ (asked .result) (asked .ensures))))
     (c .before .before .told-ruling .ensures)
 
 pub verdict-spec : {M : Type 1} → statement M
