@@ -11,7 +11,8 @@ use Rattle.scope.proofs.Cuts.{slot-below, link-below}
 use Rattle.order.proofs.Parts.{slot-right, link-right, pairs-both}
 use Rattle.sets.specs.Sums.{sumOf}
 use Rattle.losses.specs.Touch.{harm}
-use Rattle.losses.specs.Harmed.{harmed, NotBefore}
+use Rattle.order.specs.Search.{NotBefore}
+use Rattle.losses.specs.Harmed.{harmed}
 use Rattle.losses.specs.Strips.{bared}
 use Rattle.bound.specs.Bounds.{weightIn, frontIn, BoundOn, OneLast}
 

@@ -11,7 +11,8 @@ use Rattle.scope.specs.Plan.{Plan}
 use Rattle.table.specs.Table.{indexOf}
 use Rattle.scope.specs.Cuts.{cutLink, isCutList}
 use Rattle.losses.specs.Touch.{harm}
-use Rattle.losses.specs.Harmed.{harmed, NotBefore}
+use Rattle.order.specs.Search.{NotBefore}
+use Rattle.losses.specs.Harmed.{harmed}
 use Rattle.losses.specs.Strips.{bared, lost}
 
 -- the weight of a pair, from planes of all slots and links one after another, and the most from a slot on, from lists of all slots

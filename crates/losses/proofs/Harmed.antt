@@ -17,11 +17,13 @@ use Rattle.laws.proofs.Turned.{at-target-stays}
 use Rattle.laws.proofs.Replay.{lengths-kept, positions-follow, depends-on-these-slots}
 use Rattle.sets.specs.Sums.{sumOf, oneIf}
 use Rattle.losses.specs.Touch.{harm, LosesNoMore}
-use Rattle.losses.specs.Harmed.{hers, isHit, stands, harmed, NotBefore, CountsLosses, LosesNoMoreFrom}
+use Rattle.losses.specs.Harmed.{hers, isHit, stands, harmed, CountsLosses, LosesNoMoreFrom}
 use Rattle.sets.proofs.Sums.{sum-le, sum-first, sum-ones, sum-plus, sum-swap, sum-zero}
 use Rattle.losses.proofs.Touch.{touches-count}
 use Rattle.order.proofs.Parts.{pairs-both}
-use Rattle.losses.proofs.Parts.{harm-both, cut-before}
+use Rattle.order.specs.Search.{NotBefore}
+use Rattle.order.proofs.Prefix.{cut-before}
+use Rattle.losses.proofs.Parts.{harm-both}
 
 -- how many are at their targets, as a sum
 arrived-sum : (qs : List Position) → arrived qs ≡ sumOf (λ m. oneIf (atTarget (positionOf m qs))) (length qs)

@@ -1,6 +1,6 @@
 -- Losses counted as a set and from a time on: what a list can still lose at time s are the messages that its pairs hit and that are not at
 -- their targets, and those that later pairs hit. Over any way to hit a message; touching it is one.
-use Prim.Native.Nat.{ℕ, _+_, _-_, _*_, _≤_, _<_}
+use Prim.Native.Nat.{ℕ, _+_, _-_, _*_, _≤_}
 use mathlib.Core.Path.{_≡_}
 use mathlib.Core.Bool.{Bool, true, false, not, _&&_}
 use mathlib.Core.List.{List, _++_}
@@ -10,9 +10,10 @@ use Rattle.scope.specs.Outcome.{gives}
 use Rattle.scope.specs.Plan.{Plan}
 use Rattle.scope.specs.Good.{rules}
 use Rattle.scope.specs.Slot.{Position, atTarget}
-use Rattle.scope.specs.Cuts.{pairs, cutSlot, isCut}
+use Rattle.scope.specs.Cuts.{pairs, isCut}
 use Rattle.scope.specs.Cycle.{orderOf, tableOf, start, positions, arrivals}
 use Rattle.laws.specs.Message.{positionOf}
+use Rattle.order.specs.Search.{NotBefore}
 use Rattle.sets.specs.Sums.{sumOf, oneIf}
 use Rattle.losses.specs.Touch.{harm, overCut, touches}
 
@@ -43,10 +44,6 @@ away plan cuts s kind = sumOf (λ m. oneIf (kind m && not (atTarget (stands plan
 -- of those that the list touches
 abbrev pub harmed : Plan → List ℕ → ℕ → ℕ
 harmed plan cuts s = away plan cuts s (isTouched plan cuts)
-
--- no pair is in a slot before s
-abbrev pub NotBefore : ℕ → List ℕ → ℕ → Type 0
-NotBefore s cuts n = (j : ℕ) → j < n → s ≤ cutSlot cuts j
 
 -- a weight counts losses: a pair weighs at least what it hits, and a message that no pair hits is at its target at the end
 pub record CountsLosses (plan : Plan) (hits : ℕ → ℕ → ℕ → ℕ) (weight : ℕ → ℕ → ℕ) : Type 0 where

@@ -27,9 +27,10 @@ use Rattle.order.specs.Search.{code, Not, NoneOf, NoneIn}
 use Rattle.search.specs.Hunt.{restOf, lossWith, tooLight, passes, Seeks, Fits, noFound, Ready}
 use Rattle.search.specs.Hunt.{AreAway, Leaves}
 use Rattle.search.specs.Hunt.{MayPlayOut, MaySeek, MaySeekIn, Sought, SoughtIn}
+use Rattle.order.proofs.Pairs.{not-before}
 use Rattle.order.proofs.Steps.{after, no-more, none-before, passed, cut-already, no-list-here, first-here, slot-over, joined, first-in-slot}
 use Rattle.order.proofs.Steps.{all-over, first-of-all}
-use Rattle.search.proofs.Weigh.{which, not-before, too-light}
+use Rattle.search.proofs.Weigh.{which, too-light}
 use Rattle.search.proofs.Telling.{tells-none, tells-more}
 use Rattle.search.specs.Risks.{risksOf, MayHit, IsHit, MayWeigh, MayTry}
 use Rattle.picks.proofs.Playing.{may-advance}

@@ -14,11 +14,10 @@ use Rattle.scope.specs.Cuts.{pairs, cutSlot, cutLink, isCutList}
 use Rattle.scope.proofs.Cuts.{slot-below, link-below}
 use Rattle.sets.specs.Sums.{sumOf}
 use Rattle.losses.specs.Touch.{harm}
-use Rattle.losses.specs.Harmed.{NotBefore}
 use Rattle.bound.specs.Bounds.{frontIn, BoundOn}
-use Rattle.order.specs.Search.{Chosen, Not}
+use Rattle.order.specs.Search.{NotBefore, Chosen, Not}
 use Rattle.order.proofs.Parts.{slot-right, link-right, pairs-both}
-use Rattle.order.proofs.Pairs.{slots-from}
+use Rattle.order.proofs.Pairs.{not-before}
 use Rattle.search.specs.declared.Loss.{Loss}
 use Rattle.search.specs.declared.Rest.{Rest}
 use Rattle.search.specs.declared.Risk.{Risk}
@@ -83,15 +82,6 @@ weighed-is rest weights most need s e k x y z w p a b c d =
     let i : 0 * planeSize + (s * mostLinks + e) ≡ s * mostLinks + e = omega arith in
     let j : 1 * planeSize + (s * mostLinks + e) ≡ planeSize + (s * mostLinks + e) = omega arith in
     rw (d, a, b, c, p, i, j) refl
-
--- pairs that are not in a slot before s, since the first is not
-pub not-before : (plan : Plan) → length (plan .links) ≤ mostLinks → (pre x : List ℕ) (d n s : ℕ) → length pre ≡ 2 * d → length x ≡ 2 * n →
-    isCutList plan (pre ++ x) ≡ true → s ≤ cutSlot x 0 → NotBefore s x n
-not-before plan links pre x d n s long rest good first j h =
-    let z : d + 0 ≡ d = omega arith in
-    let from = slots-from plan links (pre ++ x) good d j (omega (arith, pairs-both pre x d long n rest)) in
-    let here : cutSlot (pre ++ x) d ≡ cutSlot x 0 = rw z at (slot-right pre x d long 0) in
-    omega (arith, from, here, slot-right pre x d long j)
 
 module _ (plan : Plan) (Answers : List ℕ → Type 0) (need : ℕ) (marked : List ℕ → ℕ → ℕ) (weight : ℕ → ℕ → ℕ) (top : ℕ → ℕ)
     (bound : BoundOn plan Answers need marked weight top) (links : length (plan .links) ≤ mostLinks) where
