@@ -55,7 +55,8 @@ pub record Climbing (row : List ℕ) (a : Asked) (p : Picked) (n s e : ℕ) (qs 
   pub later : code (p .slot) (p .link) ≤ code s e
 
 module _ (row table touchSets stripSets weights most : List ℕ) (a : Asked) (p : Picked) (n : ℕ)
-    (y : Ready row table touchSets stripSets weights most a) (h : Holding row (a .sizes) p) (some : 0 < n) (room : p .count + n ≤ mostCuts) where
+    (y : Ready row table touchSets stripSets weights most a) (h : Holding row (a .sizes) p) (some : 0 < n)
+    (room : p .count + n ≤ mostCuts) where
   few : length (planOf row .links) ≤ mostLinks
   few = omega (arith, y .play .links, y .play .few)
 
@@ -246,7 +247,8 @@ module _ (row table touchSets stripSets weights most : List ℕ) (a : Asked) (p 
           (first-in-slot (planOf row) (Seeks row a) few (cutsOf p) (p .count) (code (p .slot) (p .link)) (h .chosen) (n - 1) 0 (code s e)
           (take (2 * (p .count + n)) (r .numbers)) (g .leave) first)))
 
-      pub climb-on : (rs : Standing) (then : ℕ) → r .found ≡ false → s < a .sizes .timeout → StandAt row (a .sizes .messages) (cutsOf p) (s + 1) rs →
+      pub climb-on : (rs : Standing) (then : ℕ) → r .found ≡ false → s < a .sizes .timeout →
+          StandAt row (a .sizes .messages) (cutsOf p) (s + 1) rs →
           AreAway (rs .positions) (a .sizes .messages) then → Climbing row a p n (s + 1) 0 rs then
       climb-on rs then t early stand are =
           record {
@@ -305,7 +307,10 @@ module _ (row table touchSets stripSets weights most : List ℕ) (a : Asked) (hi
             (covers-more row touchSets stripSets (cutsOf p) (p .count) s i hits more (m .ready .hit)
             (m .holding .chosen .long) (omega (arith, m .early, m .ready .play .timeout)) (omega (arith, m .ready .play .links)) (m .covers)
             hit);
-        stand = rw is (stand-more row table (a .sizes) p (m .ready .play) (m .holding) s i (omega (arith, m .few, m .some)) (a .sizes .messages) ps (m .stand));
+        stand =
+            rw is
+            (stand-more row table (a .sizes) p (m .ready .play) (m .holding) s i (omega (arith, m .few, m .some)) (a .sizes .messages) ps
+            (m .stand));
         away = m .away;
         few = rw is (omega (arith, m .few, m .some));
       }
@@ -326,7 +331,8 @@ module _ (row table touchSets stripSets weights most : List ℕ) (a : Asked) (hi
         look-some row table touchSets stripSets weights most a p n (m .ready) (m .holding) (m .some) (m .few) s e i rest g r l found t
 
     pub looks-on : (j : ℕ) → r .found ≡ false →
-        j ≡ seek (passes (p .down) weights most (a .need) rest s) (a .sizes .links - (i + 1)) (i + 1) → Looking row weights most a p n s e j rest
+        j ≡ seek (passes (p .down) weights most (a .need) rest s) (a .sizes .links - (i + 1)) (i + 1) →
+        Looking row weights most a p n s e j rest
     looks-on j t next =
         looked row table touchSets stripSets weights most a p n (m .ready) (m .holding) (m .some) (m .few) s e (i + 1) rest j (m .leaves)
         (omega (arith, g .start)) (omega arith)
@@ -363,8 +369,8 @@ module _ (row table touchSets stripSets weights most : List ℕ) (a : Asked) (hi
     module _ (risk : Risk) (rest : Rest) (is : risk ≡ risksOf hits still) (so : (rest ≡ restOf risk (n - 1) most s) × Fits rest) where
       leaves : Leaves row (cutsOf p) most s (n - 1) rest
       leaves =
-          counted row (a .sizes .messages) (cutsOf p) s qs (g .stand) (m .ready .play .messages) still (g .away) hits (m .covers) most (n - 1) risk
-          rest is (so .0) (so .1)
+          counted row (a .sizes .messages) (cutsOf p) s qs (g .stand) (m .ready .play .messages) still (g .away) hits (m .covers) most (n - 1)
+          risk rest is (so .0) (so .1)
 
       pub may-try-all : s < a .sizes .timeout → MayTry weights most (a .need) rest s
       may-try-all early =
@@ -384,7 +390,8 @@ module _ (row table touchSets stripSets weights most : List ℕ) (a : Asked) (hi
           leaves
 
       -- from the first link of the slot that may be tried on, if that is a later one
-      module _ (f j : ℕ) (found : f ≡ seek (passes (p .down) weights most (a .need) rest s) (a .sizes .links - 0) 0) (next : j ≡ e + (f - e)) where
+      module _ (f j : ℕ) (found : f ≡ seek (passes (p .down) weights most (a .need) rest s) (a .sizes .links - 0) 0)
+          (next : j ≡ e + (f - e)) where
         here : Climbing row a p n s j qs still
         here =
             climb-skip row table touchSets stripSets weights most a p n (m .ready) (m .holding) positive (m .few) s e qs still g rest f j leaves
