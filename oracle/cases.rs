@@ -1,23 +1,26 @@
-//! The random cases: questions for the probe, inputs for the two programs, plans and cut
+//! The random cases: questions for the probe, inputs for the programs, plans and cut
 //! lists for the promises. Each case follows from its seed and index alone (and, for a
 //! question, from the names that are left out).
 
 use crate::bad::{any_cuts, any_file, any_row};
+use crate::captures::{any_capture, capture_lines};
 use crate::cuts::Pair;
 use crate::cycle::cycle;
-use crate::lines::highest_k;
+use crate::explain::{by_walking, capture_of_numbers, number_of_lists, Triple};
+use crate::lines::{capture_of_lines, highest_k, EXPLAIN_K};
 use crate::plan::{file_of, row_of, Plan};
 use crate::probe::{hex_of_bytes, spaced};
 use crate::questions::{good_plan_of_file, good_plan_of_row};
 use crate::random::{
-    any_size, few_cuts, good_cuts, good_plan, plan_for_verdict, plan_with_slack, Random, Size,
+    any_size, few_cuts, good_cuts, good_plan, plan_for_capture, plan_for_verdict, plan_with_slack,
+    Random, Size,
 };
 use crate::verdict::every_list;
 
 // ------------------------------------------------------------------- questions
 
-pub const QUESTIONS: [&str; 8] =
-    ["read", "write", "replay", "verdict", "slack", "second", "where", "junk"];
+pub const QUESTIONS: [&str; 9] =
+    ["read", "write", "replay", "verdict", "slack", "second", "where", "explain", "junk"];
 
 /// A room: what is needed, one less, none, or more.
 fn any_room(r: &mut Random, needed: usize) -> usize {
@@ -44,6 +47,7 @@ pub fn question(seed: u64, case: u64, without: &[String]) -> (&'static str, Stri
         (12, "slack"),
         (5, "second"),
         (4, "where"),
+        (11, "explain"),
         (3, "junk"),
     ];
     let allowed: Vec<(usize, &'static str)> =
@@ -55,6 +59,7 @@ pub fn question(seed: u64, case: u64, without: &[String]) -> (&'static str, Stri
         "replay" => replay_question(r),
         "verdict" => verdict_question(r),
         "slack" | "second" | "where" => path_question(r, name),
+        "explain" => explain_question(r),
         _ => junk(r),
     };
     (name, line)
@@ -148,6 +153,49 @@ fn verdict_question(r: &mut Random) -> String {
     };
     let room = any_room(r, 2 * k.min(10));
     format!("verdict {} {} {}{}", k, l, room, spaced(&row))
+}
+
+/// The highest k up to this one for which the answer to a capture is quick to find.
+fn quick_k(plan: &Plan, k: usize, capture: &[Triple]) -> usize {
+    let quick = |k: &usize| {
+        number_of_lists(plan, *k) <= 1600 || by_walking(plan, *k, capture, 12000).is_ok()
+    };
+    (1..=k).rev().find(quick).unwrap_or(0)
+}
+
+fn explain_question(r: &mut Random) -> String {
+    if r.percent(3) {
+        return String::from(*r.pick(&[
+            "explain", "explain 2", "explain 2 4", "explain 2 4 1", "explain 2 4 3 0 0",
+            "explain x 4 0 1", "explain 2 -1 0 1", "explain 2 4 00 1", "explain 02 4 0 1",
+            "explain 65536 4 0 1", "explain 2 65536 0 1", "explain 2 4 65536 1", "explain 2 4 0  1",
+            "explain 2 4 0 1 ", " explain 2 4 0 1", "Explain 2 4 0 1", "explains 2 4 0 1",
+            "explain 2 4 3 0 0 0 1 x", "explain 2 4 3 0 0 65536 1", "explain 2 4 65535 1",
+        ]));
+    }
+    let k = *r.weighted(&[(6, 0), (17, 1), (30, 2), (40, 3), (5, 4), (1, 5), (1, 65535)]);
+    let row = match r.below(20) {
+        0..=15 => row_of(&plan_for_capture(r, if k == 3 { 30 } else { 56 })),
+        16 => row_of(&good_plan(r, Size::Small)),
+        17 => {
+            let size = if r.percent(70) { Size::Middle } else { Size::Large };
+            row_of(&good_plan(r, size))
+        }
+        18 => row_of(&good_plan(r, Size::Tiny)),
+        _ => any_row(r, Size::Tiny, 0),
+    };
+    let (k, triples) = match good_plan_of_row(&row) {
+        Ok(plan) => {
+            let triples = any_capture(r, &plan, 88);
+            match capture_of_numbers(&plan, &triples) {
+                Ok(capture) if k <= 3 => (quick_k(&plan, k, &capture), triples),
+                _ => (k, triples),
+            }
+        }
+        Err(_) => (k, (0..r.below(5)).map(|_| r.below(3) as u16).collect()),
+    };
+    let room = any_room(r, 2 * k.min(10));
+    format!("explain {} {} {}{}{}", k, room, triples.len(), spaced(&triples), spaced(&row))
 }
 
 /// How many second paths a plan has.
@@ -302,6 +350,38 @@ pub fn deep_case(seed: u64, case: u64) -> ProgramCase {
         }
     };
     ProgramCase { file: Some(file), input: Vec::new() }
+}
+
+/// A case for the program `explain`: only plans and captures whose answer is quick to find.
+pub fn explain_case(seed: u64, case: u64) -> ProgramCase {
+    let mut random = Random::of_case(seed ^ 0x6578706C61696E, case);
+    let r = &mut random;
+    if r.percent(2) {
+        let input = if r.percent(50) { Vec::new() } else { b"0 0 0\n".to_vec() };
+        return ProgramCase { file: None, input };
+    }
+    if r.percent(10) {
+        let input = if r.percent(50) { Vec::new() } else { b"0 0 0\nx\n".to_vec() };
+        return ProgramCase { file: Some(any_file(r, Size::Tiny, 0)), input };
+    }
+    loop {
+        let plan = match r.below(20) {
+            0..=13 => plan_for_capture(r, 64),
+            14 | 15 => good_plan(r, Size::Small),
+            16 => good_plan(r, Size::Middle),
+            17 => good_plan(r, Size::Large),
+            18 => good_plan(r, Size::Limit),
+            _ => good_plan(r, Size::Tiny),
+        };
+        let input = capture_lines(r, &plan);
+        let quick = match capture_of_lines(&plan, &input) {
+            Ok(capture) => quick_k(&plan, EXPLAIN_K, &capture) == EXPLAIN_K,
+            Err(_) => true,
+        };
+        if quick {
+            return ProgramCase { file: Some(file_of(&plan)), input };
+        }
+    }
 }
 
 /// Cut lines, good and bad in every way.

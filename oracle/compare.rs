@@ -3,7 +3,9 @@
 
 use crate::lines;
 use crate::probe;
-use crate::cases::{deep_case, question, replay_case, verdict_case, ProgramCase, QUESTIONS};
+use crate::cases::{
+    deep_case, explain_case, question, replay_case, verdict_case, ProgramCase, QUESTIONS,
+};
 use std::io::{BufRead, BufReader, BufWriter, Read, Write};
 use std::path::{Path, PathBuf};
 use std::process::{Child, Command, Stdio};
@@ -149,6 +151,7 @@ fn program_case(name: &str, seed: u64, case: u64) -> ProgramCase {
     match name {
         "verdict" => verdict_case(seed, case),
         "deep" => deep_case(seed, case),
+        "explain" => explain_case(seed, case),
         _ => replay_case(seed, case),
     }
 }
@@ -160,6 +163,7 @@ fn program_text(name: &str, case: &ProgramCase) -> String {
     match name {
         "verdict" => lines::verdict_program(file),
         "deep" => lines::deep_program(file),
+        "explain" => lines::explain_program(file, &case.input),
         _ => lines::replay_program(file, &case.input),
     }
 }

@@ -2,11 +2,17 @@
 //! wrong", each refusal in each way, and a few laws on random plans.
 
 use crate::bad;
+use crate::captures;
 use crate::cases;
 use crate::cuts::{cut_list_of_numbers, Pair};
 use crate::cycle::cycle;
-use crate::lines::{deep_program, replay_program, verdict_program};
+use crate::explain::{by_walking, crossings, number_of_lists, numbers_of_capture, of_every_list};
+use crate::lines::{
+    capture_program, deep_program, explain_program, lines_of_capture, replay_program,
+    verdict_program,
+};
 use crate::losses;
+use crate::named;
 use crate::plan::{file_of, row_of, Link, Message, Place, Plan};
 use crate::probe::{answer, hex_of_bytes, spaced};
 use crate::questions::{self, good_plan_of_row, numbers_of};
@@ -64,6 +70,9 @@ pub fn run() -> (usize, usize) {
     laws(&mut tests);
     generator(&mut tests);
     lost_messages(&mut tests);
+    explained(&mut tests);
+    captures_as_lines(&mut tests);
+    captures_at_random(&mut tests);
     (tests.passed, tests.failed)
 }
 
@@ -1030,4 +1039,205 @@ fn lost_messages(tests: &mut Tests) {
         });
     }
     tests.holds("plans with slack and short cut lists are good", good);
+}
+
+// ----------------------------------------------------------- document 02, [7]: explain
+
+/// A question about the capture that a list gives.
+fn of_list(plan: &Plan, k: usize, list: &[Pair]) -> String {
+    let triples = numbers_of_capture(&crossings(plan, list));
+    format!("explain {} {} {}{} {}", k, 2 * k, triples.len(), spaced(&triples), row(plan))
+}
+
+fn explained(tests: &mut Tests) {
+    // "exactly these crossings (kinds 2 and 3)": B's listing, by hand.
+    let listed = [(0, 1, 0), (1, 1, 1), (1, 2, 0), (2, 2, 1)];
+    tests.holds("B, cut (0,0), crossings", crossings(&b(), &[(0, 0)]) == listed);
+    for k in 1..=3 {
+        tests.asked("B, cut (0,0)", &of_list(&b(), k, &[(0, 0)]), "ok list 1 0 0");
+    }
+    tests.asked("B, cut (0,0), k 0", &of_list(&b(), 0, &[(0, 0)]), "ok unexplained");
+    // The empty list is an answer, also for k 0 and without room.
+    for k in 0..=3 {
+        tests.asked("B, no cuts", &of_list(&b(), k, &[]), "ok list 0");
+        tests.asked("A, no cuts", &of_list(&a(), k, &[]), "ok list 0");
+    }
+    // The empty capture: nobody crosses anything.
+    let nothing = |k: usize| format!("explain {} {} 0 {}", k, 2 * k, B);
+    tests.asked("B, nothing", &nothing(1), "ok unexplained");
+    tests.asked("B, nothing", &nothing(2), "ok list 2 0 0 0 1");
+    tests.asked("B, nothing", &nothing(3), "ok list 2 0 0 0 1");
+    // The first list, not the one that was cut: link 1 of A may be cut before slot 1.
+    tests.asked("A, cut (1,1)", &of_list(&a(), 2, &[(1, 1)]), "ok list 1 0 1");
+    // A cut that nobody meets is not told.
+    tests.asked("A, cut (3,1)", &of_list(&a(), 2, &[(3, 1)]), "ok list 0");
+    // The fewest pairs: (0,0), (0,2) of A leaves nobody to cross, and so does no one pair.
+    tests.asked("A, nothing", &of_list(&a(), 3, &[(0, 0), (0, 2)]), "ok list 2 0 0 0 2");
+    tests.asked("A, nothing", &of_list(&a(), 1, &[(0, 0), (0, 2)]), "ok unexplained");
+    // One crossing removed, added, moved.
+    let of_triples = |triples: &str| {
+        let count = triples.split(' ').count();
+        answer(format!("explain 3 6 {} {} {}", count, triples, B).as_bytes())
+    };
+    tests.equal("B, the last one removed", &of_triples("0 1 0 1 1 1 1 2 0"), "ok list 2 0 0 2 2");
+    tests.equal("B, one added", &of_triples("0 1 0 0 2 1 1 1 1 1 2 0 2 2 1"), "ok unexplained");
+    tests.equal("B, one moved", &of_triples("0 1 0 1 1 1 1 2 0 3 2 1"), "ok unexplained");
+    tests.equal("B, another message", &of_triples("0 1 1 1 1 0 1 2 1 2 2 0"), "ok unexplained");
+    // Refusals: 1 to 10, then 11, 23, 13.
+    let mut bad = b();
+    bad.messages[1].places[0].slot = 0;
+    let refused = [
+        (format!("explain 4 0 1 9 {}", row(&bad)), "refused 9 place 1"),
+        (format!("explain 4 0 1 9 2{}", &B[1..]), "refused 1 place 0"),
+        (String::from("explain 4 0 0"), "refused 2 place 0"),
+        (format!("explain 4 0 1 9 {}", B), "refused 11 place 0"),
+        (format!("explain 65535 0 1 9 {}", B), "refused 11 place 0"),
+        (format!("explain 3 0 1 0 {}", B), "refused 23 place 0"),
+        (format!("explain 3 0 0 {}", B), "refused 13 place 6"),
+        (format!("explain 3 5 0 {}", B), "refused 13 place 6"),
+        (format!("explain 1 1 0 {}", B), "refused 13 place 2"),
+        (format!("explain 0 0 0 {}", B), "ok unexplained"),
+    ];
+    for (question, wanted) in refused {
+        tests.asked("refusals of explain", &question, wanted);
+    }
+    // 23: a triple out of form, range or order. B has t 4, E 3, M 2.
+    let triples = [
+        ("0", 0), ("0 0", 0), ("0 0 0 1", 1), ("0 0 0 1 1", 1), ("4 0 0", 0), ("0 3 0", 0),
+        ("0 0 2", 0), ("65535 0 0", 0), ("0 65535 0", 0), ("0 0 65535", 0), ("0 0 0 0 0 0", 1),
+        ("0 0 1 0 0 0", 1), ("0 1 0 0 0 1", 1), ("1 0 0 0 2 1", 1), ("0 0 0 1 0 0 3 2 2", 2),
+        ("0 0 0 0 0 1 0 1 0 0 0 1 9", 3), ("0 0 0 4 0 0 0", 1),
+    ];
+    for (triples, index) in triples {
+        let wanted = format!("refused 23 place {}", index);
+        tests.equal(&format!("23 ({})", triples), &of_triples(triples), &wanted);
+    }
+    tests.equal("the last ones", &of_triples("0 0 0 0 0 1 0 1 0 1 0 0 3 2 1"), "ok unexplained");
+    // "A success changes only the part it writes"; unexplained writes nothing.
+    let b_row = numbers(B);
+    let mut buffer = vec![7u16; 6];
+    let found = questions::explain(&b_row, 3, &[], &mut buffer);
+    tests.holds("an explaining list", found == Ok(Some(2)) && buffer == [0, 0, 0, 1, 7, 7]);
+    let mut buffer = vec![7u16; 6];
+    let found = questions::explain(&b_row, 3, &[3, 2, 1], &mut buffer);
+    tests.holds("unexplained writes nothing", found == Ok(None) && buffer == [7; 6]);
+    let mut buffer = vec![7u16; 5];
+    let found = questions::explain(&b_row, 3, &[], &mut buffer);
+    tests.holds("a refused one writes nothing", found.is_err() && buffer == [7; 5]);
+    let no_questions = [
+        "explain", "explain 1", "explain 1 2", "explain 1 2 1", "explain 1 2 3 0 0",
+        "explain 1 2 0 x", "explain 01 2 0 1", "explain 1 2 00 1", "explain 65536 2 0 1",
+    ];
+    for line in no_questions {
+        tests.asked("no question", line, "?");
+    }
+}
+
+fn captures_as_lines(tests: &mut Tests) {
+    let listing = replay_program(&B_FILE, b"cut 0 0\n");
+    let capture = "0 1 0\n1 1 1\n1 2 0\n2 2 1\n";
+    tests.equal("B's capture", &capture_program(&B_FILE, b"cut 0 0\n"), capture);
+    tests.equal("a bad list's", &capture_program(&B_FILE, b"cut 0 9\n"), "refused 12 place 0\n");
+    let wanted = format!("0 0\n{}", listing);
+    tests.equal("B's capture explained", &explain_program(&B_FILE, capture.as_bytes()), &wanted);
+    // "an empty line for the empty list".
+    let none = format!("\n{}", replay_program(&B_FILE, b""));
+    tests.equal("B, no cuts", &explain_program(&B_FILE, b"0 0 0\n1 0 1\n"), &none);
+    // "No line at all is the empty capture"; it "uses k 2".
+    let two = format!("0 0 0 1\n{}", replay_program(&B_FILE, b"cut 0 0\ncut 0 1\n"));
+    tests.equal("B, no line at all", &explain_program(&B_FILE, b""), &two);
+    tests.equal("B, unexplained", &explain_program(&B_FILE, b"3 2 1\n"), "unexplained\n");
+    // With a message of its own link each, so many are lost by so many cuts and no fewer.
+    let three = plan(
+        4,
+        2,
+        &[(0, 1), (1, 2), (2, 3)],
+        vec![vec![(0, 0, vec![])], vec![(1, 0, vec![])], vec![(2, 0, vec![])]],
+    );
+    tests.asked("three lost", &format!("explain 3 6 0 {}", row(&three)), "ok list 3 0 0 0 1 0 2");
+    tests.equal("three lost", &explain_program(&file_of(&three), b""), "unexplained\n");
+    // The plan's refusals come before the lines'.
+    tests.equal("no file", &explain_program(&[], b"x"), "refused 2 place 0\n");
+    let mut bad = b();
+    bad.messages[1].places[0].slot = 0;
+    tests.equal("a bad plan", &explain_program(&file_of(&bad), b"x"), "refused 9 place 1\n");
+    // "a triple or line out of form, range or order is 23 with its index".
+    let forms: [&[u8]; 36] = [
+        b"\n", b"1 0 0", b"1 0 0\r\n", b"1 0 0 \n", b" 1 0 0\n", b"1  0 0\n", b"1 0  0\n",
+        b"1\t0 0\n", b"1 0\t0\n", b"01 0 0\n", b"1 00 0\n", b"1 0 00\n", b"1 01 0\n", b"1 0 01\n",
+        b"-1 0 0\n", b"+1 0 0\n", b"1\n", b"1 0\n", b"1 0 \n", b"1 0 0 0\n", b"cut 1 0\n",
+        b"64 0 0\n", b"1 64 0\n", b"1 0 64\n", b"256 0 0\n", b"1 0 256\n", b"1 65536 0\n",
+        b"4294967296 0 0\n", b"1 0 18446744073709551616\n", b"1,0,0\n", b"x\n", b"\xff\xfe\n", b"\0",
+        b"4 0 0\n", b"1 3 0\n", b"1 0 2\n",
+    ];
+    for form in forms {
+        let name = format!("a bad line ({:?})", String::from_utf8_lossy(form));
+        tests.equal(&name, &explain_program(&B_FILE, form), "refused 23 place 0\n");
+        let mut second = b"0 0 0\n".to_vec();
+        second.extend(form);
+        tests.equal(&name, &explain_program(&B_FILE, &second), "refused 23 place 1\n");
+        second.extend(b"0 0 0\n");
+        tests.equal(&name, &explain_program(&B_FILE, &second), "refused 23 place 1\n");
+    }
+    for order in ["0 0 0\n0 0 0\n", "0 0 1\n0 0 0\n", "0 1 0\n0 0 1\n", "1 0 0\n0 1 1\n"] {
+        let name = format!("out of order ({:?})", order);
+        tests.equal(&name, &explain_program(&B_FILE, order.as_bytes()), "refused 23 place 1\n");
+    }
+    // More than a cycle can have crossings; a bad line behind them.
+    let longest = random::limit_plan(&mut Random::of_case(0, 0), true);
+    let all = captures::every_triple(&longest, usize::MAX);
+    tests.holds("131,072 triples", all.len() == 64 * 64 * 32);
+    let mut input = lines_of_capture(&all);
+    let file = file_of(&longest);
+    tests.equal("too many", &explain_program(&file, input.as_bytes()), "unexplained\n");
+    input += "63 63 31\n";
+    let text = explain_program(&file, input.as_bytes());
+    tests.equal("too many and a bad one", &text, "refused 23 place 131072\n");
+}
+
+fn captures_at_random(tests: &mut Tests) {
+    // The walk is the search that tries every list; and there are so many.
+    let (mut walks, mut counts, mut explains) = (true, true, true);
+    for case in 0..400 {
+        let (plan, k, capture) = named::small_question(12, case);
+        let every = of_every_list(&plan, k, &capture);
+        walks = walks && by_walking(&plan, k, &capture, usize::MAX) == Ok(every.clone());
+        if let Some(list) = &every {
+            explains = explains && crossings(&plan, list) == capture;
+        }
+        let mut count = 0;
+        for pairs in 0..=k {
+            every_list(&plan, pairs, &mut |_| {
+                count += 1;
+                true
+            });
+        }
+        counts = counts && count == number_of_lists(&plan, k);
+    }
+    tests.holds("the walk finds what every list says", walks);
+    tests.holds("what is found explains", explains);
+    tests.holds("so many lists", counts);
+    // SEARCH.md's quick way never differs, and its wrong variants do.
+    tests.holds("the quick way", named::all_different(&[named::Way::Right], 13, 1000).is_empty());
+    for (way, name, within) in named::WRONG {
+        for seed in if within > 0 { 1..=2 } else { 1..=0 } {
+            let name = format!("{} differs, seed {}, {} questions", name, seed, within);
+            tests.holds(&name, !named::all_different(&[way], seed, within).is_empty());
+        }
+    }
+    // One that is seldom found. Message 1 is diverted in slot 0 and tries link 2 in slot 1;
+    // message 0 is diverted in slot 1 and takes it. Before the second cut is known, message 0
+    // waits for link 0 and message 1 crosses link 2: both differ, and link 0 is the one cut.
+    let last = plan(
+        4,
+        4,
+        &[(0, 1), (1, 2), (0, 2), (3, 2), (3, 0)],
+        vec![vec![(0, 2, vec![2]), (1, 3, vec![])], vec![(3, 3, vec![4, 2])]],
+    );
+    let cuts = [(0, 3), (1, 0)];
+    tests.asked("the foremost message", &of_list(&last, 3, &cuts), "ok list 2 0 3 1 0");
+    let capture = crossings(&last, &cuts);
+    tests.holds("its capture", capture == [(0, 4, 1), (1, 2, 0), (2, 2, 1)]);
+    let wrong = named::answer(named::Way::LastMessage, &last, 3, &capture);
+    tests.holds("the last message", wrong.is_none());
 }

@@ -1,7 +1,8 @@
-//! Document 01, "Programs": what the two programs read and print.
+//! Document 01, "Programs": what the programs read and print; and document 02, [7].
 
 use crate::cuts::{bad_pair, Pair};
 use crate::cycle::cycle;
+use crate::explain::{bad_triple, crossings, explaining_list, Triple};
 use crate::plan::{refusal, Plan, Refusal};
 use crate::questions::good_plan_of_file;
 use crate::slack::slack_of;
@@ -21,7 +22,13 @@ fn pair_of_line(line: &[u8]) -> Option<Pair> {
 
 /// The number at most 63 that is written so, or nothing.
 fn number_of_digits(digits: &[u8]) -> Option<usize> {
-    (0..=63).find(|number: &usize| number.to_string().as_bytes() == digits)
+    let value = |digit: u8| (digit - b'0') as usize;
+    let number = match digits {
+        [one @ b'0'..=b'9'] => value(*one),
+        [ten @ b'1'..=b'9', one @ b'0'..=b'9'] => 10 * value(*ten) + value(*one),
+        _ => return None,
+    };
+    Some(number).filter(|number| *number <= 63)
 }
 
 /// 12: "a bad cut list"; "index of first bad pair or line". "A line of another form
@@ -54,7 +61,12 @@ pub fn replay_program(file: &[u8], input: &[u8]) -> String {
 fn replay_listing(file: &[u8], input: &[u8]) -> Result<String, Refusal> {
     let plan = good_plan_of_file(file)?;
     let cuts = cut_list_of_lines(&plan, input)?;
-    let cycle = cycle(&plan, &cuts);
+    Ok(listing(&plan, &cuts))
+}
+
+/// The listing of the replay of a plan under a list.
+pub fn listing(plan: &Plan, cuts: &[Pair]) -> String {
+    let cycle = cycle(plan, cuts);
     let mut text = String::from("slot message kind number\n");
     for (slot, events) in cycle.events.iter().enumerate() {
         for (m, event) in events.iter().enumerate() {
@@ -62,7 +74,74 @@ fn replay_listing(file: &[u8], input: &[u8]) -> Result<String, Refusal> {
         }
     }
     text += &format!("arrived {} of {}\n", cycle.arrivals, plan.messages.len());
-    Ok(text)
+    text
+}
+
+/// "lines of three decimals with single spaces", each with a line feed, the decimals as in
+/// the line of a cut. The triple of a line, or nothing for a line "out of form".
+fn triple_of_line(line: &[u8]) -> Option<Triple> {
+    let line = line.strip_suffix(b"\n")?;
+    let mut numbers = line.split(|byte| *byte == b' ').map(number_of_digits);
+    let triple = (numbers.next()??, numbers.next()??, numbers.next()??);
+    if numbers.next().is_some() {
+        return None;
+    }
+    Some(triple)
+}
+
+/// 23: "a triple or line out of form, range or order is 23 with its index". "No line at all
+/// is the empty capture."
+pub fn capture_of_lines(plan: &Plan, input: &[u8]) -> Result<Vec<Triple>, Refusal> {
+    let mut capture = Vec::new();
+    for (index, line) in input.split_inclusive(|byte| *byte == b'\n').enumerate() {
+        match triple_of_line(line) {
+            Some(triple) if !bad_triple(plan, capture.last().copied(), triple) => {
+                capture.push(triple);
+            }
+            _ => return Err(refusal(23, index)),
+        }
+    }
+    Ok(capture)
+}
+
+/// The lines of a capture.
+pub fn lines_of_capture(capture: &[Triple]) -> String {
+    capture.iter().map(|(slot, link, m)| format!("{} {} {}\n", slot, link, m)).collect()
+}
+
+/// What the program `explain` prints for a plan file and a standard input.
+pub fn explain_program(file: &[u8], input: &[u8]) -> String {
+    explained(file, input).unwrap_or_else(refusal_line)
+}
+
+/// "uses k 2".
+pub const EXPLAIN_K: usize = 2;
+
+/// "print its pairs' numbers on one line, then its listing"; "an empty line for the empty
+/// list"; "or `unexplained` alone".
+fn explained(file: &[u8], input: &[u8]) -> Result<String, Refusal> {
+    let plan = good_plan_of_file(file)?;
+    let capture = capture_of_lines(&plan, input)?;
+    Ok(match explaining_list(&plan, EXPLAIN_K, &capture) {
+        None => String::from("unexplained\n"),
+        Some(list) => {
+            let pairs: Vec<String> =
+                list.iter().map(|(slot, link)| format!("{} {}", slot, link)).collect();
+            pairs.join(" ") + "\n" + &listing(&plan, &list)
+        }
+    })
+}
+
+/// The capture of the replay program's cycle, as lines: what `explain` reads. A refusal is
+/// the replay program's.
+pub fn capture_program(file: &[u8], input: &[u8]) -> String {
+    captured(file, input).unwrap_or_else(refusal_line)
+}
+
+fn captured(file: &[u8], input: &[u8]) -> Result<String, Refusal> {
+    let plan = good_plan_of_file(file)?;
+    let cuts = cut_list_of_lines(&plan, input)?;
+    Ok(lines_of_capture(&crossings(&plan, &cuts)))
 }
 
 /// What the verdict program prints for a plan file.

@@ -3,14 +3,17 @@
 
 mod bad;
 mod bench;
+mod captures;
 mod cases;
 mod compare;
 mod cuts;
 mod cycle;
 mod examples;
+mod explain;
 mod good;
 mod lines;
 mod losses;
+mod named;
 mod plan;
 mod probe;
 mod questions;
@@ -28,24 +31,29 @@ oracle: document 01 once more, independent, simple and slow
   oracle replay                     the replay program (plan.bin, cut lines on standard input)
   oracle verdict                    the verdict program (plan.bin)
   oracle deep                       the same up to k 3 whatever the size; for small plans alone
+  oracle explain                    the program explain (plan.bin, a capture on standard input)
+  oracle capture                    the capture of what oracle replay plays, to be explained
   oracle test                       runs the examples of document 01 and more
   oracle generate SEED N            writes N random probe questions
   oracle kinds SEED N               counts event kinds and refusals in these N questions
   oracle compare SEED N -- COMMAND...
                                     asks COMMAND these N questions and compares the answers
   oracle files SEED N DIR [NAME]    makes folders DIR/000001... with plan.bin, stdin and what
-                                    the program NAME (replay, verdict or deep; replay) should print
+                                    the program NAME (replay, verdict, deep or explain; replay) should print
   oracle compare-program NAME SEED N [--cwd-root DIR] -- COMMAND...
                                     runs COMMAND in a folder for each of N cases and compares
-                                    what it prints with the program NAME (replay, verdict or deep)
+                                    what it prints with the program NAME (replay, verdict, deep, explain)
   oracle bench-plan KIND SEED       writes a plan file for benchmarks; KIND is network or chain (64 links,
                                     64 slots, 32 messages), small or wide (as document 000 evaluates)
   oracle theorem SEED N             tries the promises about every replay on N random cases, and
                                     what a list can lose on N more, with 12 lists each
+  oracle different SEED N [NAME [KEEP]]
+                                    on how many of N small captures wrong ways to explain them
+                                    differ; with NAME, such questions, the KEEP shortest (10)
   oracle help                       this
 
 generate, kinds and compare take --without NAME (again and again), where NAME is read,
-write, replay, verdict, slack, second, where or junk: such questions do not come up.
+write, replay, verdict, slack, second, where, explain or junk: such questions do not come up.
 SEED and N are decimals. A case follows from SEED, its index (from 0) and the --without
 names. The exit status is 0 if all is well, 1 for a difference or a failure, 2 for a wrong
 command line.
@@ -110,8 +118,8 @@ fn number_at(words: &Words, at: usize) -> Result<u64, String> {
 
 fn name_at(words: &Words, at: usize) -> Result<String, String> {
     match words.plain.get(at) {
-        Some(name) if ["replay", "verdict", "deep"].contains(&name.as_str()) => Ok(name.clone()),
-        _ => Err(String::from("replay, verdict or deep?")),
+        Some(name) if ["replay", "verdict", "deep", "explain"].contains(&name.as_str()) => Ok(name.clone()),
+        _ => Err(String::from("replay, verdict, deep or explain?")),
     }
 }
 
@@ -125,6 +133,12 @@ fn run(arguments: &[String]) -> Result<bool, String> {
         }
         Some("verdict") => print_all(&lines::verdict_program(&plan_file())),
         Some("deep") => print_all(&lines::deep_program(&plan_file())),
+        Some("explain") => {
+            print_all(&lines::explain_program(&plan_file(), &standard_input()))
+        }
+        Some("capture") => {
+            print_all(&lines::capture_program(&plan_file(), &standard_input()))
+        }
         Some("test") => {
             let (passed, failed) = examples::run();
             println!("{} passed, {} failed", passed, failed);
@@ -160,6 +174,16 @@ fn run(arguments: &[String]) -> Result<bool, String> {
         Some("theorem") => {
             let (seed, number) = (number_at(&words, 1)?, number_at(&words, 2)?);
             theorems(seed, number)
+        }
+        Some("different") => {
+            let (seed, number) = (number_at(&words, 1)?, number_at(&words, 2)?);
+            match words.plain.get(3) {
+                None => count_different(seed, number),
+                Some(name) => {
+                    let keep = if words.plain.len() > 4 { number_at(&words, 4)? } else { 10 };
+                    keep_different(seed, number, name, keep as usize)
+                }
+            }
         }
         Some("bench-plan") => {
             let kind = words.plain.get(1).ok_or(bench::KINDS)?;
@@ -232,9 +256,10 @@ fn generate(seed: u64, number: u64, without: &[String]) -> Result<bool, String> 
 fn kinds(seed: u64, number: u64, without: &[String]) -> Result<bool, String> {
     let mut kinds = [0u64; 8];
     let mut replays_with = [0u64; 8];
-    let mut refusals = vec![vec![0u64; 14]; cases::QUESTIONS.len()];
+    let mut refusals = vec![vec![0u64; 24]; cases::QUESTIONS.len()];
     let mut asked = vec![0u64; cases::QUESTIONS.len()];
     let mut verdicts = vec![0u64; 5]; // resistant, then lists of 0, 1, 2, 3 pairs
+    let mut captures = vec![0u64; 5]; // unexplained, then lists of 0, 1, 2, 3 pairs
     let mut after_slot_0 = 0;
     let mut part_of_length_0 = 0;
     for case in 0..number {
@@ -260,6 +285,9 @@ fn kinds(seed: u64, number: u64, without: &[String]) -> Result<bool, String> {
             if pairs > 0 && words[3..].iter().step_by(2).any(|slot| *slot != "0") {
                 after_slot_0 += 1;
             }
+        } else if name == "explain" && words[0] == "ok" {
+            let pairs = if words[1] == "list" { 1 + words[2].parse::<usize>().unwrap() } else { 0 };
+            captures[pairs] += 1;
         } else if name == "second" && words[1] == "0" {
             part_of_length_0 += 1;
         }
@@ -275,14 +303,15 @@ fn kinds(seed: u64, number: u64, without: &[String]) -> Result<bool, String> {
     }
     println!("(replays in which the kind comes up)");
     print!("refusal   asked");
-    for refusal in 1..14 {
+    let numbers: Vec<usize> = (1..14).chain([23]).collect();
+    for refusal in &numbers {
         print!(" {:5}", refusal);
     }
     println!();
     for (question, name) in cases::QUESTIONS.iter().enumerate() {
         print!("{:8} {:6}", name, asked[question]);
-        for refusal in 1..14 {
-            print!(" {:5}", refusals[question][refusal]);
+        for refusal in &numbers {
+            print!(" {:5}", refusals[question][*refusal]);
         }
         println!();
     }
@@ -290,6 +319,11 @@ fn kinds(seed: u64, number: u64, without: &[String]) -> Result<bool, String> {
         "verdicts: resistant {}, failing lists of 1 pair {}, 2 pairs {}, 3 pairs {}; {} of these \
          lists have a slot above 0",
         verdicts[0], verdicts[2], verdicts[3], verdicts[4], after_slot_0
+    );
+    println!(
+        "captures: unexplained {}, explained by the empty list {}, by lists of 1 pair {}, 2 pairs \
+         {}, 3 pairs {}",
+        captures[0], captures[1], captures[2], captures[3], captures[4]
     );
     println!("second paths of length 0: {}", part_of_length_0);
     Ok(true)
@@ -314,6 +348,40 @@ fn theorems(seed: u64, number: u64) -> Result<bool, String> {
             losses_of(seed, number)
         }
     }
+}
+
+/// How often each wrong way to explain a capture differs, and that the right quick way never
+/// does.
+fn count_different(seed: u64, number: u64) -> Result<bool, String> {
+    let mut ways = vec![named::Way::Right];
+    ways.extend(named::WRONG.map(|(way, _, _)| way));
+    let found = named::all_different(&ways, seed, number);
+    if let Some((_, case, one)) = found.iter().find(|(way, _, _)| *way == named::Way::Right) {
+        println!("FAILED\nthe quick way differs, seed {} case {}: {}", seed, case, one.question);
+        return Ok(false);
+    }
+    println!("{} questions of seed {}: the quick way never differs", number, seed);
+    for (way, name, _) in named::WRONG {
+        let cases: Vec<u64> =
+            found.iter().filter(|(other, _, _)| *other == way).map(|(_, case, _)| *case).collect();
+        println!("{:18} {:7}, the first {:?}", name, cases.len(), cases.first());
+    }
+    Ok(true)
+}
+
+/// The shortest questions on which this wrong way differs; what it answers is said on
+/// standard error.
+fn keep_different(seed: u64, number: u64, name: &str, keep: usize) -> Result<bool, String> {
+    let way = named::WRONG.iter().find(|(_, other, _)| *other == name);
+    let (way, _, _) = way.ok_or(format!("{}: no such way", name))?;
+    let found = named::all_different(&[*way], seed, number);
+    let found = found.into_iter().map(|(_, case, one)| (case, one)).collect();
+    for (case, one) in named::to_keep(found, keep) {
+        let right = probe::answer(one.question.as_bytes());
+        eprintln!("seed {} case {}: {}, not {}", seed, case, right, named::told(&one.wrong));
+        println!("{}", one.question);
+    }
+    Ok(true)
 }
 
 fn losses_of(seed: u64, number: u64) -> Result<bool, String> {

@@ -46,6 +46,19 @@ fn answer_to_a_question(line: &[u8]) -> Option<String> {
             let (k, l, room) = (numbers[0] as usize, numbers[1] as usize, numbers[2] as usize);
             Some(verdict(k, l, room, &numbers[3..]))
         }
+        "explain" => {
+            let numbers = numbers(&words[1..])?;
+            if numbers.len() < 3 {
+                return None;
+            }
+            let (k, room, count) = (numbers[0] as usize, numbers[1] as usize, numbers[2] as usize);
+            let rest = &numbers[3..];
+            if count > rest.len() {
+                return None;
+            }
+            let (triples, row) = rest.split_at(count);
+            Some(explain(k, room, triples, row))
+        }
         "slack" => {
             let numbers = numbers(&words[1..])?;
             if numbers.len() < 2 {
@@ -167,6 +180,19 @@ fn verdict(k: usize, l: usize, room: usize, row: &[u16]) -> String {
         Ok(None) => (String::from("ok resistant"), 0),
         Ok(Some(pairs)) => {
             (format!("ok failing {}{}", pairs, spaced(&buffer[..2 * pairs])), 2 * pairs)
+        }
+    };
+    with_spoilt(text, &buffer, written, NUMBER_BEFORE)
+}
+
+/// "`ok unexplained`, or `ok list PAIRS NUMBERS...`".
+fn explain(k: usize, room: usize, triples: &[u16], row: &[u16]) -> String {
+    let mut buffer = vec![NUMBER_BEFORE; room];
+    let (text, written) = match questions::explain(row, k, triples, &mut buffer) {
+        Err(refusal) => (refused(refusal), 0),
+        Ok(None) => (String::from("ok unexplained"), 0),
+        Ok(Some(pairs)) => {
+            (format!("ok list {}{}", pairs, spaced(&buffer[..2 * pairs])), 2 * pairs)
         }
     };
     with_spoilt(text, &buffer, written, NUMBER_BEFORE)

@@ -5,6 +5,7 @@
 
 use crate::cuts::{cut_list_of_numbers, Pair};
 use crate::cycle;
+use crate::explain::{capture_of_numbers, explaining_list};
 use crate::good::good;
 use crate::plan::{file_of, plan_of_file, plan_of_row, refusal, row_of, Plan, Refusal};
 use crate::slack::slack_of;
@@ -78,6 +79,32 @@ pub fn verdict(
         return Err(refusal(13, 2 * k));
     }
     match failing_list(&plan, k, l) {
+        None => Ok(None),
+        Some(list) => {
+            lend(&numbers_of(&list), buffer)?;
+            Ok(Some(list.len()))
+        }
+    }
+}
+
+/// Document 02, [7]. 11: k above 3; then "23 with its index, after 11; then 13, for 2 x k
+/// numbers", even if unexplained. Gives the pairs of the explaining list, of which there may
+/// be none, or nothing if unexplained.
+pub fn explain(
+    row: &[u16],
+    k: usize,
+    triples: &[u16],
+    buffer: &mut [u16],
+) -> Result<Option<usize>, Refusal> {
+    let plan = good_plan_of_row(row)?;
+    if k > 3 {
+        return Err(refusal(11, 0));
+    }
+    let capture = capture_of_numbers(&plan, triples)?;
+    if buffer.len() < 2 * k {
+        return Err(refusal(13, 2 * k));
+    }
+    match explaining_list(&plan, k, &capture) {
         None => Ok(None),
         Some(list) => {
             lend(&numbers_of(&list), buffer)?;

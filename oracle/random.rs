@@ -160,6 +160,38 @@ pub fn plan_for_verdict(r: &mut Random, product: usize) -> Plan {
     unreachable!()
 }
 
+/// A plan for captures: E x t is at most `product`, and mostly there are messages that share
+/// a link of their second paths, so that they hold each other, and messages that wait.
+pub fn plan_for_capture(r: &mut Random, product: usize) -> Plan {
+    let bounds = Bounds { active: (3, 5), links: (3, 10), messages: (2, 6), timeout: (2, 9) };
+    for tries in 0.. {
+        let plan = if r.percent(25) {
+            let mut plan = ladder_plan(r);
+            let places = plan.messages.iter().flat_map(|message| &message.places);
+            let last = places.map(|place| place.slot).max().unwrap();
+            plan.timeout = (last + r.between(1, 4)).min(64);
+            plan
+        } else {
+            network_plan(r, &bounds)
+        };
+        if plan.links.len() * plan.timeout <= product && (shares_second_paths(&plan) || tries > 40) {
+            return plan;
+        }
+    }
+    unreachable!()
+}
+
+/// Whether two messages have a second path through the same link.
+fn shares_second_paths(plan: &Plan) -> bool {
+    let passes = |message: &Message, link: usize| {
+        let seconds = message.places.iter().filter_map(|place| place.second.as_ref());
+        seconds.flatten().any(|other| *other == link)
+    };
+    (0..plan.links.len()).any(|link| {
+        plan.messages.iter().filter(|message| passes(message, link)).count() > 1
+    })
+}
+
 /// How the paths of a plan are laid.
 #[derive(Clone, Copy, PartialEq)]
 enum Manner {
