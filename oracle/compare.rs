@@ -1,5 +1,5 @@
 //! The comparison of another program with this one: by the probe's lines, and by
-//! what the two programs print.
+//! what the programs print.
 
 use crate::lines;
 use crate::probe;

@@ -50,6 +50,7 @@ oracle: document 01 once more, independent, simple and slow
   oracle different SEED N [NAME [KEEP]]
                                     on how many of N small captures wrong ways to explain them
                                     differ; with NAME, such questions, the KEEP shortest (10)
+  oracle differs NAME               whether this wrong way differs on each question of standard input
   oracle help                       this
 
 generate, kinds and compare take --without NAME (again and again), where NAME is read,
@@ -184,6 +185,10 @@ fn run(arguments: &[String]) -> Result<bool, String> {
                     keep_different(seed, number, name, keep as usize)
                 }
             }
+        }
+        Some("differs") => {
+            let name = words.plain.get(1).ok_or("which way?")?;
+            differs(way_of(name)?)
         }
         Some("bench-plan") => {
             let kind = words.plain.get(1).ok_or(bench::KINDS)?;
@@ -369,12 +374,31 @@ fn count_different(seed: u64, number: u64) -> Result<bool, String> {
     Ok(true)
 }
 
+fn way_of(name: &str) -> Result<named::Way, String> {
+    let found = named::WRONG.iter().find(|(_, other, _)| *other == name);
+    found.map(|(way, _, _)| *way).ok_or(format!("{}: no such way", name))
+}
+
+/// Whether this wrong way differs on every question of standard input.
+fn differs(way: named::Way) -> Result<bool, String> {
+    let (mut passed, mut failed) = (0, 0);
+    for line in std::io::stdin().lock().lines() {
+        let line = line.map_err(|error| error.to_string())?;
+        if named::differs_on(way, &line) == Some(true) {
+            passed += 1;
+        } else {
+            failed += 1;
+            println!("FAILED: does not differ: {}", line);
+        }
+    }
+    println!("{} passed, {} failed", passed, failed);
+    Ok(failed == 0 && passed > 0)
+}
+
 /// The shortest questions on which this wrong way differs; what it answers is said on
 /// standard error.
 fn keep_different(seed: u64, number: u64, name: &str, keep: usize) -> Result<bool, String> {
-    let way = named::WRONG.iter().find(|(_, other, _)| *other == name);
-    let (way, _, _) = way.ok_or(format!("{}: no such way", name))?;
-    let found = named::all_different(&[*way], seed, number);
+    let found = named::all_different(&[way_of(name)?], seed, number);
     let found = found.into_iter().map(|(_, case, one)| (case, one)).collect();
     for (case, one) in named::to_keep(found, keep) {
         let right = probe::answer(one.question.as_bytes());

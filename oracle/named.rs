@@ -9,10 +9,12 @@
 use crate::captures::good_capture;
 use crate::cuts::{is_cut, Pair};
 use crate::cycle::{one_slot, start, Event, Position};
-use crate::explain::{crossings, numbers_of_capture, of_every_list, Triple};
+use crate::explain::{
+    capture_of_numbers, crossings, numbers_of_capture, of_every_list, Triple,
+};
 use crate::plan::{row_of, Plan};
 use crate::probe::spaced;
-use crate::questions::numbers_of;
+use crate::questions::{good_plan_of_row, numbers_of};
 use crate::random::{plan_for_capture, Random};
 use crate::verdict::every_list;
 
@@ -302,6 +304,18 @@ fn different(ways: &[Way], plan: &Plan, k: usize, capture: &[Triple]) -> Vec<(Wa
         }
     }
     found
+}
+
+/// Whether a way differs on a question of the probe about a good plan and a good capture.
+pub fn differs_on(way: Way, question: &str) -> Option<bool> {
+    let numbers: Option<Vec<u16>> =
+        question.strip_prefix("explain ")?.split(' ').map(|word| word.parse().ok()).collect();
+    let numbers = numbers?;
+    let (k, count) = (*numbers.first()? as usize, *numbers.get(2)? as usize);
+    let row = numbers.get(3 + count..)?;
+    let plan = good_plan_of_row(row).ok()?;
+    let capture = capture_of_numbers(&plan, &numbers[3..3 + count]).ok()?;
+    Some(!different(&[way], &plan, k, &capture).is_empty())
 }
 
 /// All questions of a seed on which one of these ways differs: the way, the index, the question.

@@ -1,7 +1,15 @@
 #!/usr/bin/env python3
 """Writes the questions of this folder, NAME.questions, from plans built by hand here. The answers, NAME.answers, come from the
-independent second program (tests/make-expected): oracle probe < NAME.questions > NAME.answers. `longest` is not made here: its plan, a good one of 10,405 numbers and
-7,348 bytes, is from the second program's generator (seed 1)."""
+independent second program (tests/make-expected): oracle probe < NAME.questions > NAME.answers. The captures of `explain` are those of replays that
+the second program played (target/oracle), and what is made of them here. Not made here are:
+
+  longest                its plan, a good one of 10,405 numbers and 7,348 bytes, is from the second program's generator (seed 1)
+  explain-last-message   on which it matters that the foremost message that differs is named, not the last; like the next two found by the second
+                         program (oracle/README.md): target/oracle different 1 100000 last-message 12
+  explain-wait-is-dead   on which it matters that a message that waits names its link: target/oracle different 1 5000 wait-is-dead 12
+  explain-wrong-ways     six for each other wrong way to explain a capture: target/oracle different 1 3000 NAME 6, in the order that it lists them"""
+import subprocess
+
 B = [1, 2, 2, 1, 3, 0, 1, 0, 2, 2, 1, 0, 0, 0, 1, 1, 1, 2, 0, 0, 1, 1, 1, 1, 2]
 A = [1, 3, 3, 1, 3, 0, 1, 1, 3, 0, 2, 2, 3, 1, 0, 0, 1, 1, 2, 3, 1, 1, 0, 1, 2, 0, 1, 1, 0, 1, 3, 1, 0]
 
@@ -252,6 +260,107 @@ def questions_replay():
     return q
 
 
-for name, made in (("replay", questions_replay()), ("slack", questions_slack()), ("verdict", questions_verdict()), ("files", questions_files()), ("rows", questions_rows()), ("rules", questions_rules()), ("second", questions_second()), ("where", questions_where())):
+def crossings(plan, cuts):
+    """The capture of a replay that the second program plays: triples slot, link, message of its crossings, in order."""
+    asked = ("replay 4096 %d %s" % (len(cuts), nums(list(cuts) + plan))).encode()
+    answer = subprocess.run(["../../target/oracle", "probe"], input=asked + b"\n", stdout=subprocess.PIPE, check=True).stdout.decode().split()
+    assert answer[0] == "ok", asked
+    events = [int(x) for x in answer[2:]]
+    messages = plan[3] + 1
+    return sorted((i // messages, events[2 * i + 1], i % messages) for i in range(len(events) // 2) if events[2 * i] in (2, 3))
+
+
+def questions_explain():
+    def ask(plan, k, triples, room=None):
+        numbers = [x for triple in triples for x in triple]
+        return ("explain %d %d %d %s" % (k, 2 * k if room is None else room, len(numbers), nums(numbers + list(plan)))).rstrip()
+
+    def of(plan, k, *cuts):
+        return ask(plan, k, crossings(plan, cuts))
+
+    q = []
+    # captures of no cut, of each single cut, and of a few lists of two, three and four
+    for plan in (A, B):
+        e, t = plan[2] + 1, plan[4] + 1
+        for k in range(4):
+            q.append(of(plan, k))
+        for slot in range(t):
+            for link in range(e):
+                q += [of(plan, 1, slot, link), of(plan, 3, slot, link)]
+        for cuts in ((0, 0, 0, 1), (0, 0, 0, 2), (0, 0, 1, 1), (0, 0, 1, 2), (0, 0, 2, 2), (0, 1, 1, 0), (1, 0, 1, 1), (1, 0, 2, 2), (1, 1, 1, 2), (3, 0, 3, 1), (0, 0, 0, 1, 0, 2), (0, 0, 1, 1, 2, 2), (1, 0, 2, 1, 3, 2)):
+            q += [of(plan, k, *cuts) for k in (1, 2, 3)]
+    q += [of(A, k, 0, 0, 0, 1, 0, 2, 0, 3) for k in range(4)] + [of(A, 3, 0, 0, 1, 1, 1, 2, 2, 3)]
+    # one crossing removed, each of them; one added and one moved, in each way
+    for plan, cuts in ((A, ()), (A, (0, 0)), (B, ()), (B, (0, 0)), (B, (1, 0))):
+        capture = crossings(plan, cuts)
+        for triple in capture:
+            rest = [other for other in capture if other != triple]
+            slot, link, m = triple
+            q.append(ask(plan, 3, rest))
+            for moved in ((slot + 1, link, m), (slot - 1, link, m), (slot, link + 1, m), (slot, link, 1 - m)):
+                q.append(ask(plan, 3, sorted(set(rest + [tuple(max(0, x) for x in moved)]))))
+        for added in ((0, 0, 0), (0, 1, 1), (1, 2, 1), (3, 2, 1)):
+            q.append(ask(plan, 3, sorted(set(capture + [added]))))
+    # the empty capture; every triple there is, more than a cycle can have crossings; another plan's capture
+    for plan in (A, B):
+        e, m, t = plan[2] + 1, plan[3] + 1, plan[4] + 1
+        every = [(i, x, j) for i in range(t) for x in range(e) for j in range(m)]
+        q += [ask(plan, k, []) for k in range(4)]
+        q += [ask(plan, 3, every), ask(plan, 3, every[: t * m]), ask(plan, 3, every[: t * m + 1]), ask(plan, 3, every[-1:])]
+    q += [ask(B, 3, [x for x in crossings(A, ()) if x[1] < 3]), ask(A, 3, crossings(B, (0, 0)))]
+    # two links for one message and slot, two messages on one link and slot
+    q += [ask(B, 3, [(0, 0, 0), (0, 1, 0), (1, 0, 1)]), ask(B, 3, [(0, 0, 0), (0, 0, 1)]), ask(B, 3, [(0, 1, 0), (0, 2, 0)])]
+    # k and rooms
+    for plan in (A, B):
+        for k in range(5):
+            for room in (0, 1, 2 * k - 1, 2 * k, 2 * k + 1, 9):
+                if room >= 0:
+                    q += [ask(plan, k, [], room), ask(plan, k, crossings(plan, (0, 0)), room), ask(plan, k, [(3, 2, 1)], room)]
+        q += [ask(plan, k, [], 6) for k in (5, 256, 65535)]
+    # 23: out of range, out of order, unfinished, at the first, a middle and the last triple
+    capture = crossings(A, (0, 0))
+    for at in (0, 1, len(capture) - 1):
+        slot, link, m = capture[at]
+        for bad in ((4, link, m), (64, link, m), (65535, link, m), (slot, 4, m), (slot, 65535, m), (slot, link, 2), (slot, link, 65535), (4, 4, 2)):
+            q.append(ask(A, 3, capture[:at] + [bad] + capture[at + 1 :]))
+        q += [ask(A, 3, capture[: at + 1] + [capture[at]] + capture[at + 1 :]), ask(A, 3, capture[:at] + [(slot,)]), ask(A, 3, capture[:at] + [(slot, link)])]
+        q.append(ask(A, 3, capture[:at] + [(4, 0, 0)] + capture[at:] + [(0,)]))
+    q += [ask(A, 3, two) for two in ([(1, 0, 0), (0, 1, 1)], [(1, 1, 0), (1, 0, 1)], [(1, 1, 1), (1, 1, 0)], [(3, 3, 1), (3, 3, 1)], [(0, 0, 1), (0, 1, 0)], [(0, 3, 1), (1, 0, 0)])]
+    # the order of the refusals: 1 to 10, 11, 23, 13
+    for row in ([2] + A[1:], [], A[:-1], A[:1] + [64] + A[2:], A + [0], A[:6] + [0] + A[7:], A[:7] + A[5:7] + A[9:], A[:19] + [7] + A[20:]):
+        q += [ask(row, 9, [(9,)], 0), ask(row, 2, [], 4)]
+    net = [(0, 1), (1, 3), (0, 2), (2, 3)]
+    for messages in ([[(0, 0, None), (3, 1, None)]], [[(0, 1, None), (1, 1, None)]], [[(0, 0, None)], [(0, 0, None)]], [[(0, 0, [2]), (1, 1, None)]]):
+        q += [ask(line(4, 4, len(messages), 4, net, messages), k, [(9,)], 0) for k in (2, 4)]  # 7, 8, 9, 10
+    q += [ask(A, 4, [(9,)], 0), ask(A, 3, [(9,)], 0), ask(A, 3, [(0, 0, 0)], 0), ask(A, 3, [(0, 0, 0)], 5)]
+    # one, two and three links that lose one message each; so many lost need so many cuts
+    chain = line(5, 4, 4, 3, [(0, 1), (1, 2), (2, 3), (3, 4)], [[(i, 1, None)] for i in range(4)])
+    for lost in range(5):
+        q += [ask(chain, k, [(1, i, i) for i in range(lost, 4)]) for k in range(4)]
+    # the foremost of two that differ is named (oracle/examples.rs), and messages that wait and are diverted together
+    foremost = line(4, 5, 2, 4, [(0, 1), (1, 2), (0, 2), (3, 2), (3, 0)], [[(0, 2, [2]), (1, 3, None)], [(3, 3, [4, 2])]])
+    q += [of(foremost, k, 0, 3, 1, 0) for k in range(4)]
+    queue = line(3, 3, 4, 6, [(0, 1), (0, 2), (2, 1)], [[(0, i, [1, 2])] for i in (5, 4, 3, 2)])
+    for cuts in ((), (0, 0), (1, 0), (2, 0), (3, 0), (5, 0), (0, 0, 2, 1), (0, 0, 3, 2), (1, 0, 1, 1), (2, 0, 4, 1, 5, 2)):
+        q += [of(queue, k, *cuts) for k in (1, 2, 3)]
+    # the accident of the mission, its mended plan, and the example 4.1
+    accident = [int(x) for x in open("../../samples/accident/row.txt").read().split()]
+    mended = [int(x) for x in open("../../samples/mended/row.txt").read().split()]
+    for plan in (accident, mended):
+        for cuts in ((), (3, 1), (0, 1), (2, 3), (3, 1, 4, 4), (0, 0, 3, 1), (5, 6), (3, 1, 5, 6), (0, 3, 3, 1, 4, 5)):
+            q += [of(plan, k, *cuts) for k in (1, 2, 3)]
+    for cuts in ((1, 4, 3, 2, 4, 1), (0, 6, 2, 1, 3, 5), (0, 7, 1, 0, 1, 1), (1, 1, 2, 0, 2, 6), (0, 3, 2, 0, 2, 8), (2, 1, 3, 4, 3, 5), (0, 3, 1, 4, 3, 1), (0, 1, 2, 0, 3, 7)):
+        q += [of(accident, k, *cuts) for k in (2, 3)]  # three cuts, and no fewer
+    q += [ask(mended, 2, crossings(accident, (3, 1))), ask(accident, 2, crossings(mended, (3, 1)))]
+    # a plan of the largest size: captures that few slots decide, and one of more triples than 2,048
+    large = [int(x) for x in open("../../samples/large/row.txt").read().split()]
+    q += [of(large, 3), of(large, 0), of(large, 1, 0, 0), of(large, 3, 0, 0), of(large, 2, 1, 0, 1, 1), ask(large, 1, []), ask(large, 0, [(63, 63, 31)])]
+    every = [(i, x, j) for i in range(2) for x in range(64) for j in range(32)]
+    q += [ask(large, 3, every[:2048]), ask(large, 3, every[:2049]), ask(large, 3, every[:3000]), ask(large, 3, every[:3000] + [(1, 0, 0)])]
+    q += ["explain", "explain 1", "explain 1 2", "explain 1 2 1", "explain 1 2 3 0 0", "explain 1 2 00 " + nums(B), "explain 1  2 0 " + nums(B), "explain 1 2 0 " + nums(B) + " "]
+    return q
+
+
+for name, made in (("explain", questions_explain()), ("replay", questions_replay()), ("slack", questions_slack()), ("verdict", questions_verdict()), ("files", questions_files()), ("rows", questions_rows()), ("rules", questions_rules()), ("second", questions_second()), ("where", questions_where())):
     with open(name + ".questions", "w") as f:
         f.write("\n".join(made) + "\n")
