@@ -316,7 +316,7 @@ fn act_one(
     met.acts(row, slot, 0, m as u16, m as u16)
 }
 
-// The next position of message m.
+// The next position of message m. It asks what `act_one` asks, and not `act_one` itself: each is called in one place, and inlined there.
 fn move_one(
     p: Position,
     m: usize,
@@ -331,7 +331,19 @@ fn move_one(
         ⌜ MovesIn (now (row .entry)) (isDown (now (down .entry))) (entryAt (now (table .entry)) (slot .0)) (slot .0) p m
         (now (tried .entry)) (now (tried .exit)) r ⌝ }
 {
-    let moved = act_one(p, m, row, table, down, slot, tried);
+    if p.is_home() {
+        return p;
+    }
+    let met = p.meets(row, down);
+    let here = met.position;
+    if here.turned && !met.down {
+        let entry = table::entry(table, slot.0, met.link as usize);
+        let first = first_trier(tried, met.link, m);
+        note(tried, met.link, m);
+        let moved = met.acts(row, slot, entry, first as u16, m as u16);
+        return moved.next;
+    }
+    let moved = met.acts(row, slot, 0, m as u16, m as u16);
     moved.next
 }
 

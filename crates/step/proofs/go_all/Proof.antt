@@ -36,28 +36,39 @@ act-one-requires : tie.Need-act-one-requires Inv-loop μ-loop
 act-one-requires c κs = moving-may (c .before .before .before .loop .inv .moving) (c .before .before .loop-test .taken)
 
 mul-put-event : tie.Need-mul-put-event Inv-loop μ-loop
-mul-put-event c = let t = c .before .before .before .before .before in omega (arith, t .loop-test .taken, t .before .loop .inv .moving .passing .most)
+mul-put-event c =
+    let t = c .before .before .before .before .before in
+    omega (arith, t .loop-test .taken, t .before .loop .inv .moving .passing .most)
 
 put-event-requires : tie.Need-put-event-requires Inv-loop μ-loop
 put-event-requires c κs = let t = c .before .before .before .before .before in telling-room (t .before .loop .inv) (t .loop-test .taken)
 
 mul-qs : tie.Need-mul-qs Inv-loop μ-loop
-mul-qs c = let t = c .before .before .before .before .before .before .before .before .before in omega (arith, t .loop-test .taken, t .before .loop .inv .moving .passing .most)
+mul-qs c =
+    let t = c .before .before .before .before .before .before .before .before .before in
+    omega (arith, t .loop-test .taken, t .before .loop .inv .moving .passing .most)
 
 array-set-from-qs : tie.Need-array-set-from-qs Inv-loop μ-loop
-array-set-from-qs c = let t = c .before .before .before .before .before .before .before .before .before in omega (arith, t .loop-test .taken, t .before .loop .inv .moving .passing .most)
+array-set-from-qs c =
+    let t = c .before .before .before .before .before .before .before .before .before in
+    omega (arith, t .loop-test .taken, t .before .loop .inv .moving .passing .most)
 
 add-m : tie.Need-add-m Inv-loop μ-loop
-add-m c = let t = c .before .before .before .before .before .before .before .before .before in omega (arith, t .loop-test .taken, t .before .loop .inv .moving .passing .most)
+add-m c =
+    let t = c .before .before .before .before .before .before .before .before .before in
+    omega (arith, t .loop-test .taken, t .before .loop .inv .moving .passing .most)
 
 loop-less : tie.Need-loop-less Inv-loop μ-loop
-loop-less c = let t = c .before .before .before .before .before .before .before .before .before in omega (arith, t .loop-test .taken)
+loop-less c =
+    let t = c .before .before .before .before .before .before .before .before .before in
+    omega (arith, t .loop-test .taken)
 
 loop-again : tie.Need-loop-again Inv-loop μ-loop
 loop-again c =
     let o = c .before .before .before .before .before .before in
     let t = o .before .before .before in
-    telling-more (t .before .loop .inv) (o .act-one .result) _ _ (t .loop-test .taken) (o .act-one .ensures) (c .before .before .before .put-event .ensures)
+    let put = c .before .before .before .put-event .ensures in
+    telling-more (t .before .loop .inv) (o .act-one .result) _ _ (t .loop-test .taken) (o .act-one .ensures) put
 
 same-length : tie.Need-same-length Inv-loop μ-loop
 same-length c = telling-length (c .before .loop .inv)

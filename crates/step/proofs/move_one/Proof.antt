@@ -1,12 +1,58 @@
--- `step::move_one` meets its contract: the next position of what it does. Assumes nothing.
-use Rattle.step.proofs.Acting.{moves-by}
+-- `step::move_one` meets its contract: what `act_one` does, and of it the next position. Assumes nothing.
+use mathlib.Core.Path.{_≡_, sym, _∙_, ap}
+use mathlib.Core.Logic.{⊎-elim}
+use native.Mathlib.Omega.{arith}
+use borrow.Author.Tests.{eqb-true, eqb-false, not-true, not-false}
 use borrow.Author.Needs.{needs}
+use Rattle.table.specs.Table.{entryAt}
+use Rattle.step.proofs.Acting.{home-does, home-tried, acts-first, acts-cut, acts-tries, moves-by}
 use Rattle.step.proofs.move_one.Statement.{statement}
 use Rattle.step.proofs.move_one.Tie as tie
 
 returns : tie.Need-returns
-returns c = moves-by (c .before .before .before .act-one .ensures)
+returns c =
+    let a = c .before .before .before .before .before .before .args in
+    let q = a .p in
+    let h : q .left ≡ 0 = eqb-true _ _ (sym (c .before .is-home .ensures) ∙ c .if1 .taken) in
+    let e = home-does _ _ (a .slot .0) (a .tried .now) (a .m) (a .row .now) (q .turned) (q .at) (q .left) h in
+    record {
+      next = record { is = ap (λ x. x .next) e; within = omega arith };
+      noted = home-tried _ (entryAt (a .table .now) (a .slot .0)) (a .slot .0) (a .tried .now) (a .m) (a .row .now) (q .turned) (q .at)
+          (q .left) h;
+    }
+
+meets-requires : tie.Need-meets-requires
+meets-requires c κs =
+    let s = c .before .before .before .before .before .before in
+    let h : s .args .p .left ≡ 0 → ⊥ = eqb-false _ _ (sym (c .before .is-home .ensures) ∙ c .if1 .left) in
+    (omega (arith, h), s .pre .fit)
+
+returns-2 : tie.Need-returns-2
+returns-2 c =
+    let d = c .before in
+    let f = d .before .before .before .before .before in
+    let b = f .before .before .before .before in
+    let t = b .before .before .before .before in
+    let g = t .meets .ensures in
+    let a = t .before .before .before .before .before .before .before .args in
+    moves-by (acts-tries _ _ (a .slot .0) (a .tried .now) (a .m) (a .row .now) (a .p) _ g _ _ _ _ (b .before .before .if2 .taken)
+    (not-true _ (b .if3 .taken))
+    (f .before .before .entry .ensures) (f .first-trier .ensures .0) (d .before .before .before .note .ensures) (d .acts .ensures _ (g .cut)))
+
+returns-3 : tie.Need-returns-3
+returns-3 c =
+    let d = c .before in
+    let t = d .before .before .before in
+    let g = t .meets .ensures in
+    let a = t .before .before .before .before .before .before .before .args in
+    let e = entryAt (a .table .now) (a .slot .0) in
+    let does = d .acts2 .ensures _ (g .cut) in
+    moves-by (⊎-elim (λ w. acts-cut _ e (a .slot .0) (a .tried .now) (a .m) (a .row .now) (a .p) _ g _ _ _ _ (not-false _ (w .2 .left)) does)
+    (λ w. acts-first _ e (a .slot .0) (a .tried .now) (a .m) (a .row .now) (a .p) _ g _ _ _ _ (w .left) does) (d .before .if2 .came))
 
 pub move-one-spec : {M : Type 1} → statement M
 move-one-spec =
-    tie.close (tie.spec (λ c κs. search needs) (λ c. search needs) returns)
+    tie.close
+    (tie.spec (λ c κs. search needs) returns meets-requires (λ c. search needs) (λ c κs. search needs) (λ c κs. search needs)
+    (λ c κs. search needs) (λ c. search needs) (λ c. search needs) (λ c κs. search needs) (λ c. search needs) returns-2 (λ c. search needs)
+    (λ c. search needs) (λ c κs. search needs) returns-3)
