@@ -5,11 +5,11 @@ use mathlib.Core.Path.{_≡_, refl, sym, _∙_, ap}
 use mathlib.Core.Bool.{Bool, true, false, _&&_, _||_, and-eq-true-iff}
 use mathlib.Core.List.{List, [], _∷_, _++_}
 use lib.ListN.{length}
-use lib.Dec.{ltb, leb, eqb}
+use lib.Dec.{ltb, leb}
 use borrow.Author.Tests.{ltb-true, ltb-false, eqb-true, eq-eqb, leb-true}
 use Rattle.scope.specs.Lowest.{lowest, some}
 use Rattle.scope.specs.Plan.{Plan}
-use Rattle.scope.specs.Cuts.{pairs, cutSlot, cutLink, isCut}
+use Rattle.scope.specs.Cuts.{pairs, cutSlot, cutLink, cutsLink, isCut}
 use Rattle.scope.proofs.Lowest.{seek-is}
 use Rattle.laws.specs.Named.{Within}
 use Rattle.laws.proofs.Cuts.{is-cut, cuts-grow}
@@ -32,13 +32,13 @@ module _ (plan : Plan) (pre : List ℕ) (d : ℕ) (long : length pre ≡ 2 * d) 
       Within (isCut plan (pre ++ s ∷ e ∷ [])) (isCut plan others)
   within-more others h last i x cut = by (isCut plan pre i x) refl (sym (cut-more plan pre d s e long i x) ∙ cut)
     where
-      here : (eqb e x && leb s i) ≡ true → isCut plan others i x ≡ true
+      here : (cutsLink plan e x && leb s i) ≡ true → isCut plan others i x ≡ true
       here g =
-          let two = and-eq-true-iff (eqb e x) (leb s i) .0 g in
+          let two = and-eq-true-iff (cutsLink plan e x) (leb s i) .0 g in
           let same : e ≡ x = eqb-true e x (two .0) in
           ap (isCut plan others i) (sym same) ∙ cuts-grow plan others s i e (leb-true s i (two .1)) last
 
-      by : (t : Bool) → isCut plan pre i x ≡ t → (t || (eqb e x && leb s i)) ≡ true → isCut plan others i x ≡ true
+      by : (t : Bool) → isCut plan pre i x ≡ t → (t || (cutsLink plan e x && leb s i)) ≡ true → isCut plan others i x ≡ true
       by true q g = h i x q
       by false q g = here g
 
@@ -67,7 +67,7 @@ module _ (plan : Plan) (cuts others : List ℕ) (n : ℕ) (long : length cuts �
     (apart : Apart cuts (n + 1)) (within : Within (isCut plan cuts) (isCut plan others)) where
   -- pair i's link is cut by this pair of the others
   test : ℕ → ℕ → Bool
-  test i j = eqb (cutLink others j) (cutLink cuts i) && leb (cutSlot others j) (cutSlot cuts i)
+  test i j = cutsLink plan (cutLink others j) (cutLink cuts i) && leb (cutSlot others j) (cutSlot cuts i)
 
   cutter : ℕ → ℕ
   cutter i = lowest (test i) n
@@ -76,8 +76,9 @@ module _ (plan : Plan) (cuts others : List ℕ) (n : ℕ) (long : length cuts �
   unfolding isCut cutter test
   there i l =
       let count : pairs others ≡ n = omega arith in
-      let cut : isCut plan others (cutSlot cuts i) (cutLink cuts i) ≡ true =
-      within (cutSlot cuts i) (cutLink cuts i) (is-cut plan cuts (cutSlot cuts i) (cutLink cuts i) i (omega arith) (eq-eqb (cutLink cuts i) (cutLink cuts i) refl) (omega arith)) in
+      let s = cutSlot cuts i in
+      let e = cutLink cuts i in
+      let cut : isCut plan others s e ≡ true = within s e (is-cut plan cuts s e i (omega arith) (eq-eqb e e refl) (omega arith)) in
       ltb-true (lowest (test i) n) n (ap (some (test i)) (sym count) ∙ cut)
 
   names : (i : ℕ) → i < n + 1 → cutLink others (cutter i) ≡ cutLink cuts i
@@ -85,7 +86,7 @@ module _ (plan : Plan) (cuts others : List ℕ) (n : ℕ) (long : length cuts �
   names i l =
       let is = seek-is (test i) n 0 (omega (arith, there i l)) in
       eqb-true (cutLink others (cutter i)) (cutLink cuts i)
-      (and-eq-true-iff (eqb (cutLink others (cutter i)) (cutLink cuts i)) (leb (cutSlot others (cutter i)) (cutSlot cuts i)) .0 is .0)
+      (and-eq-true-iff (cutsLink plan (cutLink others (cutter i)) (cutLink cuts i)) (leb (cutSlot others (cutter i)) (cutSlot cuts i)) .0 is .0)
 
   pub too-many : ⊥
   too-many =

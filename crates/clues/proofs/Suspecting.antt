@@ -10,7 +10,7 @@ use lib.Dec.{ltb, eqb}
 use borrow.Author.Tests.{ltb-true, ltb-false, eqb-false, eq-eqb}
 use Rattle.scope.specs.Limits.{mostLinks}
 use Rattle.scope.specs.Plan.{planOf}
-use Rattle.scope.specs.Cuts.{cutSlot, cutLink, isCutList, isCut}
+use Rattle.scope.specs.Cuts.{cutSlot, cutLink, cutsLink, isCutList, isCut}
 use Rattle.scope.specs.Cycle.{orderOf}
 use Rattle.scope.proofs.Cuts.{once}
 use Rattle.scope.proofs.Some.{none-below}
@@ -78,7 +78,7 @@ module _ (row table crossed : List ℕ) (z : Sizes) (ps : Standing) (p : Picked)
             let w = cut-pair plan (cutsOf p) j e c in
             let l : w .0 < p .count = omega (arith, w .1, h .chosen .long) in
             is-cut plan (cutsOf p ++ x) j e (w .0) (omega (arith, length-append (cutsOf p) x, h .chosen .long, l))
-            (ap (λ (k : ℕ). eqb k e) (link-left (cutsOf p) x (p .count) (h .chosen .long) (w .0) l) ∙ w .2)
+            (ap (λ (k : ℕ). cutsLink plan k e) (link-left (cutsOf p) x (p .count) (h .chosen .long) (w .0) l) ∙ w .2)
             (omega (arith, slot-left (cutsOf p) x (p .count) (h .chosen .long) (w .0) l, w .3));
         apart = λ x a j k l b same.
             eqb-false (cutLink (cutsOf p) k) (cutLink (cutsOf p) j)

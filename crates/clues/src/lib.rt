@@ -110,9 +110,7 @@ pub fn hopeless(
                 down[x] = 1;
                 left -= 1;
             }
-            Clue::Dead => {
-                return true;
-            }
+            Clue::Dead => return true,
         }
     }
     false

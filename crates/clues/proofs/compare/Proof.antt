@@ -17,7 +17,9 @@ loop-holds : tie.Need-loop-holds Inv-loop μ-loop
 loop-holds c = compared-none _ _ _ _
 
 cast-if1 : tie.Need-cast-if1 Inv-loop μ-loop
-cast-if1 c = omega (arith, c .shared-slice-known5 .given (crossedIndex (c .before .before .before .before .before .before .before .before .args .i) (c .before .before .before .before .before .loop .m)))
+cast-if1 c =
+    let i = c .before .before .before .before .before .before .before .before .args .i in
+    omega (arith, c .shared-slice-known5 .given (crossedIndex i (c .before .before .before .before .before .loop .m)))
 
 returns : tie.Need-returns Inv-loop μ-loop
 returns c =

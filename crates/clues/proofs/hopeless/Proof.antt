@@ -28,51 +28,66 @@ loop-holds : tie.Need-loop-holds Inv-loop μ-loop
 loop-holds c = record { of = λ p m d s. suspects-none-yet _ _ _ _ _ p _ m _ _ d s }
 
 slice-aggregate-look : tie.Need-slice-aggregate-look Inv-loop μ-loop
-slice-aggregate-look c = sym (c .before .before .before .loop .inv .of _ (c .before .before .before .before .before .before .before .before .pre) refl refl .size)
+slice-aggregate-look c =
+    let may = c .before .before .before .before .before .before .before .before .pre in
+    sym (c .before .before .before .loop .inv .of _ may refl refl .size)
 
 look-requires : tie.Need-look-requires Inv-loop μ-loop
 look-requires c κs =
-    may-look _ _ _ _ _ _ _ (c .before .before .before .before .before .before .before .before .pre) _ _ _ _
-    (c .before .before .before .loop .inv .of _ (c .before .before .before .before .before .before .before .before .pre) refl refl) (c .before .if1 .taken)
+    let may = c .before .before .before .before .before .before .before .before .pre in
+    let inv = c .before .before .before .loop .inv .of _ may refl refl in
+    may-look _ _ _ _ _ _ _ may _ _ _ _ inv (c .before .if1 .taken)
 
 loop-again : tie.Need-loop-again Inv-loop μ-loop
 loop-again c =
+    let inv = c .before .before .before .before .before .before .before .loop .inv in
     record {
-      of = λ p m d s. suspects-on _ _ _ _ _ p _ m _ _ _ _ (c .before .before .before .before .before .before .before .loop .inv .of p m d s)
-          (c .before .before .before .before .before .if1 .taken) _ (c .before .before .before .look .ensures) (c .before .enum-told .given .1);
+      of = λ p m d s.
+          suspects-on _ _ _ _ _ p _ m _ _ _ _ (inv .of p m d s) (c .before .before .before .before .before .if1 .taken) _
+          (c .before .before .before .look .ensures) (c .before .enum-told .given .1);
     }
 
 returns : tie.Need-returns Inv-loop μ-loop
-returns c = (
-  λ t. suspects-none _ _ _ _ _ _ _ (c .before .before .before .before .before .before .before .before .before .before .before .before .before .pre) _ _ _ _ (c .before .before .before .before .before .before .before .before .loop .inv .of _ (c .before .before .before .before .before .before .before .before .before .before .before .before .before .pre) refl refl)
-      (c .before .before .before .before .before .before .if1 .taken) _ (c .before .before .before .before .look .ensures) _ (c .before .before .clue .given .1) (c .if2 .taken),
-  λ f. absurd (true≢false f),
-)
+returns c =
+    let may = c .before .before .before .before .before .before .before .before .before .before .before .before .before .pre in
+    let inv = c .before .before .before .before .before .before .before .before .loop .inv .of _ may refl refl in (
+      λ t.
+          suspects-none _ _ _ _ _ _ _ may _ _ _ _ inv (c .before .before .before .before .before .before .if1 .taken) _
+          (c .before .before .before .before .look .ensures) _ (c .before .before .clue .given .1) (c .if2 .taken),
+      λ f. absurd (true≢false f),
+    )
 
 array-write-down : tie.Need-array-write-down Inv-loop μ-loop
 array-write-down c =
-    link-small _ _ _ _ _ _ _ (c .before .before .before .before .before .before .before .before .before .before .before .before .before .pre) _ _ _ _ (c .before .before .before .before .before .before .before .before .loop .inv .of _ (c .before .before .before .before .before .before .before .before .before .before .before .before .before .pre) refl refl)
-    (c .before .before .before .before .before .before .if1 .taken) _ (c .before .before .before .before .look .ensures) _ (c .before .before .clue .given .1)
+    let may = c .before .before .before .before .before .before .before .before .before .before .before .before .before .pre in
+    let inv = c .before .before .before .before .before .before .before .before .loop .inv .of _ may refl refl in
+    link-small _ _ _ _ _ _ _ may _ _ _ _ inv (c .before .before .before .before .before .before .if1 .taken) _
+    (c .before .before .before .before .look .ensures) _ (c .before .before .clue .given .1)
 
 loop-again-2 : tie.Need-loop-again-2 Inv-loop μ-loop
 loop-again-2 c =
+    let inv = c .before .before .before .before .before .before .before .before .loop .inv in
     record {
-      of = λ p m d s. suspects-more _ _ _ _ _ p _ m _ _ _ _ (c .before .before .before .before .before .before .before .before .loop .inv .of p m d s)
-          (c .before .before .before .before .before .before .if1 .taken) _ (c .before .before .before .before .look .ensures) _ (c .before .before .clue .given .1) (omega (arith, c .if2 .left));
+      of = λ p m d s.
+          suspects-more _ _ _ _ _ p _ m _ _ _ _ (inv .of p m d s) (c .before .before .before .before .before .before .if1 .taken) _
+          (c .before .before .before .before .look .ensures) _ (c .before .before .clue .given .1) (omega (arith, c .if2 .left));
     }
 
 returns-2 : tie.Need-returns-2 Inv-loop μ-loop
-returns-2 c = (
-  λ t. suspects-dead _ _ _ _ _ _ _ (c .before .before .before .before .before .before .before .before .before .before .before .pre) _ _ _ _ (c .before .before .before .before .before .before .loop .inv .of _ (c .before .before .before .before .before .before .before .before .before .before .before .pre) refl refl)
-      (c .before .before .before .before .if1 .taken) _ (c .before .before .look .ensures) (c .enum-told2 .given .1),
-  λ f. absurd (true≢false f),
-)
+returns-2 c =
+    let may = c .before .before .before .before .before .before .before .before .before .before .before .pre in
+    let inv = c .before .before .before .before .before .before .loop .inv .of _ may refl refl in (
+      λ t.
+          suspects-dead _ _ _ _ _ _ _ may _ _ _ _ inv (c .before .before .before .before .if1 .taken) _ (c .before .before .look .ensures)
+          (c .enum-told2 .given .1),
+      λ f. absurd (true≢false f),
+    )
 
 returns-3 : tie.Need-returns-3 Inv-loop μ-loop
-returns-3 c = (
-  λ t. absurd (true≢false (sym t)),
-  λ f none. suspects-over _ _ _ _ _ _ _ (c .before .before .before .before .before .before .before .pre) _ _ _ _ (c .before .before .loop .inv .of _ (c .before .before .before .before .before .before .before .pre) refl refl) (c .if1 .left) none,
-)
+returns-3 c =
+    let may = c .before .before .before .before .before .before .before .pre in
+    let inv = c .before .before .loop .inv .of _ may refl refl in
+    (λ t. absurd (true≢false (sym t)), λ f none. suspects-over _ _ _ _ _ _ _ may _ _ _ _ inv (c .if1 .left) none)
 
 pub hopeless-spec : {M : Type 1} → statement M
 hopeless-spec =

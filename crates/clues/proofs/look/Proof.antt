@@ -11,15 +11,22 @@ begins-requires : tie.Need-begins-requires
 begins-requires c κs = omega (arith, c .before .before .before .before .before .pre .early, ap (λ (t : Time). t .0) (c .time .ensures))
 
 told-requires : tie.Need-told-requires
-told-requires c κs = may-tell _ _ _ _ _ (c .before .before .before .before .before .before .before .pre) _ _ (c .before .before .time .ensures) (c .before .begins .ensures)
+told-requires c κs =
+    may-tell _ _ _ _ _ (c .before .before .before .before .before .before .before .pre) _ _ (c .before .before .time .ensures)
+    (c .before .begins .ensures)
 
 compare-requires : tie.Need-compare-requires
-compare-requires c κs = may-compare _ _ _ _ _ (c .before .before .before .before .before .before .before .before .before .before .before .pre) _ _ (c .before .before .before .before .before .before .time .ensures) (c .before .before .before .before .before .begins .ensures) _ _ (search needs) (c .number .ensures)
+compare-requires c κs =
+    may-compare _ _ _ _ _ (c .before .before .before .before .before .before .before .before .before .before .before .pre) _ _
+    (c .before .before .before .before .before .before .time .ensures)
+    (c .before .before .before .before .before .begins .ensures) _ _ (search needs) (c .number .ensures)
 
 returns : tie.Need-returns
 returns c =
-    looked _ _ _ _ _ (c .before .before .before .before .before .before .before .before .before .before .before .before .pre) _ _ (c .before .before .before .before .before .before .before .time .ensures) (c .before .before .before .before .before .before .begins .ensures) _ _ _ _ _
-    (c .before .number .ensures) (c .before .before .before .before .told .ensures) (c .compare .ensures)
+    looked _ _ _ _ _ (c .before .before .before .before .before .before .before .before .before .before .before .before .pre) _ _
+    (c .before .before .before .before .before .before .before .time .ensures)
+    (c .before .before .before .before .before .before .begins .ensures) _ _ _ _ _ (c .before .number .ensures)
+    (c .before .before .before .before .told .ensures) (c .compare .ensures)
 
 pub look-spec : {M : Type 1} → statement M
 look-spec =
