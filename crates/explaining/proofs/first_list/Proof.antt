@@ -19,14 +19,15 @@ loop-holds c =
 
 level-requires : tie.Need-level-requires Inv-loop μ-loop
 level-requires c κs =
-    may-seek _ _ _ _ _ _ (c .before .before .before .before .before .before .pre) _ _ (c .loop-test .taken)
+    may-seek _ _ _ _ _ _ (c .before .before .before .before .before .before .pre) _ _ (omega (arith, c .loop-test .taken))
     (c .before .before .no-pair .ensures)
 
 returns : tie.Need-returns Inv-loop μ-loop
 returns c =
     hunt-some _ _ _ _ _ _ (c .before .before .before .before .before .before .before .before .before .pre) _
     (c .before .before .before .before .loop .inv) _ _ (c .before .before .before .before .before .no-pair .ensures)
-    (c .before .before .level .ensures) _ (c .before .before .before .loop-test .taken) (c .before .if1 .taken) refl refl refl
+    (c .before .before .level .ensures) _ (omega (arith, c .before .before .before .loop-test .taken)) (c .before .if1 .taken) refl refl
+    refl
 
 add-n : tie.Need-add-n Inv-loop μ-loop
 add-n c =
@@ -39,7 +40,8 @@ loop-less c =
 loop-again : tie.Need-loop-again Inv-loop μ-loop
 loop-again c =
     hunt-on _ _ _ _ _ _ (c .before .before .before .before .before .before .before .before .pre) _ (c .before .before .before .loop .inv) _
-    _ (c .before .before .before .before .no-pair .ensures) (c .before .level .ensures) (c .before .before .loop-test .taken) (c .if1 .left)
+    _ (c .before .before .before .before .no-pair .ensures) (c .before .level .ensures) (omega (arith, c .before .before .loop-test .taken))
+    (c .if1 .left)
 
 returns-2 : tie.Need-returns-2 Inv-loop μ-loop
 returns-2 c =
