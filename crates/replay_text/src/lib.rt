@@ -15,7 +15,7 @@ use scope::limits;
 const MOST_CUTS: usize = 2 * (limits::LINKS + 1);
 
 // The listing of the replay of a good row under a cut list: how many bytes, or refusal 12, 13.
-fn played(row: &[u16], cuts: &[u16], out: &mut [u8]) -> Answer
+pub fn played(row: &[u16], cuts: &[u16], out: &mut [u8]) -> Answer
     requires { ⌜ GoodRow (now row) ⌝ }
     ensures { λ r. ⌜ Says (replay (now (row .entry)) (now (cuts .entry)) longestEvents) (textOf (now (row .entry)) (now (cuts .entry)))
         (now (out .entry)) (now (out .exit)) r ⌝ }

@@ -1,0 +1,4 @@
+pub mod Line
+pub mod Behind
+pub mod Captures
+pub mod Theorems
