@@ -7,6 +7,8 @@ use mathlib.Core.List.{List}
 use native.Mathlib.Omega.{arith}
 use lib.ListN.{length, getD, take, length-append}
 use Rattle.scope.specs.declared.Answer.{Answer}
+use Rattle.scope.specs.declared.Answer.the-variants.{Gives, Refused}
+use Rattle.scope.specs.declared.Refusal.{Refusal}
 use Rattle.scope.specs.Limits.{longestRow, planRoom}
 use Rattle.scope.specs.Outcome.{Outcome, gives, refused}
 use Rattle.scope.specs.File.{rowOf}
@@ -22,12 +24,13 @@ use Rattle.rows.proofs.Parts.{link-count, timeout-is}
 use Rattle.plan.specs.Answers.{GoodRow}
 use Rattle.plan.proofs.Reading.{read-good}
 use Rattle.listing.proofs.Lines.{refused-size}
-use Rattle.listing.proofs.Printing.{says-only}
+use Rattle.listing.specs.Prints.{Prints, Front}
+use Rattle.listing.proofs.Printing.{says-only, printed, printed-given, printed-refused}
 use Rattle.listing.proofs.Fronts.{from-front}
 use Rattle.explain_text.specs.Room.{explainRoom}
-use Rattle.explain_text.specs.Text.{listLine, CaptureText, mayTell, SaysOne}
+use Rattle.explain_text.specs.Text.{listLine, CaptureText, mayTell, SaysOne, PrintedOne}
 use Rattle.explain_text.proofs.Line.{line-small}
-use Rattle.explain_text.proofs.Captures.{lines-are, listing-short, text-back, text-refused, back-refused}
+use Rattle.explain_text.proofs.Captures.{lines-are, listing-short, text-is, text-back, text-refused, back-refused}
 
 -- a capture has one explanation
 unexplained-or-explained : (plan : Plan) (k : ℕ) (capture cuts : List ℕ) → Unexplained plan k capture → isCutList plan cuts ≡ true → pairs cuts ≤ k →
@@ -124,3 +127,51 @@ front-text file input text x =
     from-front (λ (f : List ℕ). ExplainText f input text) file
     (λ r front whole given.
     text-refused file input r whole text (back-refused (take planRoom file) input r front text x)) x
+
+-- What a program prints that lends as many bytes: the text, or the line of its refusal.
+module _ (row capture entry exit : List ℕ) (good : GoodRow row) (a : Answer) (room : length entry ≡ explainRoom)
+    (s : SaysOne (mayExplain row 2 capture 4) (CaptureText row capture) entry exit a) where
+  fits : length (s .text) ≤ length entry
+  fits = omega (arith, captured-room row capture (s .text) good (s .kind))
+
+  line : (r : Refusal) → mayExplain row 2 capture 4 ≡ refused r → s .text ≡ refusedLine r
+  unfolding CaptureText
+  line r e = rw e at (s .kind)
+
+  pub prints-given : (n : ℕ) → a ≡ Gives n → PrintedOne (CaptureText row capture) entry exit (Gives n)
+  prints-given n e = record {
+    text = s .text;
+    kind = s .kind;
+    printed = printed-given (s .text) entry fits (mayExplain row 2 capture 4) (s .text) refl a (s .says) n e;
+  }
+
+  pub prints-refused : (r : Refusal) → a ≡ Refused r → {exit′ : List ℕ} {b : Answer} → Prints (refusedLine r) exit exit′ b →
+      PrintedOne (CaptureText row capture) entry exit′ b
+  prints-refused r e p = record {
+    text = s .text;
+    kind = s .kind;
+    printed = printed-refused (s .text) entry fits (mayExplain row 2 capture 4) (s .text) refl a (s .says) r e line p;
+  }
+
+-- for the whole of a plan file of which a front was read
+module _ (plan : List ℕ) (p : ℕ) (file : List ℕ) (l : length plan ≡ planRoom) (f : Front plan p file) where
+  front-is : take p plan ≡ take planRoom file
+  front-is = f ∙ ap (λ (n : ℕ). take n file) l
+
+  whole-text : (input text : List ℕ) → ExplainText (take p plan) input text → ExplainText file input text
+  whole-text input text x = front-text file input text (rw front-is at x)
+
+  pub shown-refused : (r : Refusal) → readFile (take p plan) longestRow ≡ refused r → {entry exit : List ℕ} {a : Answer} →
+      length entry ≡ explainRoom → Prints (refusedLine r) entry exit a → (input : List ℕ) → PrintedOne (ExplainText file input) entry exit a
+  shown-refused r e {entry} room q input = record {
+    text = refusedLine r;
+    kind = whole-text input (refusedLine r) (text-refused (take p plan) input r e (refusedLine r) refl);
+    printed = printed (refusedLine r) entry (omega (arith, refused-size r)) q;
+  }
+
+  pub shown-given : (n : ℕ) → readFile (take p plan) longestRow ≡ gives n → (row : List ℕ) → row ≡ rowOf (take p plan) →
+      {entry exit : List ℕ} {a : Answer} (input : List ℕ) → PrintedOne (CaptureText row (captureOf input)) entry exit a →
+      PrintedOne (ExplainText file input) entry exit a
+  shown-given n e row is input q =
+      let k : CaptureText (rowOf (take p plan)) (captureOf input) (q .text) = rw is at (q .kind) in
+      record { text = q .text; kind = whole-text input (q .text) (text-is (take p plan) input n e (q .text) k); printed = q .printed }
