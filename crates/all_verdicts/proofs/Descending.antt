@@ -6,8 +6,8 @@ use mathlib.Core.Path.{_≡_, refl, sym, _∙_, ap, ap₂}
 use mathlib.Core.Logic.{inl, inr}
 use mathlib.Core.Bool.{Bool, true, false}
 use mathlib.Core.List.{List, [], _∷_, _++_}
-use lib.ListN.{length, getD, take, drop, replicate, length-drop, length-replicate, getD-replicate, take-append-drop}
-use lib.Seq.{length-take-le, getD-drop, ext-getD}
+use lib.ListN.{length, take, drop, replicate}
+use lib.Seq.{length-take-le}
 use lib.Dec.{ltb}
 use borrow.Author.Tests.{ltb-true, ltb-false}
 use Rattle.scope.specs.Limits.{mostMessages}
@@ -19,19 +19,11 @@ use Rattle.search.specs.declared.Hunted.{Hunted}
 use Rattle.search.specs.Hunt.{Hunts}
 use Rattle.order.specs.Search.{NoneOf}
 use Rattle.search.proofs.Answer.{all-leave}
+use Rattle.picks.proofs.Picking.{zeros-after}
 use Rattle.verdicts.specs.declared.Opening.{Opening}
 use Rattle.verdicts.specs.Lent.{MayAskOn}
 use Rattle.all_verdicts.specs.Answers.{answerSize, failing, Says, seven, needed, AllSaid}
 use Rattle.all_verdicts.specs.Filling.{Filled, MayFill, MayPut}
-
--- a list that ends in zeros
-zeros-after : (l : List ℕ) (size n : ℕ) → length l ≡ size → ((i : ℕ) → n ≤ i → getD l i 0 ≡ 0) → l ≡ take n l ++ replicate (size - n) 0
-zeros-after l size n long past =
-    sym (take-append-drop n l) ∙
-    ap (λ (z : List ℕ). take n l ++ z)
-    (ext-getD 0 (drop n l) (replicate (size - n) 0) (omega (arith, length-drop n l, length-replicate {A = ℕ} (size - n) 0))
-    (λ i h. getD-drop n l i 0 ∙ past (n + i) (omega arith) ∙
-    sym (getD-replicate {A = ℕ} (size - n) i 0 0 (omega (arith, length-drop n l)))))
 
 lower-first : (plan : Plan) (k l m : ℕ) (cuts : List ℕ) → FirstFailing plan k l cuts → arrivals plan cuts < m → m ≤ l →
     FirstFailing plan k m cuts

@@ -1,16 +1,14 @@
 -- The loop over the number of pairs.
 use Prim.Native.Nat.{ℕ, _+_, _*_, _≤_, _<_}
 use native.Mathlib.Omega.{arith}
-use mathlib.Core.Path.{_≡_, refl, sym, _∙_, ap, subst}
-use mathlib.Core.Bool.{Bool, true, false, true≢false}
+use mathlib.Core.Path.{_≡_, sym, _∙_, ap}
+use mathlib.Core.Bool.{true, false, true≢false}
 use mathlib.Core.List.{List, []}
 use lib.ListN.{length, take}
-use lib.Dec.{ltb}
-use borrow.Author.Tests.{ltb-true, ltb-false}
 use Rattle.scope.specs.Plan.{planOf}
 use Rattle.step.specs.declared.Standing.{Standing}
 use Rattle.order.specs.Search.{NoneOf}
-use Rattle.order.proofs.First.{no-list, first-list}
+use Rattle.order.proofs.First.{no-list, first-list, none-more}
 use Rattle.picks.specs.declared.Sizes.{Sizes}
 use Rattle.picks.specs.declared.Picked.{Picked}
 use Rattle.picks.specs.Picks.{noPair}
@@ -77,10 +75,5 @@ module _ (row table crossed : List ℕ) (z : Sizes) (ps : Standing) (k : ℕ) (m
         }
 
     pub hunt-on : n ≤ k → r .found ≡ false → Hunting row crossed k (n + 1)
-    hunt-on few t = record { within = omega arith; none = λ i l. by i l (ltb i n) refl }
-      where
-        by : (i : ℕ) → i < n + 1 → (b : Bool) → ltb i n ≡ b → NoneOf (planOf row) (Matches (planOf row) crossed) [] i
-        by i l true e = g .none i (ltb-true i n e)
-        by i l false e =
-            let at : n ≡ i = omega (arith, ltb-false i n e) in
-            subst (λ (j : ℕ). NoneOf (planOf row) (Matches (planOf row) crossed) [] j) at (told .none t)
+    hunt-on few t =
+        record { within = omega arith; none = none-more (planOf row) (Matches (planOf row) crossed) n (g .none) (told .none t) }

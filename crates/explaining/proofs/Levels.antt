@@ -13,13 +13,13 @@ use Rattle.cuts.specs.Down.{isDown}
 use Rattle.scope.specs.Plan.{planOf}
 use Rattle.scope.proofs.Lowest.{seek-from, seek-most, seek-is, seek-low}
 use Rattle.step.specs.declared.Standing.{Standing}
-use Rattle.order.specs.Search.{code, Not, NoneOf, NoneIn}
-use Rattle.order.proofs.Steps.{after, no-more, none-before, passed, cut-already, no-list-here, first-here, slot-over, joined, first-in-slot}
+use Rattle.order.specs.Search.{code, NoneOf, NoneIn}
+use Rattle.order.proofs.Steps.{after, no-more, none-before, passed, passed-one, first-here, slot-over, joined, first-in-slot}
 use Rattle.order.proofs.Steps.{itself, all-over, first-of-all}
 use Rattle.picks.specs.declared.Sizes.{Sizes}
 use Rattle.picks.specs.declared.Picked.{Picked}
 use Rattle.picks.specs.Picks.{cutsOf, withPair, StandAt}
-use Rattle.picks.proofs.Picking.{cut-by, cuts-more, holding-more, stand-more}
+use Rattle.picks.proofs.Picking.{down-already, cuts-more, holding-more, stand-more}
 use Rattle.clues.specs.declared.Seen.{Seen}
 use Rattle.clues.specs.Clues.{MatchesIn, MatchesBefore, Matches, MayLook, Shows, Looked}
 use Rattle.clues.proofs.Lists.{matches-more}
@@ -69,9 +69,8 @@ module _ (row table crossed : List ℕ) (z : Sizes) (ps : Standing) (p : Picked)
             passed (planOf row) (Matches (planOf row) crossed) few (cutsOf p) (p .count) start (m .holding .chosen) (n - 1) (code s e) s i r
             (omega (arith, m .play .few)) none
             (λ b u w x long.
-            let who = cut-by row z p (m .holding) b (not-false (isDown (p .down) b) (seek-low test (z .links - i) i b u (omega arith))) in
-            cut-already (planOf row) (Matches (planOf row) crossed) few (cutsOf p) (p .count) start (m .holding .chosen) (n - 1) s b (who .0)
-            (omega (arith, who .1, m .holding .chosen .long)) (who .2) x);
+            down-already row z p (m .holding) b (Matches (planOf row) crossed) few (n - 1) s
+            (not-false (isDown (p .down) b) (seek-low test (z .links - i) i b u (omega arith))) x);
         start = omega arith;
         within = omega arith;
         whole = λ l. not-true (isDown (p .down) r) (rw found (seek-is test (z .links - i) i (omega arith)));
@@ -119,13 +118,8 @@ module _ (row table crossed : List ℕ) (z : Sizes) (ps : Standing) (p : Picked)
       looks-on j t next =
           let all : NoneOf (planOf row) (Matches (planOf row) crossed) (cutsOf p ++ s ∷ i ∷ []) (n - 1) = rw more at (told .none t) in
           looked (i + 1) j (omega (arith, g .start)) (omega arith)
-          (passed (planOf row) (Matches (planOf row) crossed) few (cutsOf p) (p .count) start (m .holding .chosen) (n - 1) (code s e) s i
-          (i + 1) (omega (arith, m .play .few)) (g .none)
-          (λ b u w.
-          let at : i ≡ b = omega arith in
-          subst
-          (λ (j : ℕ). (x : List ℕ) → length x ≡ 2 * (n - 1) → Not (planOf row) (Matches (planOf row) crossed) (cutsOf p ++ s ∷ j ∷ x)) at
-          (no-list-here (planOf row) (Matches (planOf row) crossed) few (cutsOf p) (p .count) start (m .holding .chosen) (n - 1) s i all)))
+          (passed-one (planOf row) (Matches (planOf row) crossed) few (cutsOf p) (p .count) start (m .holding .chosen) (n - 1) (code s e) s i
+          (omega (arith, m .play .few)) (g .none) all)
           next
 
     pub looks-done : (r : Found) → z .links ≤ i → r ≡ noFound → SoughtIn row crossed p n s e r

@@ -98,6 +98,15 @@ module _ (plan : Plan) (Answers : List ℕ → Type 0) (small : length (plan .li
       let same : (pre ++ s ∷ e ∷ []) ++ x ≡ pre ++ s ∷ e ∷ x = append-assoc pre (s ∷ e ∷ []) x in
       subst (Not plan Answers) same (all x long)
 
+  -- so one link more of a slot is passed over
+  pub passed-one : (lo s e : ℕ) → e < mostLinks → NoneIn plan Answers pre k lo (code s e) → NoneOf plan Answers (pre ++ s ∷ e ∷ []) k →
+      NoneIn plan Answers pre k lo (code s (e + 1))
+  passed-one lo s e h before all =
+      passed lo s e (e + 1) (omega arith) before
+      (λ b low high.
+      let at : e ≡ b = omega arith in
+      subst (λ (j : ℕ). (x : List ℕ) → length x ≡ 2 * k → Not plan Answers (pre ++ s ∷ j ∷ x)) at (no-list-here s e all))
+
   pub first-here : (lo s e : ℕ) (r : List ℕ) → e < mostLinks → lo ≤ code s e → NoneIn plan Answers pre k lo (code s e) →
       FirstOf plan Answers (pre ++ s ∷ e ∷ []) k r → FirstFrom plan Answers pre k lo r
   first-here lo s e r he h before f =

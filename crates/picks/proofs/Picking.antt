@@ -1,11 +1,11 @@
 -- No pair, and one pair more: the numbers, what is down and where the messages stand.
-use Prim.Native.Nat.{ℕ, zero, suc, _+_, _*_, _≤_, _<_}
+use Prim.Native.Nat.{ℕ, zero, suc, _+_, _-_, _*_, _≤_, _<_}
 use native.Mathlib.Omega.{arith}
-use mathlib.Core.Path.{_≡_, refl, sym, _∙_, ap}
+use mathlib.Core.Path.{_≡_, refl, sym, _∙_, ap, ap₂}
 use mathlib.Core.Bool.{Bool, true, false, _&&_, true≢false, or-false, or-true}
 use mathlib.Core.List.{List, [], _∷_, _++_, append-assoc}
-use lib.ListN.{length, getD, take, set, replicate, length-set}
-use lib.Seq.{take-suc-set, getD-set-same, getD-set-other}
+use lib.ListN.{length, getD, take, drop, set, replicate, length-set, length-drop, length-replicate, getD-replicate, take-append-drop}
+use lib.Seq.{take-suc-set, getD-set-same, getD-set-other, getD-drop, ext-getD}
 use lib.Dec.{ltb, leb, eqb}
 use borrow.Author.Tests.{eqb-true, eqb-false, eq-eqb, le-leb}
 use Rattle.scope.specs.Limits.{mostCuts, mostLinks}
@@ -14,11 +14,11 @@ use Rattle.scope.specs.Cuts.{pairs, cutSlot, cutLink, cutsLink, isCut}
 use Rattle.laws.proofs.Cuts.{cut-pair, no-cuts}
 use Rattle.cuts.specs.Down.{isDown}
 use Rattle.step.specs.declared.Standing.{Standing}
-use Rattle.order.specs.Search.{code}
+use Rattle.order.specs.Search.{code, Not}
 use Rattle.scope.proofs.Some.{some-one}
 use Rattle.order.proofs.Pairs.{is-cut-list}
 use Rattle.order.proofs.Prefix.{cut-more, same-before}
-use Rattle.order.proofs.Steps.{picked}
+use Rattle.order.proofs.Steps.{picked, cut-already}
 use Rattle.picks.specs.declared.Sizes.{Sizes}
 use Rattle.picks.specs.declared.Picked.{Picked}
 use Rattle.picks.specs.Picks.{cutsOf, withPair, noPair, Playable, Holding, StandAt}
@@ -46,6 +46,20 @@ holding-none row z =
       down = λ i e h. ap (ltb 0) (noughts mostLinks e) ∙ sym (ap (λ (f : ℕ → ℕ → Bool). f i e) (no-cuts (planOf row)));
       past = λ i h. noughts (2 * mostCuts) i;
     }
+
+-- a list that ends in zeros, and two of them
+pub zeros-after : (l : List ℕ) (size n : ℕ) → length l ≡ size → ((i : ℕ) → n ≤ i → getD l i 0 ≡ 0) → l ≡ take n l ++ replicate (size - n) 0
+zeros-after l size n long past =
+    sym (take-append-drop n l) ∙
+    ap (λ (z : List ℕ). take n l ++ z)
+    (ext-getD 0 (drop n l) (replicate (size - n) 0) (omega (arith, length-drop n l, length-replicate {A = ℕ} (size - n) 0))
+    (λ i h. getD-drop n l i 0 ∙ past (n + i) (omega arith) ∙
+    sym (getD-replicate {A = ℕ} (size - n) i 0 0 (omega (arith, length-drop n l)))))
+
+pub same-numbers : (l m : List ℕ) (size n k : ℕ) → length l ≡ size → length m ≡ size → n ≡ k → take n l ≡ take k m →
+    ((i : ℕ) → n ≤ i → getD l i 0 ≡ 0) → ((i : ℕ) → k ≤ i → getD m i 0 ≡ 0) → l ≡ m
+same-numbers l m size n k a b e same p q =
+    zeros-after l size n a p ∙ ap₂ (λ (z : List ℕ) (j : ℕ). z ++ replicate (size - j) 0) same e ∙ sym (zeros-after m size k b q)
 
 -- two numbers more at the front of a list
 take-two : (l : List ℕ) (d s e : ℕ) → 2 * d + 1 < length l →
@@ -76,6 +90,14 @@ module _ (row : List ℕ) (z : Sizes) (p : Picked) (h : Holding row z p) (e : �
   cut-by down =
       let c = cut-pair (planOf row) (cutsOf p) (p .slot) e (sym (h .down (p .slot) e (omega arith)) ∙ down) in
       (c .0, c .1, eqb-true (cutLink (cutsOf p) (c .0)) e (c .2))
+
+  -- so no list goes on with it
+  pub down-already : (Answers : List ℕ → Type 0) → length (planOf row .links) ≤ mostLinks → (k s : ℕ) → isDown (p .down) e ≡ true →
+      (x : List ℕ) → Not (planOf row) Answers (cutsOf p ++ s ∷ e ∷ x)
+  down-already Answers few k s down x =
+      let who = cut-by down in
+      cut-already (planOf row) Answers few (cutsOf p) (p .count) (code (p .slot) (p .link)) (h .chosen) k s e (who .0)
+      (omega (arith, who .1, h .chosen .long)) (who .2) x
 
 -- what is down with one pair more
 pub down-more : (plan : Plan) (pre down : List ℕ) (d s e i x : ℕ) → length pre ≡ 2 * d → e < length down → s ≤ i →

@@ -28,13 +28,13 @@ use Rattle.search.specs.Hunt.{restOf, lossWith, tooLight, passes, Seeks,
 use Rattle.search.specs.Hunt.{AreAway, Leaves}
 use Rattle.search.specs.Hunt.{MayPlayOut, MaySeek, MaySeekIn, Sought, SoughtIn}
 use Rattle.order.proofs.Pairs.{not-before}
-use Rattle.order.proofs.Steps.{after, no-more, none-before, passed, cut-already, no-list-here, first-here, slot-over, joined, first-in-slot}
+use Rattle.order.proofs.Steps.{after, no-more, none-before, passed, passed-one, first-here, slot-over, joined, first-in-slot}
 use Rattle.order.proofs.Steps.{all-over, first-of-all}
 use Rattle.search.proofs.Weigh.{which, too-light}
 use Rattle.search.proofs.Telling.{tells-none, tells-more}
 use Rattle.search.specs.Risks.{risksOf, MayHit, IsHit, MayWeigh, MayTry}
 use Rattle.picks.proofs.Playing.{may-advance}
-use Rattle.picks.proofs.Picking.{cut-by, cuts-more, holding-more, stand-more}
+use Rattle.picks.proofs.Picking.{down-already, cuts-more, holding-more, stand-more}
 use Rattle.search.proofs.Risks.{covers-more, counted, may-weigh}
 
 -- in slot s, from link e on: the lists whose next pair is there and before link i leave enough
@@ -112,10 +112,7 @@ module _ (row table touchSets stripSets weights most : List ℕ) (a : Asked) (p 
       by : (t : Bool) → isDown (p .down) b ≡ t → (not t && not (tooLight (a .need) (lossWith rest weights most (a .need) s b))) ≡ false →
           Not (planOf row) (Seeks row a) (cutsOf p ++ i ∷ b ∷ x)
       by false e light = all-light s i b rest v later l (not-false (tooLight (a .need) (lossWith rest weights most (a .need) s b)) light) x long
-      by true e light =
-          let who = cut-by row (a .sizes) p h b e in
-          cut-already (planOf row) (Seeks row a) few (cutsOf p) (p .count) (code (p .slot) (p .link)) (h .chosen) (n - 1) i b (who .0)
-          (omega (arith, who .1, h .chosen .long)) (who .2) x
+      by true e light = down-already row (a .sizes) p h b (Seeks row a) few (n - 1) i e x
 
   -- links of slot s passed over, none of which may be tried
   skipped : (lo s e f : ℕ) (rest : Rest) → Leaves row (cutsOf p) most s (n - 1) rest → f ≤ a .sizes .links →
@@ -165,12 +162,8 @@ module _ (row table touchSets stripSets weights most : List ℕ) (a : Asked) (p 
       pub look-on : r .found ≡ false → NoneIn (planOf row) (Seeks row a) (cutsOf p) (n - 1) (code s e) (code s (i + 1))
       look-on t =
           let all : NoneOf (planOf row) (Seeks row a) (cutsOf p ++ s ∷ i ∷ []) (n - 1) = rw more at (f .none t .1) in
-          passed (planOf row) (Seeks row a) few (cutsOf p) (p .count) (code (p .slot) (p .link)) (h .chosen) (n - 1) (code s e) s i (i + 1)
-          (omega (arith, y .play .few)) (g .leave)
-          (λ b u z.
-          let at : i ≡ b = omega arith in
-          subst (λ (j : ℕ). (x : List ℕ) → length x ≡ 2 * (n - 1) → Not (planOf row) (Seeks row a) (cutsOf p ++ s ∷ j ∷ x)) at
-          (no-list-here (planOf row) (Seeks row a) few (cutsOf p) (p .count) (code (p .slot) (p .link)) (h .chosen) (n - 1) s i all))
+          passed-one (planOf row) (Seeks row a) few (cutsOf p) (p .count) (code (p .slot) (p .link)) (h .chosen) (n - 1) (code s e) s i
+          (omega (arith, y .play .few)) (g .leave) all
 
     pub look-done : (r : Found) → a .sizes .links ≤ i → r ≡ noFound → SoughtIn row a p n s e r
     look-done r l is =

@@ -4,14 +4,14 @@ use native.Mathlib.Omega.{arith}
 use mathlib.Core.Path.{_≡_, refl, sym, _∙_, ap}
 use mathlib.Core.Bool.{Bool, true, false}
 use mathlib.Core.List.{List}
-use lib.ListN.{length, getD, take}
-use lib.Seq.{length-take-le, getD-take, ext-getD}
+use lib.ListN.{length, take}
+use lib.Seq.{length-take-le}
 use Rattle.scope.specs.Limits.{mostCuts}
 use Rattle.scope.specs.Plan.{planOf}
 use Rattle.scope.specs.Cycle.{arrivals}
 use Rattle.scope.specs.Verdict.{Fails}
 use Rattle.scope.proofs.Order.{first-once, resistant-or-failing}
-use Rattle.order.proofs.Steps.{split}
+use Rattle.picks.proofs.Picking.{same-numbers}
 use Rattle.search.specs.declared.Hunted.{Hunted}
 use Rattle.search.specs.Hunt.{Hunts}
 use Rattle.search.proofs.Answer.{all-leave}
@@ -41,12 +41,8 @@ module _ (row : List ℕ) (l k : ℕ) (few : k ≤ mostCuts) where
 
         numbers : g .numbers ≡ h .numbers
         numbers =
-            ext-getD 0 (g .numbers) (h .numbers) (x .long ∙ sym (y .long))
-            (λ i l. split i (2 * g .pairs)
-            (λ less.
-            sym (getD-take (2 * g .pairs) (g .numbers) i 0 less) ∙ ap (λ (z : List ℕ). getD z i 0) same ∙
-            getD-take (2 * h .pairs) (h .numbers) i 0 (omega (arith, count)))
-            (λ more. x .past s i more ∙ sym (y .past t i (omega (arith, count)))))
+            same-numbers (g .numbers) (h .numbers) (2 * mostCuts) (2 * g .pairs) (2 * h .pairs) (x .long) (y .long)
+            (ap (λ (n : ℕ). 2 * n) count) same (x .past s) (y .past t)
 
     pub hunts-once : g ≡ h
     hunts-once = by (g .found) refl (h .found) refl
