@@ -5,7 +5,8 @@ use Rattle.nuthatchet.proofs.nuthatchet_explain.Statement.{statement}
 use Rattle.nuthatchet.proofs.nuthatchet_explain.Tie as tie
 
 tell-explanation-requires : tie.Need-tell-explanation-requires
-tell-explanation-requires c κs = few _ _ _ _ _ (c .before .before .explain .result) (c .before .before .explain .ensures)
+tell-explanation-requires c κs =
+    few _ _ _ _ _ (c .before .before .before .before .explain .result) (c .before .before .before .before .explain .ensures)
 
 returns : tie.Need-returns
 returns c = tells-explanation _ _ _ _ _ (c .before .before .before .before .before .explain .result)
