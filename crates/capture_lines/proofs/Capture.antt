@@ -28,7 +28,8 @@ unfolding sizeFrom
 size-within begun a [] = omega arith
 size-within begun a (b ∷ s) = by (goesOn 63 begun a b) (size-within true (a * 10 + (b - 48)) s)
   where
-    by : (t : Bool) → sizeFrom 63 true (a * 10 + (b - 48)) s ≤ length s → cond t (suc (sizeFrom 63 true (a * 10 + (b - 48)) s)) 0 ≤ suc (length s)
+    by : (t : Bool) → sizeFrom 63 true (a * 10 + (b - 48)) s ≤ length s →
+        cond t (suc (sizeFrom 63 true (a * 10 + (b - 48)) s)) 0 ≤ suc (length s)
     by true h = omega arith
     by false h = omega arith
 

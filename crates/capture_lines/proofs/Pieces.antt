@@ -89,7 +89,8 @@ module _ (plan : Plan) where
             decided f (λ rest. subst (λ (x : List ℕ). Keeps plan x crossed (r .kept)) (sym (shift before piece rest)) (k (piece ++ rest)))
 
     module _ (b : ℕ) (good : r .kept .bad ≡ false) where
-      pub feeds-on : (next : Line) → stepOf (r .line) b ≡ On next → Feeds plan (b ∷ []) crossed r crossed (record { kept = r .kept; line = next })
+      pub feeds-on : (next : Line) → stepOf (r .line) b ≡ On next →
+          Feeds plan (b ∷ []) crossed r crossed (record { kept = r .kept; line = next })
       feeds-on next e = record {
         size = size;
         fits = fits;
@@ -97,9 +98,11 @@ module _ (plan : Plan) where
         reads = by;
       }
         where
-          by : (before : List ℕ) → Reads plan before crossed r → Reads plan (before ++ (b ∷ [])) crossed (record { kept = r .kept; line = next })
+          by : (before : List ℕ) → Reads plan before crossed r →
+              Reads plan (before ++ (b ∷ [])) crossed (record { kept = r .kept; line = next })
           by before (going {seen} f w k is) =
-              going f w k (λ rest. shift before (b ∷ []) rest ∙ is (b ∷ rest) ∙ ap (λ (x : List ℕ). seen ++ x) (rest-on (r .line) b rest next e))
+              going f w k (λ rest. shift before (b ∷ []) rest ∙ is (b ∷ rest) ∙ ap (λ (x : List ℕ). seen ++ x) (rest-on (r .line) b rest next
+              e))
           by before (decided f k) = absurd (true≢false (sym f ∙ good))
 
       pub feeds-out : (k′ : Kept) (l : Line) → stepOf (r .line) b ≡ Out → Ends (r .kept) k′ → l ≡ fresh →
@@ -156,7 +159,8 @@ module _ (plan : Plan) where
         line = q .line;
         reads =
             λ before known.
-            subst (λ (x : List ℕ). Reads plan x c₂ r₂) (append-assoc before (take i piece) (b ∷ []) ∙ ap (λ (x : List ℕ). before ++ x) (sym more))
+            subst (λ (x : List ℕ). Reads plan x c₂ r₂) (append-assoc before (take i piece) (b ∷ []) ∙ ap (λ (x : List ℕ). before ++ x) (sym
+            more))
             (q .reads (before ++ take i piece) (p .reads before known));
       }
 
@@ -166,7 +170,8 @@ module _ (plan : Plan) where
 
 -- the text has ended
 module _ (r : Reading) where
-  at-end : (plan : Plan) (text crossed : List ℕ) (k : Kept) → Keeps plan (captureOf (text ++ [])) crossed k → Keeps plan (captureOf text) crossed k
+  at-end : (plan : Plan) (text crossed : List ℕ) (k : Kept) → Keeps plan (captureOf (text ++ [])) crossed k →
+      Keeps plan (captureOf text) crossed k
   at-end plan text crossed k h = rw (append-nil text) at h
 
   pub ends-bad : r .kept .bad ≡ true → Finishes r (r .kept)

@@ -12,8 +12,8 @@ use Rattle.capture.specs.declared.Kept.{Kept}
 use Rattle.capture_lines.specs.Rest.{restOf, SmallLine}
 use Rattle.capture_lines.specs.declared.Reading.{Reading}
 
--- `before` is read. Either its whole lines have the triples `seen`, of which none is bad, and whatever follows adds its numbers to them from the
--- midst of the line on; or a bad triple or a line out of form is there, and whatever follows, so much is kept of the whole text's capture
+-- `before` is read. Either its whole lines have the triples `seen`, of which none is bad, and whatever follows adds its numbers to them from
+-- the midst of the line on; or a bad triple or a line out of form is there, and whatever follows, so much is kept of the whole text's capture
 pub data Reads (plan : Plan) (before crossed : List ℕ) (r : Reading) : Type 0 where
   going : {seen : List ℕ} → r .kept .bad ≡ false → Whole seen → Keeps plan seen crossed (r .kept) →
       ((rest : List ℕ) → captureOf (before ++ rest) ≡ seen ++ restOf (r .line) rest) → Reads plan before crossed r

@@ -40,8 +40,8 @@ lineAfter (On l) = l
 lineAfter End = fresh
 lineAfter Out = fresh
 
--- what the byte adds to the capture before what the rest adds: a triple, where a line has ended, or, where one is out of form, a lone number and
--- nothing behind it
+-- what the byte adds to the capture before what the rest adds: a triple, where a line has ended, or, where one is out of form, a lone number
+-- and nothing behind it
 abbrev pub adds : Step → Line → List ℕ → List ℕ
 adds (On l) line more = more
 adds End line more = line .older ∷ line .newer ∷ line .value ∷ more

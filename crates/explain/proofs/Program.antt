@@ -37,7 +37,8 @@ going-first plan row crossed r may size s = record {
   line = s .line;
 }
 
-module _ (plan : Plan) (crossed : List ℕ) (r : Reading) (turn n : ℕ) (piece : List ℕ) (g : Going plan crossed r turn) (p : Piece n turn piece) where
+module _ (plan : Plan) (crossed : List ℕ) (r : Reading) (turn n : ℕ) (piece : List ℕ) (g : Going plan crossed r turn) (p : Piece n turn
+    piece) where
   -- a piece more
   pub going-more : (crossed′ : List ℕ) (r′ : Reading) → Feeds plan (take n piece) crossed r crossed′ r′ → Going plan crossed′ r′ (turn + 1)
   going-more crossed′ r′ f = record {
@@ -57,7 +58,8 @@ module _ (plan : Plan) (crossed : List ℕ) (r : Reading) (turn n : ℕ) (piece 
     keeps = f plan (g .before) crossed (g .reads);
   }
 
-pub whole-of : (plan : Plan) (crossed : List ℕ) (i : Input) (kept : Kept) → i ≡ Whole kept → Captured plan crossed i → WholeInput plan crossed kept
+pub whole-of : (plan : Plan) (crossed : List ℕ) (i : Input) (kept : Kept) → i ≡ Whole kept → Captured plan crossed i →
+    WholeInput plan crossed kept
 whole-of plan crossed i kept e h = rw e at h
 
 -- what is shown of a plan file, by what is shown of its row

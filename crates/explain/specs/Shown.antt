@@ -54,7 +54,8 @@ abbrev pub ShowsRow : List ℕ → List ℕ → List ℕ → Told → Type 0
 ShowsRow row entry exit (Text r) = ShownOf row entry exit r
 ShowsRow row entry exit Nothing = Unit {0}
 
--- what is shown of a plan file: a text that stands for every input, where the plan is refused before any is read, or that of the input that came
+-- what is shown of a plan file: a text that stands for every input, where the plan is refused before any is read, or that of the input that
+-- came
 pub data Shown (file entry exit : List ℕ) (r : Answer) : Type 0 where
   any : ((input : List ℕ) → PrintedOne (ExplainText file input) entry exit r) → Shown file entry exit r
   of : (input : List ℕ) → CameWhole input → PrintedOne (ExplainText file input) entry exit r → Shown file entry exit r

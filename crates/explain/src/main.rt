@@ -1,6 +1,6 @@
-// The program `explain`: reads `plan.bin` and a capture from standard input, and prints which cuts explain it: the first list of at most two pairs
-// on one line, then the listing of its replay, or `unexplained`, or a refusal. The capture is read piece by piece to its end, however long it is,
-// and of it are kept what `capture_lines` keeps, and the table of its crossings.
+// The program `explain`: reads `plan.bin` and a capture from standard input, and prints which cuts explain it: the first list of at most two
+// pairs on one line, then the listing of its replay, or `unexplained`, or a refusal. The capture is read piece by piece to its end, however
+// long it is, and of it are kept what `capture_lines` keeps, and the table of its crossings.
 ghost use Prim.Native.Nat.{ℕ};
 ghost use mathlib.Core.Path.{_≡_};
 ghost use mathlib.Core.List.{List};
@@ -86,7 +86,8 @@ fn of_row(row: &[u16], out: &mut [u8]) -> Told
     }
 }
 
-// What is printed for what was read, the first p bytes of a buffer and all of standard input: the text of the whole plan file, however long it is.
+// What is printed for what was read, the first p bytes of a buffer and all of standard input: the text of the whole plan file, however long
+// it is.
 fn text(plan: &[u8], p: usize, out: &mut [u8]) -> Told
     requires { ⌜ Came planFile p (now plan) × (length (now plan) ≡ planRoom) × (length (now out) ≡ explainRoom) ⌝ }
     ensures { λ r. ⌜ Shows (now (plan .entry)) p (now (out .entry)) (now (out .exit)) r ⌝ }

@@ -67,7 +67,8 @@ module _ (front back entry tail : List ℕ) (from : ℕ) (a : Answer) (some : 0 
       let sz = size in
       let total : n + m ≡ length (front ++ back) = omega arith in
       let rest : drop (length back) (drop from entry) ≡ drop (length (front ++ back)) entry =
-      drop-drop (length back) from entry ∙ ap (λ (x : ℕ). drop x entry) (let z : from + length back ≡ length (front ++ back) = omega arith in z) in
+      drop-drop (length back) from entry ∙ ap (λ (x : ℕ). drop x entry) (let z : from + length back ≡ length (front ++ back) = omega arith in
+      z) in
       record {
         answer = ap gives total ∙ sym (rw (le-leb (length (front ++ back)) (length entry) (omega arith)));
         buffer =

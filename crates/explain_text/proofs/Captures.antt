@@ -130,7 +130,8 @@ module _ (row capture : List ℕ) where
   unfolding CaptureText
   kind-refused r e = rw e refl
 
-  kind-given : (n : ℕ) (text : List ℕ) → mayExplain row 2 capture 4 ≡ gives n → Explanation (planOf row) 2 capture text → CaptureText row capture text
+  kind-given : (n : ℕ) (text : List ℕ) → mayExplain row 2 capture 4 ≡ gives n → Explanation (planOf row) 2 capture text →
+      CaptureText row capture text
   unfolding CaptureText
   kind-given n text e x = rw e x
 

@@ -1,5 +1,5 @@
--- What holds of the text that the program `explain` prints: a plan file and an input have one text, it has room in 36,954 bytes, the first 7,349
--- bytes of the file decide it, and a call of `explain_text` allows one outcome.
+-- What holds of the text that the program `explain` prints: a plan file and an input have one text, it has room in 36,954 bytes, the first
+-- 7,349 bytes of the file decide it, and a call of `explain_text` allows one outcome.
 use Prim.Native.Nat.{ℕ, zero, suc, _+_, _*_, _/_, _%_, _≤_, _<_}
 use mathlib.Core.Path.{_≡_, refl, sym, _∙_, ap}
 use mathlib.Core.Bool.{true}
@@ -33,7 +33,8 @@ use Rattle.explain_text.proofs.Line.{line-small}
 use Rattle.explain_text.proofs.Captures.{lines-are, listing-short, text-is, text-back, text-refused, back-refused}
 
 -- a capture has one explanation
-unexplained-or-explained : (plan : Plan) (k : ℕ) (capture cuts : List ℕ) → Unexplained plan k capture → isCutList plan cuts ≡ true → pairs cuts ≤ k →
+unexplained-or-explained : (plan : Plan) (k : ℕ) (capture cuts : List ℕ) → Unexplained plan k capture → isCutList plan cuts ≡ true →
+    pairs cuts ≤ k →
     Explains plan capture cuts → ⊥
 unfolding Unexplained
 unexplained-or-explained plan k capture cuts none good few does = none cuts good few does

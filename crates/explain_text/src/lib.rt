@@ -1,8 +1,8 @@
-// What the program `explain` prints: document 02, [7]. `explain_text` takes the bytes of a plan file and of an input, lays the whole text into a
-// lent buffer, and refuses a bad plan, a bad capture and a buffer that is too short. A program that reads its input piece by piece hands what
-// `capture_lines` has kept of it to `say`. It leans on `plan` (the row of a file), `capture_lines` (the capture of an input), `explanations`
-// (the answer) and `replay_text` (the listing). That a plan file and an input have one text, that its first bytes decide a plan file, and that
-// every text has room in `ROOM` bytes, is in proofs/Theorems.
+// What the program `explain` prints: document 02, [7]. `explain_text` takes the bytes of a plan file and of an input, lays the whole text
+// into a lent buffer, and refuses a bad plan, a bad capture and a buffer that is too short. A program that reads its input piece by piece
+// hands what `capture_lines` has kept of it to `say`. It leans on `plan` (the row of a file), `capture_lines` (the capture of an input),
+// `explanations` (the answer) and `replay_text` (the listing). That a plan file and an input have one text, that its first bytes decide a
+// plan file, and that every text has room in `ROOM` bytes, is in proofs/Theorems.
 ghost use Prim.Native.Nat.{ℕ, _-_, _≤_};
 ghost use mathlib.Core.Path.{_≡_};
 ghost use mathlib.Core.List.{List};

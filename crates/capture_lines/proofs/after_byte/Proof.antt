@@ -11,7 +11,8 @@ use Rattle.capture_lines.proofs.after_byte.Tie as tie
 with-digit-requires : tie.Need-with-digit-requires
 with-digit-requires c κs =
     let s = c .before .before in
-    let low = goes-digit 63 (s .args .line .begun) (s .args .line .value) (s .args .b) (sym (c .before .goes-on .ensures) ∙ c .if1 .taken) .low in
+    let low = goes-digit 63 (s .args .line .begun) (s .args .line .value) (s .args .b) (sym (c .before .goes-on .ensures) ∙ c .if1 .taken)
+    .low in
     (search needs, low, search needs)
 
 returns : tie.Need-returns
@@ -24,7 +25,8 @@ returns-2 : tie.Need-returns-2
 returns-2 c =
     let known = c .before .before .before in
     let s = known .before in
-    sym (step-none (s .args .line) (s .args .b) (sym (known .goes-on .ensures) ∙ c .before .before .if1 .left) (not-true (s .args .line .begun) (c .if2 .taken)))
+    sym (step-none (s .args .line) (s .args .b) (sym (known .goes-on .ensures) ∙ c .before .before .if1 .left) (not-true (s .args .line
+    .begun) (c .if2 .taken)))
 
 returns-3 : tie.Need-returns-3
 returns-3 c =
@@ -32,7 +34,8 @@ returns-3 c =
     let known = tests .before .before .before in
     let s = known .before in
     ap On (c .with-number .ensures) ∙
-    sym (step-space (s .args .line) (s .args .b) (sym (known .goes-on .ensures) ∙ tests .before .before .if1 .left) (not-false (s .args .line .begun) (tests .if2 .left))
+    sym (step-space (s .args .line) (s .args .b) (sym (known .goes-on .ensures) ∙ tests .before .before .if1 .left) (not-false (s .args .line
+    .begun) (tests .if2 .left))
     (c .before .before .if3 .taken) (c .before .if4 .taken))
 
 returns-4 : tie.Need-returns-4
@@ -40,7 +43,8 @@ returns-4 c =
     let tests = c .before .before .before in
     let known = tests .before .before .before in
     let s = known .before in
-    sym (step-no-space (s .args .line) (s .args .b) (sym (known .goes-on .ensures) ∙ tests .before .before .if1 .left) (not-false (s .args .line .begun) (tests .if2 .left))
+    sym (step-no-space (s .args .line) (s .args .b) (sym (known .goes-on .ensures) ∙ tests .before .before .if1 .left) (not-false (s .args
+    .line .begun) (tests .if2 .left))
     (c .before .if3 .taken) (c .if4 .left))
 
 returns-5 : tie.Need-returns-5
@@ -48,7 +52,8 @@ returns-5 c =
     let tests = c .before .before .before in
     let known = tests .before .before .before in
     let s = known .before in
-    sym (step-feed (s .args .line) (s .args .b) (sym (known .goes-on .ensures) ∙ tests .before .before .if1 .left) (not-false (s .args .line .begun) (tests .if2 .left))
+    sym (step-feed (s .args .line) (s .args .b) (sym (known .goes-on .ensures) ∙ tests .before .before .if1 .left) (not-false (s .args .line
+    .begun) (tests .if2 .left))
     (c .before .if3 .left) (c .if5 .taken))
 
 returns-6 : tie.Need-returns-6
@@ -56,7 +61,8 @@ returns-6 c =
     let tests = c .before .before .before in
     let known = tests .before .before .before in
     let s = known .before in
-    sym (step-no-feed (s .args .line) (s .args .b) (sym (known .goes-on .ensures) ∙ tests .before .before .if1 .left) (not-false (s .args .line .begun) (tests .if2 .left))
+    sym (step-no-feed (s .args .line) (s .args .b) (sym (known .goes-on .ensures) ∙ tests .before .before .if1 .left) (not-false (s .args
+    .line .begun) (tests .if2 .left))
     (c .before .if3 .left) (c .if5 .left))
 
 pub after-byte-spec : {M : Type 1} → statement M

@@ -47,4 +47,5 @@ returns c = feeds-all _ _ (c .before .loop .i) _ _ _ _ (c .loop-test .left) (c .
 pub feed-spec : {M : Type 1} → statement M
 feed-spec =
     tie.close
-    (tie.spec Inv-loop μ-loop loop-holds byte-requires read-byte-requires (λ c. search needs) (λ c. search needs) loop-again same-length returns)
+    (tie.spec Inv-loop μ-loop loop-holds byte-requires read-byte-requires (λ c. search needs) (λ c. search needs) loop-again same-length
+    returns)

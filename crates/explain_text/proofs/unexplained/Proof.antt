@@ -10,7 +10,8 @@ returns : tie.Need-returns
 returns c = short-printed unexplainedLine _ 12 _ refl (c .before .if1 .taken) (c .refuse .ensures)
 
 returns-2 : tie.Need-returns-2
-returns-2 c = whole-printed unexplainedLine _ _ 12 _ refl (c .before .before .before .before .before .if1 .left) (c .before .before .put-word .ensures)
+returns-2 c = whole-printed unexplainedLine _ _ 12 _ refl (c .before .before .before .before .before .if1 .left) (c .before .before .put-word
+    .ensures)
 
 pub unexplained-spec : {M : Type 1} → statement M
 unexplained-spec =
