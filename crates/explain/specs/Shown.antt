@@ -12,8 +12,8 @@ use Rattle.capture.specs.Kept.{Keeps, Fits, Small}
 use Rattle.capture_lines.specs.declared.Reading.{Reading}
 use Rattle.capture_lines.specs.Rest.{SmallLine}
 use Rattle.capture_lines.specs.Reads.{Reads}
-use Rattle.explain_text.specs.Text.{CaptureText, PrintedOne}
-use Rattle.listing.specs.Prints.{Front}
+use Rattle.explain_text.specs.Text.{CaptureText}
+use Rattle.listing.specs.Prints.{Front, PrintedOne}
 use Rattle.program_io.specs.Pieces.{CameIn, CameWhole}
 use Rattle.explain.specs.declared.Input.{Input}
 use Rattle.explain.specs.declared.Input.the-variants.{Whole, Failed}

@@ -24,11 +24,11 @@ use Rattle.rows.proofs.Parts.{link-count, timeout-is}
 use Rattle.plan.specs.Answers.{GoodRow}
 use Rattle.plan.proofs.Reading.{read-good}
 use Rattle.listing.proofs.Lines.{refused-size}
-use Rattle.listing.specs.Prints.{Prints, Front}
+use Rattle.listing.specs.Prints.{Prints, Front, PrintedOne}
 use Rattle.listing.proofs.Printing.{says-only, printed, printed-given, printed-refused}
 use Rattle.listing.proofs.Fronts.{from-front}
 use Rattle.explain_text.specs.Room.{explainRoom}
-use Rattle.explain_text.specs.Text.{listLine, CaptureText, mayTell, SaysOne, PrintedOne}
+use Rattle.explain_text.specs.Text.{listLine, CaptureText, mayTell, SaysOne}
 use Rattle.explain_text.proofs.Line.{line-small}
 use Rattle.explain_text.proofs.Captures.{lines-are, listing-short, text-is, text-back, text-refused, back-refused}
 

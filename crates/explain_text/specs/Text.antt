@@ -15,7 +15,7 @@ use Rattle.scope.specs.Lines.{captureOf, parted, lineFeed, refusedLine, Explana
 use Rattle.plan.specs.Answers.{GoodRow}
 use Rattle.capture.specs.declared.Kept.{Kept}
 use Rattle.capture.specs.Kept.{Keeps}
-use Rattle.listing.specs.Prints.{Says, Printed}
+use Rattle.listing.specs.Prints.{Says}
 
 -- "its pairs' numbers on one line"
 abbrev pub listLine : List ℕ → List ℕ
@@ -38,12 +38,6 @@ pub record SaysOne (may : Outcome) (Kind : List ℕ → Type 0) (entry exit : Li
   pub text : List ℕ
   pub kind : Kind text
   pub says : Says may text entry exit r
-
--- a text of this kind stands whole at the front of a program's buffer
-pub record PrintedOne (Kind : List ℕ → Type 0) (entry exit : List ℕ) (r : Answer) : Type 0 where
-  pub text : List ℕ
-  pub kind : Kind text
-  pub printed : Printed text entry exit r
 
 -- a good row, and a list of at most two cuts
 pub record MayList (row cuts : List ℕ) : Type 0 where

@@ -22,6 +22,12 @@ pub record Printed (text entry exit : List ℕ) (r : Answer) : Type 0 where
   pub answer : outcomeOf r ≡ gives (length text)
   pub buffer : exit ≡ text ++ drop (length text) entry
 
+-- a text of this kind stands whole at the front of a program's buffer
+pub record PrintedOne (Kind : List ℕ → Type 0) (entry exit : List ℕ) (r : Answer) : Type 0 where
+  pub text : List ℕ
+  pub kind : Kind text
+  pub printed : Printed text entry exit r
+
 -- What a program has read: the first n bytes of a buffer are all that there is, or as many as the buffer holds.
 abbrev pub Front : List ℕ → ℕ → List ℕ → Type 0
 Front buffer n whole = take n buffer ≡ take (length buffer) whole

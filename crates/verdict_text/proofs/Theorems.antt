@@ -21,12 +21,12 @@ use Rattle.scope.proofs.Order.{first-once, resistant-or-failing}
 use Rattle.scope.specs.Limits.{longestRow, planRoom}
 use Rattle.text.specs.Text.{laid}
 use Rattle.listing.proofs.Lines.{refused-size}
-use Rattle.listing.specs.Prints.{Prints, Front}
+use Rattle.listing.specs.Prints.{Prints, Front, PrintedOne}
 use Rattle.listing.proofs.Printing.{prints-as, says-only, printed}
 use Rattle.listing.proofs.Fronts.{from-front}
 use Rattle.plan.proofs.Reading.{read-good}
 use Rattle.verdict_text.specs.Texts.{DeepText, highestOr, TextUpTo}
-use Rattle.verdict_text.specs.Layout.{verdictRoom, LinesUnder, Lays, PrintsOne, PrintedOne}
+use Rattle.verdict_text.specs.Layout.{verdictRoom, LinesUnder, Lays, PrintsOne}
 use Rattle.verdict_text.proofs.Composing.{highest-few, lays-prints}
 use Rattle.verdict_text.proofs.Verdicts.{few-messages}
 use Rattle.verdict_text.proofs.Room.{resistant-size, failing-size, slacks-size}

@@ -11,7 +11,7 @@ use Rattle.scope.specs.Spare.{placeOf}
 use Rattle.scope.specs.Lines.{resistantLine, failingLine, slackLineOf, UnderK, VerdictLines}
 use Rattle.all_verdicts.specs.Answers.{seven}
 use Rattle.text.specs.Text.{Puts}
-use Rattle.listing.specs.Prints.{Prints, Printed}
+use Rattle.listing.specs.Prints.{Prints}
 
 -- the list that seven numbers say: as many pairs as the first number, less one
 abbrev pub listOf : List ℕ → List ℕ
@@ -63,9 +63,3 @@ pub record PrintsOne (Kind : List ℕ → Type 0) (entry exit : List ℕ) (r : A
   pub text : List ℕ
   pub kind : Kind text
   pub prints : Prints text entry exit r
-
--- a text of this kind stands whole at the front of a program's buffer
-pub record PrintedOne (Kind : List ℕ → Type 0) (entry exit : List ℕ) (r : Answer) : Type 0 where
-  pub text : List ℕ
-  pub kind : Kind text
-  pub printed : Printed text entry exit r
