@@ -1,8 +1,10 @@
 /* The questions of `crates/bench` in plain C, with the same algorithms as far as they are known, compiled for the same target: reading a
    plan file into a row with every rule, judging a row, one replay, the verdict for one l and all answers for one k by the same search, in
-   place. `bench QUESTION N [L]` prints a checksum of the answers, of the row and of the numbers that the last one wrote. `bench countK 1`
-   tells instead, for each walk of the search, l, how many pairs its lists have, how many lists it plays, how many slots it plays, and the
-   arrivals of the list it finds, or -. No header is used, since the kit has none. */
+   place, and which cuts explain the capture on standard input, a byte a number. `bench QUESTION N [L]` prints a checksum of the answers,
+   of the row and of the numbers that the last one wrote. `bench countK 1` tells instead, for each walk of the search, l, how many pairs
+   its lists have, how many lists it plays, how many slots it plays, and the arrivals of the list it finds, or -. `bench slotsK 1` tells the
+   pairs of the list that explains the capture, or -, and how many slots were played for it. `bench record 1` has a list of cuts on
+   standard input instead, and tells the capture of its replay, a line a triple. No header is used, since the kit has none. */
 typedef unsigned char u8;
 typedef unsigned short u16;
 typedef unsigned long usize;
@@ -445,11 +447,141 @@ static int verdict(int k) { /* all answers: how many numbers they are */
     return 7 * (M + 1);
 }
 
+/* Which cuts explain a capture: by slot and message the link that it has crossed, plus one, or 0. */
+static u8 crossed[64 * 32], input[6144];
+static int given; /* how many numbers were read */
+enum { NOTHING = -1, DEAD = -2 };
+
+static int keep(int *twice) { /* the capture into its table, and whether a message is on two links in one slot: refusal 23 */
+    int last = -1;
+    for (int i = 0; i < 64 * 32; i++) crossed[i] = 0;
+    *twice = 0;
+    for (int j = 0; j < given; j += 3) {
+        int s = input[j], e = input[j + 1], m = input[j + 2], code = (s * 64 + e) * 32 + m;
+        if (given - j < 3 || s >= T || e >= E || m >= M || code <= last) return refuse(23, j / 3);
+        last = code;
+        if (crossed[s * 32 + m]) *twice = 1;
+        else crossed[s * 32 + m] = e + 1;
+    }
+    return 0;
+}
+
+/* One slot against the capture, from one place to another: nothing, or what the foremost message that differs says, which is a link that
+   every list that explains the capture has cut, or that there is no such list. */
+static int look(const position *ps, position *next, int i) {
+    usize taken = 0;
+    slots++;
+    for (int m = 0; m < M; m++) {
+        position p = ps[m];
+        int over = 0, clue = DEAD; /* the link that it crosses, plus one, or 0 */
+        if (p.left) {
+            int e = row[p.at];
+            if (!p.turned) {
+                if (cut_from[e] > i) {
+                    clue = e;
+                    if (row[p.at + 1] == i) over = e + 1, p.at += place_size(p.at), p.left--;
+                } else if (row[p.at + 2]) {
+                    turn(&p);
+                    e = row[p.at];
+                }
+            }
+            if (p.turned && cut_from[e] > i && !table[i * 64 + e] && !(taken >> e & 1)) {
+                taken |= 1ul << e;
+                clue = e;
+                over = e + 1;
+                p.at++;
+                p.left--;
+            }
+        }
+        if (over != crossed[i * 32 + m]) return clue;
+        next[m] = p;
+    }
+    return NOTHING;
+}
+
+/* No list that goes on from the pairs picked with n more explains the capture: more links are named than that, or nothing can mend it. */
+static int hopeless(const position *ps, int i, int n) {
+    position room[2][32];
+    int names[3], named = 0, none = 0;
+    while (i < T && !none) {
+        int clue = look(ps, room[i & 1], i);
+        if (clue == NOTHING) ps = room[i++ & 1];
+        else if (clue == DEAD || named == n) none = 1;
+        else {
+            names[named++] = clue;
+            cut_from[clue] = i;
+        }
+    }
+    while (named) cut_from[names[--named]] = 65535;
+    return none;
+}
+
+/* The first list of n more pairs, from slot s and link e on, that explains the capture. */
+static int seek(const position *ps, int n, int at, int s, int e) {
+    position room[2][32];
+    if (hopeless(ps, s, n)) return 0;
+    if (!n) return 1;
+    for (; s < T; s++, e = 0) {
+        for (; e < E; e++) {
+            if (cut_from[e] != 65535) continue;
+            cut_from[e] = pairs[at] = s;
+            pairs[at + 1] = e;
+            int found = seek(ps, n - 1, at + 2, s, e + 1);
+            cut_from[e] = 65535;
+            if (found) return 1;
+        }
+        if (look(ps, room[s & 1], s) != NOTHING) return 0;
+        ps = room[s & 1];
+    }
+    return 0;
+}
+
+static int explain(int k) { /* the first list that explains the capture: how many pairs plus one, or 0 */
+    int twice, r = judge();
+    if (r) return small(r, 0);
+    if (k > 3) return small(refuse(11, 0), 0);
+    r = keep(&twice);
+    if (r) return small(r, 0);
+    clear_cuts();
+    begin();
+    slots = 0;
+    for (int n = 0; n <= k && !twice; n++)
+        if (seek(start, n, 0, 0, 0)) {
+            for (int i = 0; i < 2 * n; i++) out[i] = pairs[i];
+            return n + 1;
+        }
+    return 0;
+}
+
+static int told(int k) { /* what `slotsK` tells */
+    int r = explain(k);
+    if (r) printf("%d %ld\n", r - 1, slots);
+    else printf("- %ld\n", slots);
+    return 0;
+}
+
+static int crossings(void) { /* the capture of the replay under the cuts that were read: links rise in a slot, and then messages */
+    judge();
+    clear_cuts();
+    for (int i = 0; i + 1 < given; i += 2) cut_from[input[i + 1]] = input[i];
+    begin();
+    for (int i = 0; i < T; i++) {
+        tell(start, i, out);
+        for (int e = 0; e < E; e++)
+            for (int m = 0; m < M; m++)
+                if ((out[2 * m] == 2 || out[2 * m] == 3) && out[2 * m + 1] == e) printf("%d %d %d\n", i, e, m);
+    }
+    return 0;
+}
+
 static int ask(char what, int k, int l) {
     if (what == 'a') return read_plan();
     if (what == 'd') return small(judge(), count);
     if (what == 'p') return replay();
     if (what == 'l') return only(k, l);
+    if (what == 'f') return explain(k);
+    if (what == 'o') return told(k);
+    if (what == 'c') return crossings();
     return verdict(k);
 }
 
@@ -466,9 +598,12 @@ int main(int argc, char **argv) {
     const char *word = argv[1];
     int n = 0;
     while (word[n]) n++;
-    counting = word[0] == 'c';
+    counting = word[2] == 'u'; /* the third letter tells questions apart */
+    int telling = counting || word[2] == 'o' || word[2] == 'c';
+    if (word[2] == 'f' || word[2] == 'o' || word[2] == 'c')
+        for (int got = 1; got > 0; given += got) got = read(0, input + given, sizeof input - given);
     unsigned sum = 0;
-    for (read_plan(); turns-- > 0;) sum = (sum + ask(word[2], word[n - 1] % 16, l)) % 65536; /* the third letter tells questions apart */
-    if (!counting) printf("%u\n", mixed(mixed(sum, row, 10405), out, 4096));
+    for (read_plan(); turns-- > 0;) sum = (sum + ask(word[2], word[n - 1] % 16, l)) % 65536;
+    if (!telling) printf("%u\n", mixed(mixed(sum, row, 10405), out, 4096));
     return 0;
 }

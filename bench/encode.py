@@ -1,7 +1,9 @@
 #!/usr/bin/env python3
-"""The question behind a verdict as SMT-LIB2, from document 01's rules: is there a cut list of at most K pairs that leaves fewer than L arrivals?
+"""The question behind a verdict, or behind an explanation, as SMT-LIB2, from document 01's rules: is there a cut list of at most K pairs that leaves
+fewer than L arrivals, or under which exactly the crossings of a capture are made?
 
   bench/encode.py PLAN K L      the plan file; the question goes to standard output
+  bench/encode.py PLAN K        the capture is on standard input, a byte a number
 
 Booleans alone, with Z3's bounds on how many of them are true. A link's cut is one boolean a slot, which rises once. A message is on its first path
 as planned, or at a step of one of its second paths, one boolean for each time at which it can be there. Where the plan decides, nothing is asked:
@@ -34,7 +36,8 @@ def read(file):
     return timeout, links, plan
 
 
-def encode(timeout, links, plan, k, l):
+def encode(timeout, links, plan, k, l, capture=None):
+    """The question for l arrivals, or, where there is one, for a capture: a list of triples slot, link, message."""
     lines = ['(set-logic QF_FD)']
     count = 0
 
@@ -65,6 +68,7 @@ def encode(timeout, links, plan, k, l):
     place = [0] * len(plan)
     at = [{} for _ in plan]  # (place, links crossed) of a second path -> boolean
     home = [[] for _ in plan]  # the booleans of which one is true if it has arrived
+    crossings = {}  # (slot, link, message) -> the booleans of which one is true if it crosses the link then
     for i in range(timeout):
         tried = {}  # link -> booleans of the lower messages that stand before it, turned
         for m, places in enumerate(plan):
@@ -77,6 +81,7 @@ def encode(timeout, links, plan, k, l):
                     here[start] = name(any_of([here[start], turns])) if start in here else turns
                 on_first[m] = name(all_of([on_first[m], '(not %s)' % down[link][i]]))
                 if slot == i:
+                    crossings[i, link, m] = [on_first[m]]
                     place[m] += 1
                     if place[m] == len(places):
                         home[m].append(on_first[m])
@@ -91,6 +96,7 @@ def encode(timeout, links, plan, k, l):
                     free = ['(not %s)' % down[link][i]] + ['(not %s)' % other for other in tried.get(link, [])]
                     moves = name(all_of([stands] + free))
                     stays = name(all_of([stands, '(not %s)' % moves]))
+                    crossings.setdefault((i, link, m), []).append(moves)
                 then.setdefault((p, q), []).append(stays)
                 if moves and q + 1 < len(second):
                     then.setdefault((p, q + 1), []).append(moves)
@@ -99,12 +105,23 @@ def encode(timeout, links, plan, k, l):
             for link, stands in mine.items():
                 tried.setdefault(link, []).append(stands[0] if len(stands) == 1 else name(any_of(stands)))
             at[m] = {step: parts[0] if len(parts) == 1 else name(any_of(parts)) for step, parts in then.items()}
-    arrived = [name(any_of(parts)) for parts in home]
-    lines.append('(assert ((_ at-most %d) %s))' % (l - 1, ' '.join(arrived)) if l else '(assert false)')
+    if capture is None:
+        arrived = [name(any_of(parts)) for parts in home]
+        lines.append('(assert ((_ at-most %d) %s))' % (l - 1, ' '.join(arrived)) if l else '(assert false)')
+    else:
+        seen = set(capture)
+        lines.extend(('(assert %s)' if triple in seen else '(assert (not %s))') % any_of(parts) for triple, parts in crossings.items())
+        lines.extend('(assert false)' for triple in seen if triple not in crossings)
     lines.append('(check-sat)')
     return '\n'.join(lines) + '\n'
 
 
 if __name__ == '__main__':
     with open(sys.argv[1], 'rb') as file:
-        sys.stdout.write(encode(*read(file.read()), int(sys.argv[2]), int(sys.argv[3])))
+        read_plan = read(file.read())
+    if len(sys.argv) > 3:
+        sys.stdout.write(encode(*read_plan, int(sys.argv[2]), int(sys.argv[3])))
+    else:
+        numbers = sys.stdin.buffer.read()
+        triples = [tuple(numbers[at : at + 3]) for at in range(0, len(numbers), 3)]
+        sys.stdout.write(encode(*read_plan, int(sys.argv[2]), 0, triples))

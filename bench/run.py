@@ -3,8 +3,10 @@
 
   bench/run.py ORACLE OURS... -- C...      the second program, which makes the plans, and the words that start each program
 
+With NUTHATCHET_BENCH=captures in the environment it asks about captures alone.
+
 Times are processor seconds. Both programs print a checksum of all answers, and it has to be the same. docs/BENCHMARKS.md has what this printed."""
-import collections, math, os, shutil, subprocess, sys, tempfile
+import collections, math, os, random, shutil, subprocess, sys, tempfile
 
 here = os.path.dirname(os.path.abspath(__file__))
 sys.path.insert(0, here)
@@ -19,6 +21,7 @@ repetitions = 5
 mid = repetitions // 2
 solver = shutil.which('z3')
 unsolved = 'no table of the solver: z3 is not on the PATH (Debian, Ubuntu: apt-get install z3)'
+parts = os.environ.get('NUTHATCHET_BENCH')
 limit = 120  # seconds for one question to the solver
 asked = [
     ('large', 'read', 20000),
@@ -57,23 +60,26 @@ asked = [
     ('grid-3', 'verdict3', 400),
 ]
 searched = [plan for plan, question, _ in asked if question == 'verdict3']
+captured = ['%s-%d' % (kind, seed) for kind in ('network', 'chain', 'wide', 'own', 'gadget', 'dual', 'grid', 'wait') for seed in (1, 2, 3)]
+solved = '3 cuts', 'late 3', '4 cuts', 'removed', 'empty'  # the captures that the solver is asked about
 
 
 def folder(plan):
     return os.path.join(made if '-' in plan else samples, plan)
 
 
-def run(words, where=None):
+def run(words, where=None, given=None):
     """What a program prints, and the processor seconds that it takes."""
-    child = subprocess.Popen(words, cwd=where, stdout=subprocess.PIPE)
+    with open(given or os.devnull, 'rb') as file:
+        child = subprocess.Popen(words, cwd=where, stdin=file, stdout=subprocess.PIPE)
     said = child.stdout.read().decode()
     _, status, used = os.wait4(child.pid, 0)
     child.returncode = os.waitstatus_to_exitcode(status)
     return said, used.ru_utime + used.ru_stime, child.returncode
 
 
-def ask(words, plan, question, turns, l=0):
-    said, seconds, status = run(words + [question, ' %d' % turns, ' %d' % l], folder(plan))
+def ask(words, plan, question, turns, l=0, given=None):
+    said, seconds, status = run(words + [question, ' %d' % turns, ' %d' % l], folder(plan), given)
     if status:
         sys.exit('%s %s: a program ended with status %d' % (plan, question, status))
     return said, seconds
@@ -84,7 +90,7 @@ def note(text):
 
 
 def make_plans():
-    for plan in searched:
+    for plan in dict.fromkeys(searched + captured):
         if '-' in plan:
             os.makedirs(folder(plan), exist_ok=True)
             with open(os.path.join(folder(plan), 'plan.bin'), 'wb') as file:
@@ -200,25 +206,133 @@ def against_solver(each, edges, goals):
             print('%-10s %2d %-9s %10s %10.5f %10.5f   %s' % (plan, l, meant, more + '%.2f' % seconds, one, each[plan], times), flush=True)
 
 
+def given_of(plan, name):
+    return os.path.join(folder(plan), name.replace(' ', '-') + '.bytes')
+
+
+def put_bytes(plan, name, rows):
+    with open(given_of(plan, name), 'wb') as file:
+        file.write(bytes(number for row in rows for number in row))
+
+
+def crossings(plan, cuts):
+    """The capture of the replay under a list of cuts."""
+    put_bytes(plan, 'cuts', cuts)
+    said, _ = ask(c, plan, 'record', 1, given=given_of(plan, 'cuts'))
+    return [tuple(map(int, line.split())) for line in said.splitlines()]
+
+
+def captures(plan):
+    """The captures that are asked about, by name. Late cuts are those of the last places of the plan, each in the slot of its place."""
+    timeout, links, messages = plan_of(plan)
+    draw = random.Random(plan)
+    drawn = {'%d cuts' % n: sorted((draw.randrange(timeout), link) for link in draw.sample(range(links), n)) for n in range(5)}
+    last = {}
+    for slot, link in sorted((slot, link) for places in messages for link, slot, _ in places):
+        last[link] = slot
+    late = sorted(((slot, link) for link, slot in last.items()), reverse=True)
+    drawn.update(('late %d' % n, sorted(late[:n])) for n in (1, 2, 3))
+    made = {name: crossings(plan, cuts) for name, cuts in drawn.items()}
+    made['removed'] = list(made['3 cuts'])
+    if made['removed']:
+        made['removed'].pop(draw.randrange(len(made['removed'])))
+    made['empty'] = []
+    for name, triples in made.items():
+        put_bytes(plan, name, triples)
+    return made
+
+
+def explained(goals):
+    """The table of captures: for each sort and each k, over all plans. Returns our seconds for k 3 by plan and sort."""
+    heads = 'capture', 'k', 'plans', 'listed', 'most slots', 'longest, ms', 'plan'
+    print('\n%-8s %1s %5s %6s %10s %11s %-10s   ours / C (lowest, median, highest, plan)' % heads, flush=True)
+    rows, each = collections.defaultdict(list), {}
+    for plan in captured:
+        for name in captures(plan):
+            given = given_of(plan, name)
+            for k in 1, 2, 3:
+                question = 'infer%d' % k
+                pairs, slots = ask(c, plan, 'slots%d' % k, 1, given=given)[0].split()
+                turns = 1 + 200000 // (100 + int(slots))  # so many that the time can be told
+                taken = []
+                for _ in range(3):
+                    said, mine = ask(ours, plan, question, turns, given=given)
+                    other, theirs = ask(c, plan, question, turns, given=given)
+                    if said != other:
+                        sys.exit('%s %s, %s: ours says %s and C says %s' % (plan, question, name, said, other))
+                    taken.append((mine, theirs))
+                mine, theirs = (min(column) for column in zip(*taken))
+                rows[name, k].append((plan, pairs != '-', int(slots), mine / turns, mine / theirs))
+                if k == 3:
+                    each[plan, name] = pairs, mine / turns
+                    goals['k 3, capture, ours / C'].append((mine / theirs, plan + ', ' + name))
+                    goals['k 3, capture, ours, s'].append((mine / turns, plan + ', ' + name))
+        note('%s: captures done' % plan)
+    for (name, k), found in sorted(rows.items(), key=lambda row: list(row)[0]):
+        slowest = max(found, key=lambda row: row[3])
+        ratios = sorted((row[4], row[0]) for row in found)
+        print(
+            '%-8s %d %5d %6d %10d %11.3f %-10s   %.2f %.2f %.2f %s'
+            % (
+                (name, k, len(found), sum(row[1] for row in found), max(row[2] for row in found), 1000 * slowest[3], slowest[0])
+                + (ratios[0][0], ratios[len(ratios) // 2][0])
+                + ratios[-1]
+            ),
+            flush=True,
+        )
+    return each
+
+
+def explained_by_solver(each, goals):
+    """The same for k 3 of the first plan of each kind, asked of the solver."""
+    if not solver:
+        return
+    print('\n%-10s %-8s %-11s %10s %10s   solver / ours' % ('plan, k 3', 'capture', 'answer', 'solver, s', 'ours, s'), flush=True)
+    for plan in captured:
+        if not plan.endswith('-1'):
+            continue
+        read = plan_of(plan)
+        for name, triples in captures(plan).items():
+            if name not in solved:
+                continue
+            pairs, mine = each[plan, name]
+            with tempfile.NamedTemporaryFile('w', suffix='.smt2') as question:
+                question.write(encode.encode(*read, 3, 0, triples))
+                question.flush()
+                said, seconds, _ = run([solver, '-T:%d' % limit, question.name])
+            said, expected = said.strip(), 'unsat' if pairs == '-' else 'sat'
+            if said not in (expected, 'timeout'):
+                sys.exit('%s, %s: the solver says %s, and we say %s' % (plan, name, said, expected))
+            more = '> ' if said == 'timeout' else ''
+            meant = 'unexplained' if pairs == '-' else pairs + ' pairs'
+            goals['k 3, capture, solver / ours'].append((seconds / mine, plan + ', ' + name))
+            print('%-10s %-8s %-11s %10s %10.5f   %s%.1f' % (plan, name, meant, more + '%.2f' % seconds, mine, more, seconds / mine), flush=True)
+
+
 def against_goals(goals):
     """The plan that is worst for each goal."""
-    print('\n%-26s %12s %10s   %s' % ('goal', 'wanted', 'worst', 'plan'), flush=True)
+    print('\n%-27s %12s %10s   %s' % ('goal', 'wanted', 'worst', 'plan'), flush=True)
     for goal, wanted, worst in (
         ('k 3, every l, ours / C', 'at most 2.5', max),
         ('k 3, every l, ours, s', 'at most 1', max),
         ('k 3, one l, solver / ours', 'at least 100', min),
+        ('k 3, capture, ours / C', 'at most 2.5', max),
+        ('k 3, capture, ours, s', 'at most 0.2', max),
+        ('k 3, capture, solver / ours', 'at least 100', min),
     ):
         if goals[goal]:
             figure, plan = worst(goals[goal])
-            print('%-26s %12s %10.2f   %s' % (goal, wanted, figure, plan), flush=True)
+            print('%-27s %12s %10.2f   %s' % (goal, wanted, figure, plan), flush=True)
 
 
 goals = collections.defaultdict(list)
 if not solver:
     note(unsolved)
 make_plans()
-times = against_c(goals)
-edges = lists_played()
-each_walk()
-against_solver(times, edges, goals)
+if parts != 'captures':
+    times = against_c(goals)
+    edges = lists_played()
+    each_walk()
+    against_solver(times, edges, goals)
+explained_by_solver(explained(goals), goals)
 against_goals(goals)

@@ -1,11 +1,11 @@
 //! Plans for benchmarks, by kind and seed: the largest size with second paths that compete, plans in
 //! the manner of document 000's evaluation (its section 6), the same on networks as they are built,
-//! and plans in which every message has a whole fallback.
+//! plans in which every message has a whole fallback, and plans in which all messages wait.
 
 use crate::plan::{Link, Message, Place, Plan};
 use crate::random::{free_slots, largest_plan, limit_plan, Ground, Random};
 
-pub const KINDS: &str = "network, chain, small, wide, own, gadget, dual or grid";
+pub const KINDS: &str = "network, chain, small, wide, own, gadget, dual, grid or wait";
 
 /// The plan of a kind and a seed, if there is such a kind.
 pub fn plan(kind: &str, seed: u64) -> Option<Plan> {
@@ -19,6 +19,7 @@ pub fn plan(kind: &str, seed: u64) -> Option<Plan> {
         "gadget" => Some(in_gadgets(&mut r, MESSAGES)),
         "dual" => Some(routed(&mut r, HOSTS + 2, HOSTS, two_switches(), 64)),
         "grid" => Some(routed(&mut r, 16, 16, square(4), 64)),
+        "wait" => Some(waiting(&mut r)),
         _ => None,
     }
 }
@@ -56,6 +57,23 @@ fn in_gadgets(r: &mut Random, number: usize) -> Plan {
         held.push((place, slot));
         let second = Some(vec![link(from, by), link(by, to)]);
         messages.push(Message { places: vec![Place { link: place, slot, second }] });
+    }
+    Plan { vertices, timeout, links, messages }
+}
+
+/// A ring of 64 links. All messages wait before eight of them, far from each other, until one of the
+/// last 16 slots, and none has a second path: what is cut shows late, if ever.
+fn waiting(r: &mut Random) -> Plan {
+    let (vertices, timeout) = (64, 64);
+    let links = (0..vertices).map(|from| Link { from, to: (from + 1) % vertices }).collect();
+    let mut held = Vec::new();
+    let mut messages = Vec::new();
+    while messages.len() < MESSAGES {
+        let (link, slot) = (8 * r.below(8), timeout - 16 + r.below(16));
+        if !held.contains(&(link, slot)) {
+            held.push((link, slot));
+            messages.push(Message { places: vec![Place { link, slot, second: None }] });
+        }
     }
     Plan { vertices, timeout, links, messages }
 }

@@ -1,18 +1,24 @@
 // Asks one question of the plan in `plan.bin` many times, for `./nuthatchet bench`: `bench read N`, `bench judge N` (the row), `bench replay N`
-// (link 0 cut in slot 0), `bench onlyK N L` (the verdict for k K and l L) and `bench verdictK N` (all answers for k K); a space stands before N
-// and L. It prints a checksum of the answers, of the row and of the numbers that the last one wrote, which the C program beside it
+// (link 0 cut in slot 0), `bench onlyK N L` (the verdict for k K and l L), `bench verdictK N` (all answers for k K) and `bench inferK N` (at most
+// K cuts that explain the capture on standard input, a byte a number); a space stands before N and L. It prints a checksum of the answers, of the row and of the numbers that the last one wrote, which the C program beside it
 // (bench/bench.c) prints too.
 ghost use Prim.Native.Nat.{_≤_, _<_};
 ghost use lib.ListN.{length};
+use explanations::Explanation;
 use scope::Answer;
 use scope::Refusal;
 use verdicts::Ruling;
 
-// What is asked: the third letter of its word, which tells questions apart (reAd, juDge, rePlay, onLy, veRdict), and k and l.
+// The numbers of as many crossings as a cycle can have.
+const CAPTURE: usize = 3 * scope::limits::CROSSED;
+
+// What is asked: the third letter of its word, which tells questions apart (reAd, juDge, rePlay, onLy, veRdict,
+// inFer), k and l, and how many numbers the capture has.
 struct Question {
     what: u8,
     k: usize,
     l: usize,
+    given: usize,
 }
 
 // A refusal as a small number.
@@ -43,6 +49,17 @@ fn ruled(ruling: Ruling) -> usize
     }
 }
 
+// What explains a capture as a small number.
+fn explained(explanation: Explanation) -> usize
+    ensures { λ r. ⌜ r < 65536 ⌝ }
+{
+    match explanation {
+        Explanation::Unexplained => 0,
+        Explanation::Listed(pairs) => 1 + pairs % 16,
+        Explanation::Refused(r) => refused(r),
+    }
+}
+
 // A checksum, with more numbers.
 fn mixed(sum: usize, numbers: &[u16]) -> usize
     requires { ⌜ sum < 1000003 ⌝ }
@@ -58,7 +75,7 @@ fn mixed(sum: usize, numbers: &[u16]) -> usize
 }
 
 // One question of a row: its answer as a small number.
-fn ask_row(q: Question, row: &[u16], out: &mut [u16]) -> usize
+fn ask_row(q: Question, row: &[u16], capture: &[u16], out: &mut [u16]) -> usize
     ensures { λ r. ⌜ r < 65536 ⌝ }
 {
     if q.what == b'd' {
@@ -70,22 +87,43 @@ fn ask_row(q: Question, row: &[u16], out: &mut [u16]) -> usize
     if q.what == b'l' {
         return ruled(verdicts::verdict(row, q.k, q.l, out));
     }
+    if q.what == b'f' {
+        let n = q.given;
+        if capture.len() < n {
+            return 0;
+        }
+        return explained(explanations::explain(row, q.k, &capture[0..n], out));
+    }
     small(all_verdicts::all_answers(row, q.k, out))
 }
 
 // One question of a file, or of its row, the first n numbers of what is lent.
-fn ask(q: Question, file: &[u8], row: &mut [u16], n: usize, out: &mut [u16]) -> usize
+fn ask(
+    q: Question,
+    file: &[u8],
+    row: &mut [u16],
+    n: usize,
+    capture: &[u16],
+    out: &mut [u16],
+) -> usize
     requires { ⌜ n ≤ length (now row) ⌝ }
     ensures { λ r. ⌜ r < 65536 ⌝ }
 {
     if q.what == b'a' {
         return small(plan::read_file(file, row));
     }
-    ask_row(q, &row[0..n], out)
+    ask_row(q, &row[0..n], capture, out)
 }
 
 // The same question so many times, and the checksum.
-fn ask_all(q: Question, turns: usize, file: &[u8], row: &mut [u16], out: &mut [u16]) -> usize {
+fn ask_all(
+    q: Question,
+    turns: usize,
+    file: &[u8],
+    row: &mut [u16],
+    capture: &[u16],
+    out: &mut [u16],
+) -> usize {
     let n = small(plan::read_file(file, row));
     if row.len() < n {
         return 0;
@@ -93,7 +131,7 @@ fn ask_all(q: Question, turns: usize, file: &[u8], row: &mut [u16], out: &mut [u
     let mut sum = 0;
     let mut i = 0;
     while i < turns {
-        sum = (sum + ask(q, file, row, n, out)) % 65536;
+        sum = (sum + ask(q, file, row, n, capture, out)) % 65536;
         i += 1;
     }
     mixed(mixed(sum, row), out)
@@ -115,13 +153,35 @@ fn asked() -> Question {
             what: 0,
             k: 0,
             l: 0,
+            given: 0,
         };
     }
     Question {
         what: name[2],
         k: (name[n - 1] % 16) as usize,
         l: number(3),
+        given: 0,
     }
+}
+
+// The capture on standard input, a byte a number, where it is asked about: how many numbers it has.
+fn read_capture(q: Question, capture: &mut [u16]) -> usize
+    ensures { λ r. ⌜ r ≤ length (now (capture .exit)) ⌝ }
+{
+    if q.what != b'f' {
+        return 0;
+    }
+    let mut bytes = [0u8; CAPTURE];
+    let n = io::read_full(libc::STDIN_FILENO, &mut bytes);
+    if capture.len() < n {
+        return 0;
+    }
+    let mut i = 0;
+    while i < n {
+        capture[i] = bits::byte(&bytes, i) as u16;
+        i += 1;
+    }
+    n
 }
 
 fn main() {
@@ -129,7 +189,16 @@ fn main() {
     let mut row = [0u16; scope::limits::ROW];
     let mut out = [0u16; scope::limits::EVENTS];
     let n = program_io::read_plan(b"bench", &mut file);
-    let sum = ask_all(asked(), number(2), &file[..n], &mut row, &mut out);
+    let q = asked();
+    let mut capture = [0u16; CAPTURE];
+    let given = read_capture(q, &mut capture);
+    let all = Question {
+        what: q.what,
+        k: q.k,
+        l: q.l,
+        given,
+    };
+    let sum = ask_all(all, number(2), &file[..n], &mut row, &capture, &mut out);
     io::print_decimal(libc::STDOUT_FILENO, sum as u64);
     io::write_all(libc::STDOUT_FILENO, b"\n");
 }

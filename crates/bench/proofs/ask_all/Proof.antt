@@ -7,11 +7,11 @@ use Rattle.bench.proofs.ask_all.Statement.{statement}
 use Rattle.bench.proofs.ask_all.Tie as tie
 
 abbrev Inv-loop : tie.InvT-loop
-Inv-loop q turns file row₀ out₀ n sum₀ i₀ row out sum i =
+Inv-loop q turns file row₀ capture out₀ n sum₀ i₀ row out sum i =
     (i ≤ turns) × (sum < 65536) × (n ≤ length row) × (length row ≡ length row₀) × (length out ≡ length out₀)
 
 abbrev μ-loop : tie.MeasureT-loop
-μ-loop q turns file row₀ out₀ n sum₀ i₀ row out sum i = turns - i
+μ-loop q turns file row₀ capture out₀ n sum₀ i₀ row out sum i = turns - i
 
 pub ask-all-spec : {M : Type 1} → statement M
 ask-all-spec =
