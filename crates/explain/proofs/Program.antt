@@ -19,7 +19,7 @@ use Rattle.explain_text.specs.Room.{explainRoom}
 use Rattle.explain_text.proofs.Theorems.{shown-refused, shown-given}
 use Rattle.program_io.specs.Pieces.{Piece}
 use Rattle.program_io.proofs.Pieces.{none-came}
-use Rattle.explain.specs.Shown.{Going, MayStart, WholeInput, Captured, ShowsRow, any, of, Shows}
+use Rattle.explain.specs.Shown.{Going, MayStart, WholeInput, Captured, ShowsRow, whatever, of, Shows}
 use Rattle.explain.specs.declared.Input.{Input}
 use Rattle.explain.specs.declared.Input.the-variants.{Whole}
 use Rattle.explain.specs.declared.Told.{Told}
@@ -66,7 +66,7 @@ whole-of plan crossed i kept e h = rw e at h
 module _ (plan : List ℕ) (p : ℕ) (entry exit : List ℕ) (l : length plan ≡ planRoom) where
   pub shows-refused : (r : Refusal) → readFile (take p plan) longestRow ≡ refused r → (a : Answer) → length entry ≡ explainRoom →
       Prints (refusedLine r) entry exit a → Shows plan p entry exit (Text a)
-  shows-refused r e a room q file f = any (shown-refused plan p file l f r e room q)
+  shows-refused r e a room q file f = whatever (shown-refused plan p file l f r e room q)
 
   pub shows-given : (n : ℕ) → readFile (take p plan) longestRow ≡ gives n → (row : List ℕ) → row ≡ rowOf (take p plan) → (t : Told) →
       ShowsRow row entry exit t → Shows plan p entry exit t

@@ -57,7 +57,7 @@ ShowsRow row entry exit Nothing = Unit {0}
 -- what is shown of a plan file: a text that stands for every input, where the plan is refused before any is read, or that of the input that
 -- came
 pub data Shown (file entry exit : List ℕ) (r : Answer) : Type 0 where
-  any : ((input : List ℕ) → PrintedOne (ExplainText file input) entry exit r) → Shown file entry exit r
+  whatever : ((input : List ℕ) → PrintedOne (ExplainText file input) entry exit r) → Shown file entry exit r
   of : (input : List ℕ) → CameWhole input → PrintedOne (ExplainText file input) entry exit r → Shown file entry exit r
 
 -- of the whole plan file, however long it is; nothing where standard input could not be read
