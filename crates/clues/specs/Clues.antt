@@ -3,7 +3,7 @@
 use Prim.Native.Nat.{ℕ, _+_, _*_, _≤_, _<_}
 use mathlib.Core.Path.{_≡_}
 use mathlib.Core.Bool.{Bool, true, false, cond, _&&_, _||_}
-use mathlib.Core.List.{List}
+use mathlib.Core.List.{List, _∷_, _++_}
 use lib.ListN.{length, getD}
 use lib.Dec.{ltb, eqb}
 use Rattle.scope.specs.Limits.{mostSlots, mostMessages, crossedSize}
@@ -17,7 +17,7 @@ use Rattle.laws.specs.Message.{eventOf}
 use Rattle.cuts.specs.Down.{isDown}
 use Rattle.step.specs.declared.Standing.{Standing}
 use Rattle.step.specs.Stand.{Stand}
-use Rattle.order.specs.Search.{NoneOf}
+use Rattle.order.specs.Search.{Not, NoneOf}
 use Rattle.capture.specs.Kept.{crossedAt}
 use Rattle.picks.specs.declared.Sizes.{Sizes}
 use Rattle.picks.specs.declared.Picked.{Picked}
@@ -25,6 +25,7 @@ use Rattle.picks.specs.Picks.{cutsOf, Playable, Holding, StandAt}
 use Rattle.clues.specs.declared.Clue.{Clue}
 use Rattle.clues.specs.declared.Clue.the-variants.{Nothing, Link, Dead}
 use Rattle.clues.specs.declared.Seen.{Seen}
+use Rattle.clues.specs.declared.Suspicion.{Suspicion}
 
 -- the link that an event crosses, plus one, or 0 where it is no crossing
 abbrev pub crossingOf : Event → ℕ
@@ -110,8 +111,10 @@ pub record MaySuspect (row table crossed : List ℕ) (z : Sizes) (ps : Standing)
   pub before : MatchesBefore (planOf row) crossed (cutsOf p) (p .slot)
   pub size : length crossed ≡ crossedSize
 
--- hopeless: no list with n pairs more matches. And a whole list that is not hopeless does
-abbrev pub Suspected : List ℕ → List ℕ → Picked → ℕ → Bool → Type 0
-Suspected row crossed p n r =
-    (r ≡ true → NoneOf (planOf row) (Matches (planOf row) crossed) (cutsOf p) n) ×
-    (r ≡ false → n ≡ 0 → Matches (planOf row) crossed (cutsOf p))
+-- hopeless: no list with n pairs more matches. A whole list that is not hopeless does; and where as many links are named as pairs are to
+-- come, the first pair more of a list that matches cuts one that is down
+pub record Suspected (row crossed : List ℕ) (p : Picked) (n : ℕ) (r : Suspicion) : Type 0 where
+  pub none : r .hopeless ≡ true → NoneOf (planOf row) (Matches (planOf row) crossed) (cutsOf p) n
+  pub whole : r .hopeless ≡ false → n ≡ 0 → Matches (planOf row) crossed (cutsOf p)
+  pub only : r .hopeless ≡ false → r .all ≡ true → (s e : ℕ) (x : List ℕ) → length x + 2 ≡ 2 * n → isDown (r .down) e ≡ false →
+      Not (planOf row) (Matches (planOf row) crossed) (cutsOf p ++ s ∷ e ∷ x)

@@ -1,14 +1,17 @@
 // What a capture says of the cuts: a slot is played and held against the table of crossings, and where they differ the foremost message
-// names a link that every list with these crossings has cut by then, or there is no such list. `look` reads one slot; `hopeless` cuts what
-// is named, slot by slot, and says that no list with so many pairs more has the crossings of the table. That a link is named at all is
-// `Named` of `laws`; it leans on `step` for a slot, on `picks` for the pairs picked and on `order` for lists with one pair more.
+// names a link that every list with these crossings has cut by then, or there is no such list. `look` reads one slot; `suspect` cuts what
+// is named, slot by slot, and says that no list with so many pairs more has the crossings of the table, or that such a list cuts only
+// what was named. That a link is named at all is `Named` of `laws`; it leans on `step` for a slot, on `picks` for the pairs picked and on
+// `order` for lists with one pair more.
 use picks::Picked;
 use picks::Sizes;
+use scope::limits::LINKS;
 use scope::limits::MESSAGES;
 use scope::limits::SLOT_EVENTS;
 use step::Standing;
 ghost use Prim.Native.Nat.{_+_, _*_, _<_};
 ghost use mathlib.Core.Path.{_≡_};
+ghost use mathlib.Core.Bool.{true};
 ghost use Rattle.capture.specs.Kept.{crossedAt};
 ghost use Rattle.clues.specs.Clues.{crossingOf, clueOf, Says, anEvent, eventAt, MayCompare, MayLook, Looked, MaySuspect, Suspected};
 
@@ -23,6 +26,14 @@ pub enum Clue {
 pub struct Seen {
     pub clue: Clue,
     pub next: Standing,
+}
+
+// What the table says of the lists that go on from here: that none has its crossings; else whether as many links are named as pairs are to
+// come, and what is down with all that are named.
+pub struct Suspicion {
+    pub hopeless: bool,
+    pub all: bool,
+    pub down: [u8; LINKS],
 }
 
 // The link that an event crosses, plus one, or 0.
@@ -75,10 +86,20 @@ pub fn look(row: &[u16], table: &[u8], crossed: &[u8], z: Sizes, down: &[u8], ps
     Seen { clue, next }
 }
 
-// No list that goes on from the pairs picked with n pairs more has the crossings of the table: they are played on, each link that a slot
-// names is cut from that slot on, and more links are named than pairs are to come, or none can be. Where n is 0 and nothing is named,
-// the pairs picked are such a list.
-pub fn hopeless(
+fn given_up() -> Suspicion
+    ensures { λ r. ⌜ r .hopeless ≡ true ⌝ }
+{
+    Suspicion {
+        hopeless: true,
+        all: false,
+        down: [0u8; LINKS],
+    }
+}
+
+// Lists that go on from the pairs picked with n pairs more: the pairs picked are played on, and each link that a slot names is cut from that
+// slot on. Where more links are named than pairs are to come, or none can be, no such list has the crossings of the table; where as many are
+// named, one that has them cuts no other link. Where n is 0 and nothing is named, the pairs picked have them.
+pub fn suspect(
     row: &[u16],
     table: &[u8],
     crossed: &[u8],
@@ -86,7 +107,7 @@ pub fn hopeless(
     ps: Standing,
     p: Picked,
     n: usize,
-) -> bool
+) -> Suspicion
     requires { ⌜ MaySuspect (now row) (now table) (now crossed) z ps p ⌝ }
     ensures { λ r. ⌜ Suspected (now (row .entry)) (now (crossed .entry)) p n r ⌝ }
 {
@@ -105,13 +126,17 @@ pub fn hopeless(
             }
             Clue::Link(x) => {
                 if left == 0 {
-                    return true;
+                    return given_up();
                 }
                 down[x] = 1;
                 left -= 1;
             }
-            Clue::Dead => return true,
+            Clue::Dead => return given_up(),
         }
     }
-    false
+    Suspicion {
+        hopeless: false,
+        all: left == 0,
+        down,
+    }
 }

@@ -1,4 +1,4 @@
--- `clues::hopeless` meets its contract: each turn plays one slot more, or cuts one more link that a slot names.
+-- `clues::suspect` meets its contract: each turn plays one slot more, or cuts one more link that a slot names.
 use Prim.Native.Nat.{_+_, _-_}
 use native.Mathlib.Omega.{arith}
 use mathlib.Core.Path.{refl, sym}
@@ -15,8 +15,8 @@ use Rattle.clues.proofs.Suspecting.{
   suspects-more,
   suspects-over,
 }
-use Rattle.clues.proofs.hopeless.Statement.{statement}
-use Rattle.clues.proofs.hopeless.Tie as tie
+use Rattle.clues.proofs.suspect.Statement.{statement}
+use Rattle.clues.proofs.suspect.Tie as tie
 
 abbrev Inv-loop : tie.InvT-loop
 Inv-loop row table crossed z n down₀ qs₀ left₀ i₀ down qs left i = Suspects row table crossed z n down₀ qs₀ i₀ down qs left i
@@ -89,8 +89,8 @@ returns-3 c =
     let inv = c .before .before .loop .inv .of _ may refl refl in
     (λ t. absurd (true≢false (sym t)), λ f none. suspects-over _ _ _ _ _ _ _ may _ _ _ _ inv (c .if1 .left) none)
 
-pub hopeless-spec : {M : Type 1} → statement M
-hopeless-spec =
+pub suspect-spec : {M : Type 1} → statement M
+suspect-spec =
     tie.close
     (tie.spec Inv-loop μ-loop loop-holds slice-aggregate-look look-requires (λ c. search needs) (λ c. search needs) (λ c. search needs)
     loop-again (λ c. search needs) returns array-write-down (λ c. search needs) (λ c. search needs) loop-again-2 (λ c. search needs)
