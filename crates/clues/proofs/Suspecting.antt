@@ -20,8 +20,8 @@ use Rattle.laws.proofs.Named.{named-under-cuts}
 use Rattle.laws.proofs.Sound.{number-is-link}
 use Rattle.cuts.specs.Down.{isDown}
 use Rattle.step.specs.declared.Standing.{Standing}
-use Rattle.order.specs.Search.{NoneOf}
-use Rattle.order.proofs.Parts.{slot-left, link-left}
+use Rattle.order.specs.Search.{Not, NoneOf}
+use Rattle.order.proofs.Parts.{slot-left, link-left, slot-right, link-right}
 use Rattle.order.proofs.Prefix.{same-before}
 use Rattle.capture.specs.Kept.{crossedAt}
 use Rattle.picks.specs.declared.Sizes.{Sizes}
@@ -237,6 +237,36 @@ module _ (row table crossed : List ℕ) (z : Sizes) (ps : Standing) (p : Picked)
       let t : i ≡ planOf row .timeout = omega (arith, g .early, may .play .timeout) in
       let same : g .cuts ≡ cutsOf p = g .bare (omega (arith, g .few)) in
       subst (λ (c : List ℕ). Matches (planOf row) crossed c) same (subst (MatchesBefore (planOf row) crossed (g .cuts)) t (g .before))
+
+  -- where as many links are named as pairs are to come, an answer cuts no other
+  module _ (down : List ℕ) (qs : Standing) (left i : ℕ) (g : Suspecting row crossed z p n down qs left i) (zero : left ≡ 0) (s e : ℕ)
+      (whole : isDown down e ≡ false) where
+    abbrev further : List ℕ
+    further = g .cuts ++ s ∷ e ∷ []
+
+    other : (j : ℕ) → j < p .count + (n - left) → cutLink (g .cuts) j ≡ e → ⊥
+    other j h same =
+        let k = i + cutSlot (g .cuts) j in
+        true≢false
+        (sym (is-cut (planOf row) (g .cuts) k e j (omega (arith, g .long)) (eq-eqb (cutLink (g .cuts) j) e same) (omega arith)) ∙
+        sym (g .are k e (omega arith)) ∙ whole)
+
+    pub suspects-only : (x : List ℕ) → length x + 2 ≡ 2 * n → Not (planOf row) (Matches (planOf row) crossed) (cutsOf p ++ s ∷ e ∷ x)
+    suspects-only x long good matches =
+        let plan = planOf row in
+        let y : List ℕ = s ∷ e ∷ x in
+        let a : Answer row crossed p n (s ∷ e ∷ x) = record { long = omega arith; good = good; matches = matches } in
+        let h = may .holding .chosen .long in
+        let d = p .count + (n - left) in
+        let all : d ≡ p .count + n = omega arith in
+        let both : length (cutsOf p ++ s ∷ e ∷ x) ≡ 2 * (p .count + n) = omega (arith, length-append (cutsOf p) (s ∷ e ∷ x), h) in
+        let cut : isCut plan (cutsOf p ++ s ∷ e ∷ x) s e ≡ true =
+        is-cut plan (cutsOf p ++ s ∷ e ∷ x) s e (p .count + 0) (omega (arith, both))
+        (eq-eqb (cutLink (cutsOf p ++ s ∷ e ∷ x) (p .count + 0)) e (link-right (cutsOf p) (s ∷ e ∷ x) (p .count) h 0))
+        (omega (arith, slot-right (cutsOf p) (s ∷ e ∷ x) (p .count) h 0)) in
+        too-many plan further (cutsOf p ++ s ∷ e ∷ x) (p .count + n) (omega (arith, length-append (g .cuts) (s ∷ e ∷ []), g .long)) both
+        (subst (λ (k : ℕ). Apart further (k + 1)) all (apart-more (g .cuts) d s e (g .long) (g .apart y a) other))
+        (within-more plan (g .cuts) d (g .long) s e (cutsOf p ++ s ∷ e ∷ x) (g .within y a) cut)
 
 -- so for the pairs picked with which a loop began, whatever they are
 pub record Suspects (row table crossed : List ℕ) (z : Sizes) (n : ℕ) (down₀ : List ℕ) (qs₀ : Standing) (i₀ : ℕ)

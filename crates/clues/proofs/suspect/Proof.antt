@@ -1,9 +1,10 @@
 -- `clues::suspect` meets its contract: each turn plays one slot more, or cuts one more link that a slot names.
 use Prim.Native.Nat.{_+_, _-_}
 use native.Mathlib.Omega.{arith}
-use mathlib.Core.Path.{refl, sym}
+use mathlib.Core.Path.{refl, sym, _∙_}
 use mathlib.Core.Bool.{true≢false}
 use borrow.Author.Needs.{needs}
+use borrow.Author.Tests.{eqb-true}
 use Rattle.clues.proofs.Suspecting.{
   Suspects,
   suspects-none-yet,
@@ -14,6 +15,7 @@ use Rattle.clues.proofs.Suspecting.{
   suspects-none,
   suspects-more,
   suspects-over,
+  suspects-only,
 }
 use Rattle.clues.proofs.suspect.Statement.{statement}
 use Rattle.clues.proofs.suspect.Tie as tie
@@ -49,13 +51,15 @@ loop-again c =
 
 returns : tie.Need-returns Inv-loop μ-loop
 returns c =
-    let may = c .before .before .before .before .before .before .before .before .before .before .before .before .before .pre in
-    let inv = c .before .before .before .before .before .before .before .before .loop .inv .of _ may refl refl in (
-      λ t.
-          suspects-none _ _ _ _ _ _ _ may _ _ _ _ inv (c .before .before .before .before .before .before .if1 .taken) _
-          (c .before .before .before .before .look .ensures) _ (c .before .before .clue .given .1) (c .if2 .taken),
-      λ f. absurd (true≢false f),
-    )
+    let may = c .before .before .before .before .before .before .before .before .before .before .before .before .before .before .pre in
+    let inv = c .before .before .before .before .before .before .before .before .before .loop .inv .of _ may refl refl in
+    record {
+      none = λ t.
+          suspects-none _ _ _ _ _ _ _ may _ _ _ _ inv (c .before .before .before .before .before .before .before .if1 .taken) _
+          (c .before .before .before .before .before .look .ensures) _ (c .before .before .before .clue .given .1) (c .before .if2 .taken);
+      whole = λ f. absurd (true≢false (sym (c .given-up .ensures) ∙ f));
+      only = λ f. absurd (true≢false (sym (c .given-up .ensures) ∙ f));
+    }
 
 array-write-down : tie.Need-array-write-down Inv-loop μ-loop
 array-write-down c =
@@ -75,23 +79,29 @@ loop-again-2 c =
 
 returns-2 : tie.Need-returns-2 Inv-loop μ-loop
 returns-2 c =
-    let may = c .before .before .before .before .before .before .before .before .before .before .before .pre in
-    let inv = c .before .before .before .before .before .before .loop .inv .of _ may refl refl in (
-      λ t.
-          suspects-dead _ _ _ _ _ _ _ may _ _ _ _ inv (c .before .before .before .before .if1 .taken) _ (c .before .before .look .ensures)
-          (c .enum-told2 .given .1),
-      λ f. absurd (true≢false f),
-    )
+    let may = c .before .before .before .before .before .before .before .before .before .before .before .before .pre in
+    let inv = c .before .before .before .before .before .before .before .loop .inv .of _ may refl refl in
+    record {
+      none = λ t.
+          suspects-dead _ _ _ _ _ _ _ may _ _ _ _ inv (c .before .before .before .before .before .if1 .taken) _
+          (c .before .before .before .look .ensures) (c .before .enum-told2 .given .1);
+      whole = λ f. absurd (true≢false (sym (c .given-up2 .ensures) ∙ f));
+      only = λ f. absurd (true≢false (sym (c .given-up2 .ensures) ∙ f));
+    }
 
 returns-3 : tie.Need-returns-3 Inv-loop μ-loop
 returns-3 c =
     let may = c .before .before .before .before .before .before .before .pre in
     let inv = c .before .before .loop .inv .of _ may refl refl in
-    (λ t. absurd (true≢false (sym t)), λ f none. suspects-over _ _ _ _ _ _ _ may _ _ _ _ inv (c .if1 .left) none)
+    record {
+      none = λ t. absurd (true≢false (sym t));
+      whole = λ f none. suspects-over _ _ _ _ _ _ _ may _ _ _ _ inv (c .if1 .left) none;
+      only = λ f all s e x long whole. suspects-only _ _ _ _ _ _ _ may _ _ _ _ inv (eqb-true _ 0 all) s e whole x long;
+    }
 
 pub suspect-spec : {M : Type 1} → statement M
 suspect-spec =
     tie.close
     (tie.spec Inv-loop μ-loop loop-holds slice-aggregate-look look-requires (λ c. search needs) (λ c. search needs) (λ c. search needs)
-    loop-again (λ c. search needs) returns array-write-down (λ c. search needs) (λ c. search needs) loop-again-2 (λ c. search needs)
-    returns-2 returns-3)
+    loop-again (λ c. search needs) (λ c κs. search needs) returns array-write-down (λ c. search needs) (λ c. search needs) loop-again-2
+    (λ c. search needs) (λ c κs. search needs) returns-2 returns-3)
