@@ -87,6 +87,33 @@ module _ (row table crossed : List ℕ) (z : Sizes) (ps : Standing) (p : Picked)
             same;
       }
 
+  -- an answer cuts a link that is not down: then no pair cuts it yet, and with it all that are named are too many once none is to come
+  module _ (down : List ℕ) (qs : Standing) (left i : ℕ) (g : Suspecting row crossed z p n down qs left i) (x : List ℕ)
+      (a : Answer row crossed p n x) (s e : ℕ) (whole : isDown down e ≡ false) (cut : isCut (planOf row) (cutsOf p ++ x) s e ≡ true) where
+    abbrev longer : List ℕ
+    longer = g .cuts ++ s ∷ e ∷ []
+
+    within-longer : Within (isCut (planOf row) longer) (isCut (planOf row) (cutsOf p ++ x))
+    within-longer = within-more (planOf row) (g .cuts) (p .count + (n - left)) (g .long) s e (cutsOf p ++ x) (g .within x a) cut
+
+    new : (j : ℕ) → j < p .count + (n - left) → cutLink (g .cuts) j ≡ e → ⊥
+    new j h same =
+        let k = i + cutSlot (g .cuts) j in
+        true≢false
+        (sym (is-cut (planOf row) (g .cuts) k e j (omega (arith, g .long)) (eq-eqb (cutLink (g .cuts) j) e same) (omega arith)) ∙
+        sym (g .are k e (omega arith)) ∙ whole)
+
+    apart-longer : Apart longer (p .count + (n - left) + 1)
+    apart-longer = apart-more (g .cuts) (p .count + (n - left)) s e (g .long) (g .apart x a) new
+
+    one-too-many : left ≡ 0 → ⊥
+    one-too-many zero =
+        let all : p .count + (n - left) ≡ p .count + n = omega arith in
+        too-many (planOf row) longer (cutsOf p ++ x) (p .count + n)
+        (omega (arith, length-append (g .cuts) (s ∷ e ∷ []), g .long))
+        (omega (arith, length-append (cutsOf p) x, a .long, may .holding .chosen .long))
+        (subst (λ (k : ℕ). Apart longer (k + 1)) all apart-longer) within-longer
+
   module _ (down : List ℕ) (qs : Standing) (left i : ℕ) (g : Suspecting row crossed z p n down qs left i) (l : i < z .timeout) where
     pub may-look : MayLook row table crossed z qs
     may-look = record { play = may .play; stand = g .stand .next .stand; early = omega (arith, g .stand .time); size = may .size }
@@ -167,41 +194,21 @@ module _ (row table crossed : List ℕ) (z : Sizes) (ps : Standing) (p : Picked)
               may .play .few,
             )
 
-        abbrev longer : List ℕ
-        longer = g .cuts ++ i ∷ e ∷ []
-
         module _ (x : List ℕ) (a : Answer row crossed p n x) where
           convicted : Convicts (isCut (planOf row) (g .cuts) i) (isCut (planOf row) (cutsOf p ++ x) i)
               (eventIn (planOf row) (g .cuts) i (says .0))
           convicted = convicts x a (says .0) (says .1)
 
-          is-whole : isCut (planOf row) (g .cuts) i e ≡ false
-          is-whole = ap (isCut (planOf row) (g .cuts) i) (sym (says .3)) ∙ convicted .whole
+          is-whole : isDown down e ≡ false
+          is-whole = g .are i e (omega arith) ∙ ap (isCut (planOf row) (g .cuts) i) (sym (says .3)) ∙ convicted .whole
 
-          within-longer : Within (isCut (planOf row) longer) (isCut (planOf row) (cutsOf p ++ x))
-          within-longer =
-              within-more (planOf row) (g .cuts) (p .count + (n - left)) (g .long) i e (cutsOf p ++ x) (g .within x a)
-              (ap (isCut (planOf row) (cutsOf p ++ x) i) (sym (says .3)) ∙ convicted .cut)
-
-          -- it is cut by no pair, for then it would be down
-          new : (j : ℕ) → j < p .count + (n - left) → cutLink (g .cuts) j ≡ e → ⊥
-          new j h same =
-              let k = i + cutSlot (g .cuts) j in
-              true≢false
-              (sym (is-cut (planOf row) (g .cuts) k e j (omega (arith, g .long)) (eq-eqb (cutLink (g .cuts) j) e same) (omega arith)) ∙
-              sym (g .are k e (omega arith)) ∙ g .are i e (omega arith) ∙ is-whole)
-
-          apart-longer : Apart longer (p .count + (n - left) + 1)
-          apart-longer = apart-more (g .cuts) (p .count + (n - left)) i e (g .long) (g .apart x a) new
+          is-cut-there : isCut (planOf row) (cutsOf p ++ x) i e ≡ true
+          is-cut-there = ap (isCut (planOf row) (cutsOf p ++ x) i) (sym (says .3)) ∙ convicted .cut
 
         pub suspects-none : left ≡ 0 → NoneOf (planOf row) (Matches (planOf row) crossed) (cutsOf p) n
         suspects-none zero x long good matches =
             let a : Answer row crossed p n x = record { long = long; good = good; matches = matches } in
-            let all : p .count + (n - left) ≡ p .count + n = omega arith in
-            too-many (planOf row) longer (cutsOf p ++ x) (p .count + n)
-            (omega (arith, length-append (g .cuts) (i ∷ e ∷ []), g .long))
-            (omega (arith, length-append (cutsOf p) x, may .holding .chosen .long))
-            (subst (λ (k : ℕ). Apart longer (k + 1)) all (apart-longer x a)) (within-longer x a)
+            one-too-many down qs left i g x a i e (is-whole x a) (is-cut-there x a) zero
 
         pub suspects-more : 0 < left → Suspecting row crossed z p n (set down e 1) qs (left - 1) i
         suspects-more some =
@@ -209,7 +216,7 @@ module _ (row table crossed : List ℕ) (z : Sizes) (ps : Standing) (p : Picked)
             let d = p .count + (n - left) in
             let more : d + 1 ≡ p .count + (n - (left - 1)) = omega (arith, g .few) in
             record {
-              cuts = longer;
+              cuts = g .cuts ++ i ∷ e ∷ [];
               few = omega (arith, g .few);
               long = omega (arith, length-append (g .cuts) (i ∷ e ∷ []), g .long, g .few);
               bare = λ q. absurd (omega (arith, g .few));
@@ -226,8 +233,9 @@ module _ (row table crossed : List ℕ) (z : Sizes) (ps : Standing) (p : Picked)
                         };
                   };
               before = matches-more plan (g .cuts) d (g .long) i e crossed (g .before);
-              within = λ x a. within-longer x a;
-              apart = λ x a. subst (Apart longer) more (apart-longer x a);
+              within = λ x a. within-longer down qs left i g x a i e (is-whole x a) (is-cut-there x a);
+              apart = λ x a.
+                  subst (Apart (g .cuts ++ i ∷ e ∷ [])) more (apart-longer down qs left i g x a i e (is-whole x a) (is-cut-there x a));
             }
 
   -- a whole list at the end
@@ -238,35 +246,17 @@ module _ (row table crossed : List ℕ) (z : Sizes) (ps : Standing) (p : Picked)
       let same : g .cuts ≡ cutsOf p = g .bare (omega (arith, g .few)) in
       subst (λ (c : List ℕ). Matches (planOf row) crossed c) same (subst (MatchesBefore (planOf row) crossed (g .cuts)) t (g .before))
 
-  -- where as many links are named as pairs are to come, an answer cuts no other
-  module _ (down : List ℕ) (qs : Standing) (left i : ℕ) (g : Suspecting row crossed z p n down qs left i) (zero : left ≡ 0) (s e : ℕ)
-      (whole : isDown down e ≡ false) where
-    abbrev further : List ℕ
-    further = g .cuts ++ s ∷ e ∷ []
-
-    other : (j : ℕ) → j < p .count + (n - left) → cutLink (g .cuts) j ≡ e → ⊥
-    other j h same =
-        let k = i + cutSlot (g .cuts) j in
-        true≢false
-        (sym (is-cut (planOf row) (g .cuts) k e j (omega (arith, g .long)) (eq-eqb (cutLink (g .cuts) j) e same) (omega arith)) ∙
-        sym (g .are k e (omega arith)) ∙ whole)
-
-    pub suspects-only : (x : List ℕ) → length x + 2 ≡ 2 * n → Not (planOf row) (Matches (planOf row) crossed) (cutsOf p ++ s ∷ e ∷ x)
-    suspects-only x long good matches =
-        let plan = planOf row in
-        let y : List ℕ = s ∷ e ∷ x in
-        let a : Answer row crossed p n (s ∷ e ∷ x) = record { long = omega arith; good = good; matches = matches } in
-        let h = may .holding .chosen .long in
-        let d = p .count + (n - left) in
-        let all : d ≡ p .count + n = omega arith in
-        let both : length (cutsOf p ++ s ∷ e ∷ x) ≡ 2 * (p .count + n) = omega (arith, length-append (cutsOf p) (s ∷ e ∷ x), h) in
-        let cut : isCut plan (cutsOf p ++ s ∷ e ∷ x) s e ≡ true =
-        is-cut plan (cutsOf p ++ s ∷ e ∷ x) s e (p .count + 0) (omega (arith, both))
-        (eq-eqb (cutLink (cutsOf p ++ s ∷ e ∷ x) (p .count + 0)) e (link-right (cutsOf p) (s ∷ e ∷ x) (p .count) h 0))
-        (omega (arith, slot-right (cutsOf p) (s ∷ e ∷ x) (p .count) h 0)) in
-        too-many plan further (cutsOf p ++ s ∷ e ∷ x) (p .count + n) (omega (arith, length-append (g .cuts) (s ∷ e ∷ []), g .long)) both
-        (subst (λ (k : ℕ). Apart further (k + 1)) all (apart-more (g .cuts) d s e (g .long) (g .apart y a) other))
-        (within-more plan (g .cuts) d (g .long) s e (cutsOf p ++ s ∷ e ∷ x) (g .within y a) cut)
+  -- where as many links are named as pairs are to come, an answer cuts no other first
+  pub suspects-only : (down : List ℕ) (qs : Standing) (left i : ℕ) → Suspecting row crossed z p n down qs left i → left ≡ 0 → (s e : ℕ) →
+      isDown down e ≡ false → (x : List ℕ) → length x + 2 ≡ 2 * n → Not (planOf row) (Matches (planOf row) crossed) (cutsOf p ++ s ∷ e ∷ x)
+  suspects-only down qs left i g zero s e whole x long good matches =
+      let y = s ∷ e ∷ x in
+      let h = may .holding .chosen .long in
+      let cut : isCut (planOf row) (cutsOf p ++ y) s e ≡ true =
+      is-cut (planOf row) (cutsOf p ++ y) s e (p .count + 0) (omega (arith, length-append (cutsOf p) y, h))
+      (eq-eqb (cutLink (cutsOf p ++ y) (p .count + 0)) e (link-right (cutsOf p) y (p .count) h 0))
+      (omega (arith, slot-right (cutsOf p) y (p .count) h 0)) in
+      one-too-many down qs left i g y (record { long = omega arith; good = good; matches = matches }) s e whole cut zero
 
 -- so for the pairs picked with which a loop began, whatever they are
 pub record Suspects (row table crossed : List ℕ) (z : Sizes) (n : ℕ) (down₀ : List ℕ) (qs₀ : Standing) (i₀ : ℕ)
