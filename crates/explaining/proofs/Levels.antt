@@ -2,11 +2,11 @@
 use Prim.Native.Nat.{ℕ, _+_, _-_, _*_, _≤_, _<_}
 use native.Mathlib.Omega.{arith}
 use mathlib.Core.Path.{_≡_, refl, sym, _∙_, ap, ap₂, subst}
-use mathlib.Core.Bool.{Bool, true, false}
+use mathlib.Core.Bool.{Bool, true, false, not, _||_}
 use mathlib.Core.List.{List, [], _∷_, _++_}
 use lib.ListN.{length, take}
 use lib.Dec.{ltb}
-use borrow.Author.Tests.{ltb-true, ltb-false, not-false, not-true}
+use borrow.Author.Tests.{ltb-true, ltb-false}
 use Rattle.scope.specs.Limits.{mostLinks, mostCuts}
 use Rattle.scope.specs.Lowest.{seek}
 use Rattle.cuts.specs.Down.{isDown}
@@ -21,10 +21,12 @@ use Rattle.picks.specs.declared.Picked.{Picked}
 use Rattle.picks.specs.Picks.{cutsOf, withPair, StandAt}
 use Rattle.picks.proofs.Picking.{down-already, cuts-more, holding-more, stand-more}
 use Rattle.clues.specs.declared.Seen.{Seen}
-use Rattle.clues.specs.Clues.{MatchesIn, MatchesBefore, Matches, MayLook, Shows, Looked}
+use Rattle.clues.specs.declared.Suspicion.{Suspicion}
+use Rattle.clues.specs.Clues.{MatchesIn, MatchesBefore, Matches, MayLook, Shows, Looked, Suspected}
 use Rattle.clues.proofs.Lists.{matches-more}
 use Rattle.explaining.specs.declared.Found.{Found}
-use Rattle.explaining.specs.Walk.{isWhole, isClue, noFound, MaySeek, MaySeekIn, Sought, SoughtIn}
+use Rattle.explaining.specs.Walk.{isOpen, isClue, noFound, MaySeek, MaySeekIn, Sought, SoughtIn}
+use Rattle.explaining.proofs.Opening.{closed, open-whole}
 use Rattle.explaining.proofs.Matching.{still-differs, seen-same, seen-other}
 use Rattle.explaining.proofs.Telling.{tells-none, tells-some, tells-more}
 
@@ -49,19 +51,19 @@ pub record Climbing (row crossed : List ℕ) (z : Sizes) (p : Picked) (n s e : �
 pub goes-up : (test : ℕ → Bool) (n i r : ℕ) → r ≡ seek test n (i + 1) → i < r
 goes-up test n i r e = omega (arith, seek-from test n (i + 1))
 
-module _ (row table crossed : List ℕ) (z : Sizes) (ps : Standing) (p : Picked) (n s e : ℕ)
-    (m : MaySeekIn row table crossed z ps p n s e) where
+module _ (row table crossed : List ℕ) (z : Sizes) (ps : Standing) (p : Picked) (n : ℕ) (named : List ℕ) (all : Bool) (s e : ℕ)
+    (m : MaySeekIn row table crossed z ps p n named all s e) where
   abbrev start : ℕ
   start = code (p .slot) (p .link)
 
   few : length (planOf row .links) ≤ mostLinks
   few = omega (arith, m .play .links, m .play .few)
 
-  -- links of slot s that are cut already are passed over
+  -- links of slot s that are not to be tried are passed over: they are cut already, or no list goes on with them
   looked : (i r : ℕ) → e ≤ i → i ≤ z .links → NoneIn (planOf row) (Matches (planOf row) crossed) (cutsOf p) (n - 1) (code s e) (code s i) →
-      r ≡ seek (isWhole (p .down)) (z .links - i) i → Looking row crossed z p n s e r
+      r ≡ seek (isOpen (p .down) named all) (z .links - i) i → Looking row crossed z p n s e r
   looked i r low high none found =
-      let test = isWhole (p .down) in
+      let test = isOpen (p .down) named all in
       let from = seek-from test (z .links - i) i in
       let most = seek-most test (z .links - i) i in
       record {
@@ -69,14 +71,15 @@ module _ (row table crossed : List ℕ) (z : Sizes) (ps : Standing) (p : Picked)
             passed (planOf row) (Matches (planOf row) crossed) few (cutsOf p) (p .count) start (m .holding .chosen) (n - 1) (code s e) s i r
             (omega (arith, m .play .few)) none
             (λ b u w x long.
-            down-already row z p (m .holding) b (Matches (planOf row) crossed) few (n - 1) s
-            (not-false (isDown (p .down) b) (seek-low test (z .links - i) i b u (omega arith))) x);
+            closed (isDown (p .down) b) all (isDown named b) (seek-low test (z .links - i) i b u (omega arith))
+            (λ cut. down-already row z p (m .holding) b (Matches (planOf row) crossed) few (n - 1) s cut x)
+            (λ every other. m .only every s b x (omega (arith, m .some)) other));
         start = omega arith;
         within = omega arith;
-        whole = λ l. not-true (isDown (p .down) r) (rw found (seek-is test (z .links - i) i (omega arith)));
+        whole = λ l. open-whole (isDown (p .down) r) (not all || isDown named r) (rw found (seek-is test (z .links - i) i (omega arith)));
       }
 
-  pub looks-first : (r : ℕ) → r ≡ seek (isWhole (p .down)) (z .links - e) e → Looking row crossed z p n s e r
+  pub looks-first : (r : ℕ) → r ≡ seek (isOpen (p .down) named all) (z .links - e) e → Looking row crossed z p n s e r
   looks-first r = looked e r (omega arith) (m .link) (λ a b x long low high. absurd (omega arith))
 
   module _ (i : ℕ) (g : Looking row crossed z p n s e i) where
@@ -114,7 +117,8 @@ module _ (row table crossed : List ℕ) (z : Sizes) (ps : Standing) (p : Picked)
           first-here (planOf row) (Matches (planOf row) crossed) few (cutsOf p) (p .count) start (m .holding .chosen) (n - 1) (code s e) s i
           (take (2 * (p .count + n)) (r .numbers)) (omega (arith, m .play .few)) (omega (arith, g .start)) (g .none) (rw more at first))
 
-      pub looks-on : (j : ℕ) → r .found ≡ false → j ≡ seek (isWhole (p .down)) (z .links - (i + 1)) (i + 1) → Looking row crossed z p n s e j
+      pub looks-on : (j : ℕ) → r .found ≡ false → j ≡ seek (isOpen (p .down) named all) (z .links - (i + 1)) (i + 1) →
+          Looking row crossed z p n s e j
       looks-on j t next =
           let all : NoneOf (planOf row) (Matches (planOf row) crossed) (cutsOf p ++ s ∷ i ∷ []) (n - 1) = rw more at (told .none t) in
           looked (i + 1) j (omega (arith, g .start)) (omega arith)
@@ -168,8 +172,9 @@ module _ (row table crossed : List ℕ) (z : Sizes) (ps : Standing) (p : Picked)
         }
 
     module _ (s e : ℕ) (qs : Standing) (g : Climbing row crossed z p n s e qs) where
-      pub may-look-in : s < z .timeout → MaySeekIn row table crossed z qs p n s e
-      may-look-in early =
+      pub may-look-in : (v : Suspicion) → Suspected row crossed p n v → v .hopeless ≡ false → s < z .timeout →
+          MaySeekIn row table crossed z qs p n (v .down) (v .all) s e
+      may-look-in v told hope early =
           record {
             good = m .suspect .good;
             play = m .suspect .play;
@@ -182,6 +187,7 @@ module _ (row table crossed : List ℕ) (z : Sizes) (ps : Standing) (p : Picked)
             early = early;
             link = g .link;
             later = g .later;
+            only = told .only hope;
           }
 
       pub may-look : s < z .timeout → MayLook row table crossed z qs

@@ -1,8 +1,8 @@
 -- The walk in the code's own terms: what it may be asked, and what it tells of the lists that match a table of crossings.
 use Prim.Native.Nat.{ℕ, _+_, _-_, _*_, _≤_, _<_}
 use mathlib.Core.Path.{_≡_}
-use mathlib.Core.Bool.{Bool, true, false, not}
-use mathlib.Core.List.{List, []}
+use mathlib.Core.Bool.{Bool, true, false, not, _&&_, _||_}
+use mathlib.Core.List.{List, [], _∷_, _++_}
 use lib.ListN.{length, getD, take, replicate}
 use Rattle.scope.specs.Limits.{mostCuts, crossedSize}
 use Rattle.scope.specs.Outcome.{gives}
@@ -26,6 +26,10 @@ use Rattle.explaining.specs.declared.Hunted.{Hunted}
 abbrev pub isWhole : List ℕ → ℕ → Bool
 isWhole down e = not (isDown down e)
 
+-- a link that is to be tried: not down and, where all that are to be cut are named, one of them
+abbrev pub isOpen : List ℕ → List ℕ → Bool → ℕ → Bool
+isOpen down named all e = isWhole down e && (not all || isDown named e)
+
 -- a slot differs
 abbrev pub isClue : Clue → Bool
 isClue Nothing = false
@@ -44,8 +48,9 @@ pub record MaySeek (row table crossed : List ℕ) (z : Sizes) (ps : Standing) (p
   pub suspect : MaySuspect row table crossed z ps p
   pub few : p .count + n ≤ mostCuts
 
--- the first of them in slot s, from link e on
-pub record MaySeekIn (row table crossed : List ℕ) (z : Sizes) (ps : Standing) (p : Picked) (n s e : ℕ) : Type 0 where
+-- the first of them in slot s, from link e on; and where all is true, no list that matches goes on with a link that is not named
+pub record MaySeekIn (row table crossed : List ℕ) (z : Sizes) (ps : Standing) (p : Picked) (n : ℕ) (named : List ℕ) (all : Bool) (s e : ℕ)
+    : Type 0 where
   pub good : rules (planOf row) ≡ gives 0
   pub play : Playable row table z
   pub holding : Holding row z p
@@ -57,6 +62,8 @@ pub record MaySeekIn (row table crossed : List ℕ) (z : Sizes) (ps : Standing) 
   pub early : s < z .timeout
   pub link : e ≤ z .links
   pub later : code (p .slot) (p .link) ≤ code s e
+  pub only : all ≡ true → (a b : ℕ) (x : List ℕ) → length x + 2 ≡ 2 * n → isDown named b ≡ false →
+      Not (planOf row) (Matches (planOf row) crossed) (cutsOf p ++ a ∷ b ∷ x)
 
 -- nothing, and then so much is known; or a list of c pairs, of which so much is known, with zeros after it
 pub record Tells (None : Type 0) (First : List ℕ → Type 0) (c : ℕ) (r : Found) : Type 0 where

@@ -1,17 +1,19 @@
 // The walk over cut lists that seeks those whose replay crosses what a table of crossings has: lists are tried in the order of document
-// 01's verdict, fewest pairs first. `clues::hopeless` says of most that no list from here can match, so that nearly every list that is tried
-// leads to one; and where the slot before the next pair differs from the table, no later pair mends it. It leans on `picks` for the pairs
-// picked, on `clues` for what a slot says, and on `order` for the steps from pair to pair.
+// 01's verdict, fewest pairs first. `clues::suspect` says of most that no list from here can match, so that nearly every list that is tried
+// leads to one; where it names as many links as pairs are to come, only these are tried; and where the slot before the next pair differs
+// from the table, no later pair mends it. It leans on `picks` for the pairs picked, on `clues` for what a slot says, and on `order` for the
+// steps from pair to pair.
 use clues::Clue;
 use picks::Picked;
 use picks::Sizes;
 use scope::limits::CUT_NUMBERS;
+use scope::limits::LINKS;
 use step::Standing;
 ghost use Prim.Native.Nat.{_-_, _≤_};
 ghost use mathlib.Core.Path.{_≡_};
 ghost use Rattle.scope.specs.Limits.{mostLinks};
 ghost use Rattle.scope.specs.Lowest.{seek};
-ghost use Rattle.explaining.specs.Walk.{isWhole, isClue, noFound, noHunted, MaySeek, MaySeekIn, Sought, SoughtIn, MayHunt, Hunts};
+ghost use Rattle.explaining.specs.Walk.{isWhole, isOpen, isClue, noFound, noHunted, MaySeek, MaySeekIn, Sought, SoughtIn, MayHunt, Hunts};
 
 // A list that matches; or none.
 pub struct Found {
@@ -63,14 +65,21 @@ fn whole(down: &[u8], e: usize) -> bool
     !cuts::is_down(down, e)
 }
 
-// The first link from e on that is not cut already, or how many links there are.
-fn next_link(down: &[u8], e: usize, links: usize) -> usize
+// A link is to be tried: it is not cut already and, where all that are to be cut are named, it is one of them.
+fn open(down: &[u8], named: &[u8], all: bool, e: usize) -> bool
+    ensures { λ r. ⌜ r ≡ isOpen (now (down .entry)) (now (named .entry)) all e ⌝ }
+{
+    whole(down, e) && (!all || cuts::is_down(named, e))
+}
+
+// The first link from e on that is to be tried, or how many links there are.
+fn next_link(down: &[u8], named: &[u8], all: bool, e: usize, links: usize) -> usize
     requires { ⌜ (e ≤ links) × (links ≤ mostLinks) ⌝ }
-    ensures { λ r. ⌜ r ≡ seek (isWhole (now (down .entry))) (links - e) e ⌝ }
+    ensures { λ r. ⌜ r ≡ seek (isOpen (now (down .entry)) (now (named .entry)) all) (links - e) e ⌝ }
 {
     let mut i = e;
     while i < links {
-        if whole(down, i) {
+        if open(down, named, all, i) {
             return i;
         }
         i += 1;
@@ -78,7 +87,8 @@ fn next_link(down: &[u8], e: usize, links: usize) -> usize
     i
 }
 
-// All lists that go on with a pair of slot s, from link e on, and have n pairs more.
+// All lists that go on with a pair of slot s, from link e on, and have n pairs more. Where all is true, one that
+// matches goes on with a link that is named.
 fn in_slot(
     row: &[u16],
     table: &[u8],
@@ -87,22 +97,24 @@ fn in_slot(
     ps: Standing,
     p: Picked,
     n: usize,
+    named: [u8; LINKS],
+    all: bool,
     s: usize,
     e: usize,
 ) -> Found
-    requires { ⌜ MaySeekIn (now row) (now table) (now crossed) z ps p n s e ⌝ }
+    requires { ⌜ MaySeekIn (now row) (now table) (now crossed) z ps p n named all s e ⌝ }
     ensures { λ r. ⌜ SoughtIn (now (row .entry)) (now (crossed .entry)) p n s e r ⌝ }
 {
     let down = p.down;
     let links = z.links;
-    let mut i = next_link(&down, e, links);
+    let mut i = next_link(&down, &named, all, e, links);
     while i < links {
         let q = picks::pick(p, s, i);
         let r = level(row, table, crossed, z, ps, q, n - 1);
         if r.found {
             return r;
         }
-        i = next_link(&down, i + 1, links);
+        i = next_link(&down, &named, all, i + 1, links);
     }
     nothing()
 }
@@ -120,7 +132,8 @@ fn level(
     requires { ⌜ MaySeek (now row) (now table) (now crossed) z ps p n ⌝ }
     ensures { λ r. ⌜ Sought (now (row .entry)) (now (crossed .entry)) p n r ⌝ }
 {
-    if clues::hopeless(row, table, crossed, z, ps, p, n) {
+    let suspicion = clues::suspect(row, table, crossed, z, ps, p, n);
+    if suspicion.hopeless {
         return nothing();
     }
     if n == 0 {
@@ -130,12 +143,14 @@ fn level(
             numbers,
         };
     }
+    let named = suspicion.down;
+    let all = suspicion.all;
     let down = p.down;
     let mut qs = ps;
     let mut s = p.slot;
     let mut e = p.link;
     while s < z.timeout {
-        let r = in_slot(row, table, crossed, z, qs, p, n, s, e);
+        let r = in_slot(row, table, crossed, z, qs, p, n, named, all, s, e);
         if r.found {
             return r;
         }

@@ -1,31 +1,32 @@
--- `explaining::next_link` meets its contract: every link before i is cut already.
+-- `explaining::next_link` meets its contract: no link before i is to be tried.
 use Prim.Native.Nat.{_-_, _≤_}
 use mathlib.Core.Path.{_≡_, refl, sym, _∙_}
 use borrow.Author.Needs.{needs}
 use Rattle.scope.specs.Lowest.{seek}
 use Rattle.scope.proofs.Lowest.{seek-found, seek-next, seek-done}
-use Rattle.explaining.specs.Walk.{isWhole}
+use Rattle.explaining.specs.Walk.{isOpen}
 use Rattle.explaining.proofs.next_link.Statement.{statement}
 use Rattle.explaining.proofs.next_link.Tie as tie
 
 abbrev Inv-loop : tie.InvT-loop
-Inv-loop down e links i₀ i = (i ≤ links) × (seek (isWhole down) (links - i) i ≡ seek (isWhole down) (links - e) e)
+Inv-loop down named all e links i₀ i =
+    (i ≤ links) × (seek (isOpen down named all) (links - i) i ≡ seek (isOpen down named all) (links - e) e)
 
 abbrev μ-loop : tie.MeasureT-loop
-μ-loop down e links i₀ i = links - i
+μ-loop down named all e links i₀ i = links - i
 
 loop-holds : tie.Need-loop-holds Inv-loop μ-loop
-loop-holds c = (c .before .pre .0, refl)
+loop-holds c = (c .before .before .pre .0, refl)
 
 returns : tie.Need-returns Inv-loop μ-loop
 returns c =
-    sym (seek-found _ _ _ (c .before .before .loop-test .taken) (sym (c .before .whole .ensures) ∙ c .if1 .taken)) ∙
+    sym (seek-found _ _ _ (c .before .before .loop-test .taken) (sym (c .before .open .ensures) ∙ c .if1 .taken)) ∙
     c .before .before .before .loop .inv .1
 
 loop-again : tie.Need-loop-again Inv-loop μ-loop
 loop-again c = (
   search needs,
-  sym (seek-next _ _ _ (c .before .before .loop-test .taken) (sym (c .before .whole .ensures) ∙ c .if1 .left)) ∙
+  sym (seek-next _ _ _ (c .before .before .loop-test .taken) (sym (c .before .open .ensures) ∙ c .if1 .left)) ∙
       c .before .before .before .loop .inv .1,
 )
 
