@@ -499,10 +499,12 @@ static int look(const position *ps, position *next, int i) {
     return NOTHING;
 }
 
-/* No list that goes on from the pairs picked with n more explains the capture: more links are named than that, or nothing can mend it. */
-static int hopeless(const position *ps, int i, int n) {
+/* No list that goes on from the pairs picked with n more explains the capture: more links are named than that, or nothing can mend it. Where as many
+   are named, `only` has those, since a list that explains it cuts no other; else all links. */
+static int hopeless(const position *ps, int i, int n, usize *only) {
     position room[2][32];
     int names[3], named = 0, none = 0;
+    usize all = 0;
     while (i < T && !none) {
         int clue = look(ps, room[i & 1], i);
         if (clue == NOTHING) ps = room[i++ & 1];
@@ -510,8 +512,10 @@ static int hopeless(const position *ps, int i, int n) {
         else {
             names[named++] = clue;
             cut_from[clue] = i;
+            all |= 1ul << clue;
         }
     }
+    *only = named == n ? all : ~0ul;
     while (named) cut_from[names[--named]] = 65535;
     return none;
 }
@@ -519,11 +523,12 @@ static int hopeless(const position *ps, int i, int n) {
 /* The first list of n more pairs, from slot s and link e on, that explains the capture. */
 static int seek(const position *ps, int n, int at, int s, int e) {
     position room[2][32];
-    if (hopeless(ps, s, n)) return 0;
+    usize only;
+    if (hopeless(ps, s, n, &only)) return 0;
     if (!n) return 1;
     for (; s < T; s++, e = 0) {
         for (; e < E; e++) {
-            if (cut_from[e] != 65535) continue;
+            if (cut_from[e] != 65535 || !(only >> e & 1)) continue;
             cut_from[e] = pairs[at] = s;
             pairs[at + 1] = e;
             int found = seek(ps, n - 1, at + 2, s, e + 1);
