@@ -452,14 +452,18 @@ static u8 crossed[64 * 32], input[6144];
 static int given; /* how many numbers were read */
 enum { NOTHING = -1, DEAD = -2 };
 
+static int past[64]; /* of each link, the slot behind the last one in which the capture has it crossed: it is whole up to there */
+
 static int keep(int *twice) { /* the capture into its table, and whether a message is on two links in one slot: refusal 23 */
     int last = -1;
     for (int i = 0; i < 64 * 32; i++) crossed[i] = 0;
+    for (int e = 0; e < 64; e++) past[e] = 0;
     *twice = 0;
     for (int j = 0; j < given; j += 3) {
         int s = input[j], e = input[j + 1], m = input[j + 2], code = (s * 64 + e) * 32 + m;
         if (given - j < 3 || s >= T || e >= E || m >= M || code <= last) return refuse(23, j / 3);
         last = code;
+        past[e] = s + 1;
         if (crossed[s * 32 + m]) *twice = 1;
         else crossed[s * 32 + m] = e + 1;
     }
@@ -528,7 +532,7 @@ static int seek(const position *ps, int n, int at, int s, int e) {
     if (!n) return 1;
     for (; s < T; s++, e = 0) {
         for (; e < E; e++) {
-            if (cut_from[e] != 65535 || !(only >> e & 1)) continue;
+            if (cut_from[e] != 65535 || !(only >> e & 1) || s < past[e]) continue;
             cut_from[e] = pairs[at] = s;
             pairs[at + 1] = e;
             int found = seek(ps, n - 1, at + 2, s, e + 1);

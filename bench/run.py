@@ -223,13 +223,14 @@ def crossings(plan, cuts):
 
 
 def captures(plan):
-    """The captures that are asked about, by name. Late cuts are those of the last places of the plan, each in the slot of its place."""
-    timeout, links, messages = plan_of(plan)
+    """The captures that are asked about, by name. Random cuts are of links that a message still has before it, each in a random slot up to its last
+    place there; late cuts are those of the last places of the plan, each in the slot of its place."""
+    _, _, messages = plan_of(plan)
     draw = random.Random(plan)
-    drawn = {'%d cuts' % n: sorted((draw.randrange(timeout), link) for link in draw.sample(range(links), n)) for n in range(5)}
     last = {}
     for slot, link in sorted((slot, link) for places in messages for link, slot, _ in places):
         last[link] = slot
+    drawn = {'%d cuts' % n: sorted((draw.randrange(last[link] + 1), link) for link in draw.sample(sorted(last), n)) for n in range(5)}
     late = sorted(((slot, link) for link, slot in last.items()), reverse=True)
     drawn.update(('late %d' % n, sorted(late[:n])) for n in (1, 2, 3))
     made = {name: crossings(plan, cuts) for name, cuts in drawn.items()}
@@ -253,7 +254,7 @@ def explained(goals):
             for k in 1, 2, 3:
                 question = 'infer%d' % k
                 pairs, slots = ask(c, plan, 'slots%d' % k, 1, given=given)[0].split()
-                turns = 1 + 200000 // (100 + int(slots))  # so many that the time can be told
+                turns = 1 + 400000 // (20 + int(slots))  # so many that the time can be told
                 taken = []
                 for _ in range(3):
                     said, mine = ask(ours, plan, question, turns, given=given)
