@@ -2,11 +2,11 @@
 use Prim.Native.Nat.{ℕ, _+_, _-_, _*_, _≤_, _<_}
 use native.Mathlib.Omega.{arith}
 use mathlib.Core.Path.{_≡_, refl, sym, _∙_, ap, ap₂, subst}
-use mathlib.Core.Bool.{Bool, true, false, not, _||_}
+use mathlib.Core.Bool.{Bool, true, false, not, _&&_, _||_}
 use mathlib.Core.List.{List, [], _∷_, _++_}
-use lib.ListN.{length, take}
+use lib.ListN.{length, getD, take}
 use lib.Dec.{ltb}
-use borrow.Author.Tests.{ltb-true, ltb-false}
+use borrow.Author.Tests.{ltb-true, ltb-false, leb-false}
 use Rattle.scope.specs.Limits.{mostLinks, mostCuts}
 use Rattle.scope.specs.Lowest.{seek}
 use Rattle.cuts.specs.Down.{isDown}
@@ -25,7 +25,8 @@ use Rattle.clues.specs.declared.Suspicion.{Suspicion}
 use Rattle.clues.specs.Clues.{MatchesIn, MatchesBefore, Matches, MayLook, Shows, Looked, Suspected}
 use Rattle.clues.proofs.Lists.{matches-more}
 use Rattle.explaining.specs.declared.Found.{Found}
-use Rattle.explaining.specs.Walk.{isOpen, isClue, noFound, MaySeek, MaySeekIn, Sought, SoughtIn}
+use Rattle.explaining.specs.Walk.{isUnseen, isOpen, isClue, noFound, MaySeek, MaySeekIn, Sought, SoughtIn}
+use Rattle.explaining.proofs.Seen.{cut-too-early}
 use Rattle.explaining.proofs.Opening.{closed, open-whole}
 use Rattle.explaining.proofs.Matching.{still-differs, seen-same, seen-other}
 use Rattle.explaining.proofs.Telling.{tells-none, tells-some, tells-more}
@@ -51,19 +52,20 @@ pub record Climbing (row crossed : List ℕ) (z : Sizes) (p : Picked) (n s e : �
 pub goes-up : (test : ℕ → Bool) (n i r : ℕ) → r ≡ seek test n (i + 1) → i < r
 goes-up test n i r e = omega (arith, seek-from test n (i + 1))
 
-module _ (row table crossed : List ℕ) (z : Sizes) (ps : Standing) (p : Picked) (n : ℕ) (named : List ℕ) (all : Bool) (s e : ℕ)
-    (m : MaySeekIn row table crossed z ps p n named all s e) where
+module _ (row table crossed last : List ℕ) (z : Sizes) (ps : Standing) (p : Picked) (n : ℕ) (named : List ℕ) (all : Bool) (s e : ℕ)
+    (m : MaySeekIn row table crossed last z ps p n named all s e) where
   abbrev start : ℕ
   start = code (p .slot) (p .link)
 
   few : length (planOf row .links) ≤ mostLinks
   few = omega (arith, m .play .links, m .play .few)
 
-  -- links of slot s that are not to be tried are passed over: they are cut already, or no list goes on with them
+  -- links of slot s that are not to be tried are passed over: they are cut already, or crossed in this slot or later, or no list goes on
+  -- with them
   looked : (i r : ℕ) → e ≤ i → i ≤ z .links → NoneIn (planOf row) (Matches (planOf row) crossed) (cutsOf p) (n - 1) (code s e) (code s i) →
-      r ≡ seek (isOpen (p .down) named all) (z .links - i) i → Looking row crossed z p n s e r
+      r ≡ seek (isOpen (p .down) named last all s) (z .links - i) i → Looking row crossed z p n s e r
   looked i r low high none found =
-      let test = isOpen (p .down) named all in
+      let test = isOpen (p .down) named last all s in
       let from = seek-from test (z .links - i) i in
       let most = seek-most test (z .links - i) i in
       record {
@@ -71,19 +73,24 @@ module _ (row table crossed : List ℕ) (z : Sizes) (ps : Standing) (p : Picked)
             passed (planOf row) (Matches (planOf row) crossed) few (cutsOf p) (p .count) start (m .holding .chosen) (n - 1) (code s e) s i r
             (omega (arith, m .play .few)) none
             (λ b u w x long.
-            closed (isDown (p .down) b) all (isDown named b) (seek-low test (z .links - i) i b u (omega arith))
+            closed (isDown (p .down) b) (isUnseen last s b) all (isDown named b) (seek-low test (z .links - i) i b u (omega arith))
             (λ cut. down-already row z p (m .holding) b (Matches (planOf row) crossed) few (n - 1) s cut x)
+            (λ later good.
+            cut-too-early (planOf row) crossed z (cutsOf p) (p .count) s b x (m .play .timeout) (m .play .messages) (m .holding .chosen .long)
+            (m .lasts .seen s b (leb-false (getD last b 0) s later)))
             (λ every other. m .only every s b x (omega (arith, m .some)) other));
         start = omega arith;
         within = omega arith;
-        whole = λ l. open-whole (isDown (p .down) r) (not all || isDown named r) (rw found (seek-is test (z .links - i) i (omega arith)));
+        whole = λ l.
+            open-whole (isDown (p .down) r) (isUnseen last s r && (not all || isDown named r))
+            (rw found (seek-is test (z .links - i) i (omega arith)));
       }
 
-  pub looks-first : (r : ℕ) → r ≡ seek (isOpen (p .down) named all) (z .links - e) e → Looking row crossed z p n s e r
+  pub looks-first : (r : ℕ) → r ≡ seek (isOpen (p .down) named last all s) (z .links - e) e → Looking row crossed z p n s e r
   looks-first r = looked e r (omega arith) (m .link) (λ a b x long low high. absurd (omega arith))
 
   module _ (i : ℕ) (g : Looking row crossed z p n s e i) where
-    pub may-go-on : (q : Picked) → i < z .links → q ≡ withPair p s i → MaySeek row table crossed z ps q (n - 1)
+    pub may-go-on : (q : Picked) → i < z .links → q ≡ withPair p s i → MaySeek row table crossed last z ps q (n - 1)
     may-go-on q l is =
         let room : p .count < mostCuts = omega (arith, m .few, m .some) in
         record {
@@ -100,6 +107,7 @@ module _ (row table crossed : List ℕ) (z : Sizes) (ps : Standing) (p : Picked)
                     (matches-more (planOf row) (cutsOf p) (p .count) (m .holding .chosen .long) s i crossed (m .before));
                 size = m .size;
               };
+          lasts = m .lasts;
           few = rw is (omega (arith, m .few, m .some));
         }
 
@@ -117,7 +125,7 @@ module _ (row table crossed : List ℕ) (z : Sizes) (ps : Standing) (p : Picked)
           first-here (planOf row) (Matches (planOf row) crossed) few (cutsOf p) (p .count) start (m .holding .chosen) (n - 1) (code s e) s i
           (take (2 * (p .count + n)) (r .numbers)) (omega (arith, m .play .few)) (omega (arith, g .start)) (g .none) (rw more at first))
 
-      pub looks-on : (j : ℕ) → r .found ≡ false → j ≡ seek (isOpen (p .down) named all) (z .links - (i + 1)) (i + 1) →
+      pub looks-on : (j : ℕ) → r .found ≡ false → j ≡ seek (isOpen (p .down) named last all s) (z .links - (i + 1)) (i + 1) →
           Looking row crossed z p n s e j
       looks-on j t next =
           let all : NoneOf (planOf row) (Matches (planOf row) crossed) (cutsOf p ++ s ∷ i ∷ []) (n - 1) = rw more at (told .none t) in
@@ -133,7 +141,8 @@ module _ (row table crossed : List ℕ) (z : Sizes) (ps : Standing) (p : Picked)
         (slot-over (planOf row) (Matches (planOf row) crossed) few (cutsOf p) (p .count) start (m .holding .chosen) (n - 1) (code s e) s
         (subst (λ (j : ℕ). NoneIn (planOf row) (Matches (planOf row) crossed) (cutsOf p) (n - 1) (code s e) (code s j)) end (g .none)))
 
-module _ (row table crossed : List ℕ) (z : Sizes) (ps : Standing) (p : Picked) (n : ℕ) (m : MaySeek row table crossed z ps p n) where
+module _ (row table crossed last : List ℕ) (z : Sizes) (ps : Standing) (p : Picked) (n : ℕ)
+    (m : MaySeek row table crossed last z ps p n) where
   -- no list from here matches
   pub no-hope : (r : Found) → r ≡ noFound → NoneOf (planOf row) (Matches (planOf row) crossed) (cutsOf p) n → Sought row crossed p n r
   no-hope r is all = tells-none _ _ (p .count + n) r is all
@@ -173,7 +182,7 @@ module _ (row table crossed : List ℕ) (z : Sizes) (ps : Standing) (p : Picked)
 
     module _ (s e : ℕ) (qs : Standing) (g : Climbing row crossed z p n s e qs) where
       pub may-look-in : (v : Suspicion) → Suspected row crossed p n v → v .hopeless ≡ false → s < z .timeout →
-          MaySeekIn row table crossed z qs p n (v .down) (v .all) s e
+          MaySeekIn row table crossed last z qs p n (v .down) (v .all) s e
       may-look-in v told hope early =
           record {
             good = m .suspect .good;
@@ -182,6 +191,7 @@ module _ (row table crossed : List ℕ) (z : Sizes) (ps : Standing) (p : Picked)
             stand = g .stand;
             before = g .before;
             size = m .suspect .size;
+            lasts = m .lasts;
             few = m .few;
             some = omega (arith, some);
             early = early;

@@ -4,7 +4,8 @@ use mathlib.Core.Path.{_≡_}
 use mathlib.Core.Bool.{Bool, true, false, not, _&&_, _||_}
 use mathlib.Core.List.{List, [], _∷_, _++_}
 use lib.ListN.{length, getD, take, replicate}
-use Rattle.scope.specs.Limits.{mostCuts, crossedSize}
+use lib.Dec.{leb}
+use Rattle.scope.specs.Limits.{mostLinks, mostCuts, crossedSize}
 use Rattle.scope.specs.Outcome.{gives}
 use Rattle.scope.specs.Good.{rules}
 use Rattle.scope.specs.Plan.{planOf}
@@ -13,6 +14,7 @@ use Rattle.scope.specs.Verdict.{First}
 use Rattle.cuts.specs.Down.{isDown}
 use Rattle.step.specs.declared.Standing.{Standing}
 use Rattle.order.specs.Search.{code, Not, NoneOf, FirstOf, NoneIn, FirstFrom}
+use Rattle.capture.specs.Kept.{crossedAt}
 use Rattle.picks.specs.declared.Sizes.{Sizes}
 use Rattle.picks.specs.declared.Picked.{Picked}
 use Rattle.picks.specs.Picks.{cutsOf, Playable, Holding, StandAt}
@@ -26,9 +28,27 @@ use Rattle.explaining.specs.declared.Hunted.{Hunted}
 abbrev pub isWhole : List ℕ → ℕ → Bool
 isWhole down e = not (isDown down e)
 
--- a link that is to be tried: not down and, where all that are to be cut are named, one of them
-abbrev pub isOpen : List ℕ → List ℕ → Bool → ℕ → Bool
-isOpen down named all e = isWhole down e && (not all || isDown named e)
+-- a link that nobody crosses in slot s or later, by the slots noted for each link
+abbrev pub isUnseen : List ℕ → ℕ → ℕ → Bool
+isUnseen last s e = leb (getD last e 0) s
+
+-- a link that is to be tried in slot s: not down, not crossed from there on and, where all that are to be cut are named, one of them
+abbrev pub isOpen : List ℕ → List ℕ → List ℕ → Bool → ℕ → ℕ → Bool
+isOpen down named last all s e = isWhole down e && (isUnseen last s e && (not all || isDown named e))
+
+-- the table has link e crossed by a message, in slot s or later
+pub record SeenFrom (crossed : List ℕ) (z : Sizes) (s e : ℕ) : Type 0 where
+  pub slot : ℕ
+  pub message : ℕ
+  pub from : s ≤ slot
+  pub early : slot < z .timeout
+  pub there : message < z .messages
+  pub crosses : crossedAt crossed slot message ≡ e + 1
+
+-- for each link one more than a slot in which the table has it crossed, or 0; that it is the last such slot is only for speed
+pub record Lasts (crossed : List ℕ) (z : Sizes) (last : List ℕ) : Type 0 where
+  pub size : length last ≡ mostLinks
+  pub seen : (s e : ℕ) → s < getD last e 0 → SeenFrom crossed z s e
 
 -- a slot differs
 abbrev pub isClue : Clue → Bool
@@ -44,19 +64,21 @@ abbrev pub noHunted : Hunted
 noHunted = record { found = false; pairs = 0; numbers = replicate (2 * mostCuts) 0 }
 
 -- n pairs more may be sought
-pub record MaySeek (row table crossed : List ℕ) (z : Sizes) (ps : Standing) (p : Picked) (n : ℕ) : Type 0 where
+pub record MaySeek (row table crossed last : List ℕ) (z : Sizes) (ps : Standing) (p : Picked) (n : ℕ) : Type 0 where
   pub suspect : MaySuspect row table crossed z ps p
+  pub lasts : Lasts crossed z last
   pub few : p .count + n ≤ mostCuts
 
 -- the first of them in slot s, from link e on; and where all is true, no list that matches goes on with a link that is not named
-pub record MaySeekIn (row table crossed : List ℕ) (z : Sizes) (ps : Standing) (p : Picked) (n : ℕ) (named : List ℕ) (all : Bool) (s e : ℕ)
-    : Type 0 where
+pub record MaySeekIn (row table crossed last : List ℕ) (z : Sizes) (ps : Standing) (p : Picked) (n : ℕ) (named : List ℕ) (all : Bool)
+    (s e : ℕ) : Type 0 where
   pub good : rules (planOf row) ≡ gives 0
   pub play : Playable row table z
   pub holding : Holding row z p
   pub stand : StandAt row (z .messages) (cutsOf p) s ps
   pub before : MatchesBefore (planOf row) crossed (cutsOf p) s
   pub size : length crossed ≡ crossedSize
+  pub lasts : Lasts crossed z last
   pub few : p .count + n ≤ mostCuts
   pub some : 0 < n
   pub early : s < z .timeout

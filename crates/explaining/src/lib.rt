@@ -1,19 +1,23 @@
 // The walk over cut lists that seeks those whose replay crosses what a table of crossings has: lists are tried in the order of document
 // 01's verdict, fewest pairs first. `clues::suspect` says of most that no list from here can match, so that nearly every list that is tried
-// leads to one; where it names as many links as pairs are to come, only these are tried; and where the slot before the next pair differs
-// from the table, no later pair mends it. It leans on `picks` for the pairs picked, on `clues` for what a slot says, and on `order` for the
-// steps from pair to pair.
+// leads to one; where it names as many links as pairs are to come, only these are tried; a link is tried only behind the last slot in which
+// the table has it crossed, since it is whole there; and where the slot before the next pair differs from the table, no later pair mends
+// it. It leans on `picks` for the pairs picked, on `clues` for what a slot says, on `order` for the steps from pair to pair and on `laws`
+// for who crosses a link.
 use clues::Clue;
 use picks::Picked;
 use picks::Sizes;
 use scope::limits::CUT_NUMBERS;
 use scope::limits::LINKS;
+use scope::limits::MESSAGES;
 use step::Standing;
 ghost use Prim.Native.Nat.{_-_, _≤_};
 ghost use mathlib.Core.Path.{_≡_};
-ghost use Rattle.scope.specs.Limits.{mostLinks};
+ghost use lib.ListN.{length};
+ghost use Rattle.scope.specs.Limits.{mostLinks, mostSlots, crossedSize};
 ghost use Rattle.scope.specs.Lowest.{seek};
-ghost use Rattle.explaining.specs.Walk.{isWhole, isOpen, isClue, noFound, noHunted, MaySeek, MaySeekIn, Sought, SoughtIn, MayHunt, Hunts};
+ghost use Rattle.explaining.specs.Walk.{isWhole, isUnseen, isOpen, isClue, noFound, noHunted, Lasts};
+ghost use Rattle.explaining.specs.Walk.{MaySeek, MaySeekIn, Sought, SoughtIn, MayHunt, Hunts};
 
 // A list that matches; or none.
 pub struct Found {
@@ -65,21 +69,59 @@ fn whole(down: &[u8], e: usize) -> bool
     !cuts::is_down(down, e)
 }
 
-// A link is to be tried: it is not cut already and, where all that are to be cut are named, it is one of them.
-fn open(down: &[u8], named: &[u8], all: bool, e: usize) -> bool
-    ensures { λ r. ⌜ r ≡ isOpen (now (down .entry)) (now (named .entry)) all e ⌝ }
+// For each link one more than the last slot in which a message crosses it, or 0 where none does.
+fn last_seen(crossed: &[u8], z: Sizes) -> [u8; LINKS]
+    requires { ⌜ (length (now crossed) ≡ crossedSize) × (z .timeout ≤ mostSlots) ⌝ }
+    ensures { λ r. ⌜ Lasts (now (crossed .entry)) z r ⌝ }
 {
-    whole(down, e) && (!all || cuts::is_down(named, e))
+    let mut last = [0u8; LINKS];
+    let end = z.timeout * MESSAGES;
+    let mut k = 0;
+    while k < end {
+        let c = crossed[k] as usize;
+        if k % MESSAGES < z.messages && 0 < c && c <= LINKS {
+            last[c - 1] = (k / MESSAGES + 1) as u8;
+        }
+        k += 1;
+    }
+    last
+}
+
+// No message crosses a link in slot s or later.
+fn unseen(last: &[u8], s: usize, e: usize) -> bool
+    ensures { λ r. ⌜ r ≡ isUnseen (now (last .entry)) s e ⌝ }
+{
+    if e < last.len() {
+        last[e] as usize <= s
+    } else {
+        true
+    }
+}
+
+// A link is to be tried in slot s: it is not cut already, nobody crosses it from there on and, where all that are to be cut are named, it is
+// one of them.
+fn open(down: &[u8], named: &[u8], last: &[u8], all: bool, s: usize, e: usize) -> bool
+    ensures { λ r. ⌜ r ≡ isOpen (now (down .entry)) (now (named .entry)) (now (last .entry)) all s e ⌝ }
+{
+    whole(down, e) && (unseen(last, s, e) && (!all || cuts::is_down(named, e)))
 }
 
 // The first link from e on that is to be tried, or how many links there are.
-fn next_link(down: &[u8], named: &[u8], all: bool, e: usize, links: usize) -> usize
+fn next_link(
+    down: &[u8],
+    named: &[u8],
+    last: &[u8],
+    all: bool,
+    s: usize,
+    e: usize,
+    links: usize,
+) -> usize
     requires { ⌜ (e ≤ links) × (links ≤ mostLinks) ⌝ }
-    ensures { λ r. ⌜ r ≡ seek (isOpen (now (down .entry)) (now (named .entry)) all) (links - e) e ⌝ }
+    ensures { λ r. ⌜ r ≡ seek (isOpen (now (down .entry)) (now (named .entry)) (now (last .entry)) all s) (links - e) e ⌝ }
 {
     let mut i = e;
     while i < links {
-        if open(down, named, all, i) {
+        if open(down, named, last, all, s, i) {
             return i;
         }
         i += 1;
@@ -93,6 +135,7 @@ fn in_slot(
     row: &[u16],
     table: &[u8],
     crossed: &[u8],
+    last: &[u8],
     z: Sizes,
     ps: Standing,
     p: Picked,
@@ -102,19 +145,19 @@ fn in_slot(
     s: usize,
     e: usize,
 ) -> Found
-    requires { ⌜ MaySeekIn (now row) (now table) (now crossed) z ps p n named all s e ⌝ }
+    requires { ⌜ MaySeekIn (now row) (now table) (now crossed) (now last) z ps p n named all s e ⌝ }
     ensures { λ r. ⌜ SoughtIn (now (row .entry)) (now (crossed .entry)) p n s e r ⌝ }
 {
     let down = p.down;
     let links = z.links;
-    let mut i = next_link(&down, &named, all, e, links);
+    let mut i = next_link(&down, &named, last, all, s, e, links);
     while i < links {
         let q = picks::pick(p, s, i);
-        let r = level(row, table, crossed, z, ps, q, n - 1);
+        let r = level(row, table, crossed, last, z, ps, q, n - 1);
         if r.found {
             return r;
         }
-        i = next_link(&down, &named, all, i + 1, links);
+        i = next_link(&down, &named, last, all, s, i + 1, links);
     }
     nothing()
 }
@@ -124,12 +167,13 @@ fn level(
     row: &[u16],
     table: &[u8],
     crossed: &[u8],
+    last: &[u8],
     z: Sizes,
     ps: Standing,
     p: Picked,
     n: usize,
 ) -> Found
-    requires { ⌜ MaySeek (now row) (now table) (now crossed) z ps p n ⌝ }
+    requires { ⌜ MaySeek (now row) (now table) (now crossed) (now last) z ps p n ⌝ }
     ensures { λ r. ⌜ Sought (now (row .entry)) (now (crossed .entry)) p n r ⌝ }
 {
     let suspicion = clues::suspect(row, table, crossed, z, ps, p, n);
@@ -150,7 +194,7 @@ fn level(
     let mut s = p.slot;
     let mut e = p.link;
     while s < z.timeout {
-        let r = in_slot(row, table, crossed, z, qs, p, n, named, all, s, e);
+        let r = in_slot(row, table, crossed, last, z, qs, p, n, named, all, s, e);
         if r.found {
             return r;
         }
@@ -179,10 +223,11 @@ pub fn first_list(
     requires { ⌜ MayHunt (now row) (now table) (now crossed) z ps k ⌝ }
     ensures { λ r. ⌜ Hunts (now (row .entry)) (now (crossed .entry)) k r ⌝ }
 {
+    let last = last_seen(crossed, z);
     let p = picks::no_pair();
     let mut n = 0;
     while n <= k {
-        let r = level(row, table, crossed, z, ps, p, n);
+        let r = level(row, table, crossed, &last, z, ps, p, n);
         if r.found {
             let numbers = r.numbers;
             return Hunted {

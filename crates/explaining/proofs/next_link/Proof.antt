@@ -9,14 +9,14 @@ use Rattle.explaining.proofs.next_link.Statement.{statement}
 use Rattle.explaining.proofs.next_link.Tie as tie
 
 abbrev Inv-loop : tie.InvT-loop
-Inv-loop down named all e links i₀ i =
-    (i ≤ links) × (seek (isOpen down named all) (links - i) i ≡ seek (isOpen down named all) (links - e) e)
+Inv-loop down named last all s e links i₀ i =
+    (i ≤ links) × (seek (isOpen down named last all s) (links - i) i ≡ seek (isOpen down named last all s) (links - e) e)
 
 abbrev μ-loop : tie.MeasureT-loop
-μ-loop down named all e links i₀ i = links - i
+μ-loop down named last all s e links i₀ i = links - i
 
 loop-holds : tie.Need-loop-holds Inv-loop μ-loop
-loop-holds c = (c .before .before .pre .0, refl)
+loop-holds c = (c .before .before .before .pre .0, refl)
 
 returns : tie.Need-returns Inv-loop μ-loop
 returns c =
