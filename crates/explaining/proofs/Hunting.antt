@@ -16,7 +16,7 @@ use Rattle.picks.proofs.Picking.{holding-none}
 use Rattle.clues.specs.Clues.{Matches}
 use Rattle.explaining.specs.declared.Found.{Found}
 use Rattle.explaining.specs.declared.Hunted.{Hunted}
-use Rattle.explaining.specs.Walk.{noHunted, Lasts, MaySeek, Sought, MayHunt, Hunts}
+use Rattle.explaining.specs.Walk.{noHunted, MaySeek, Sought, MayHunt, Hunts}
 
 -- no list of fewer than n pairs matches
 pub record Hunting (row crossed : List ℕ) (k n : ℕ) : Type 0 where
@@ -39,8 +39,8 @@ hunt-over row crossed k n h g over is =
     }
 
 module _ (row table crossed : List ℕ) (z : Sizes) (ps : Standing) (k : ℕ) (m : MayHunt row table crossed z ps k) where
-  pub may-seek : (last : List ℕ) (n : ℕ) (p : Picked) → n ≤ k → p ≡ noPair → Lasts crossed z last → MaySeek row table crossed last z ps p n
-  may-seek last n p h is lasts =
+  pub may-seek : (n : ℕ) (p : Picked) → n ≤ k → p ≡ noPair → MaySeek row table crossed z ps p n
+  may-seek n p h is =
       record {
         suspect =
             record {
@@ -51,7 +51,6 @@ module _ (row table crossed : List ℕ) (z : Sizes) (ps : Standing) (k : ℕ) (m
               before = rw is (λ i l. absurd (omega arith));
               size = m .size;
             };
-        lasts = lasts;
         few = rw is (omega (arith, m .few));
       }
 

@@ -25,7 +25,7 @@ use Rattle.clues.specs.declared.Suspicion.{Suspicion}
 use Rattle.clues.specs.Clues.{MatchesIn, MatchesBefore, Matches, MayLook, Shows, Looked, Suspected}
 use Rattle.clues.proofs.Lists.{matches-more}
 use Rattle.explaining.specs.declared.Found.{Found}
-use Rattle.explaining.specs.Walk.{isUnseen, isOpen, isClue, noFound, MaySeek, MaySeekIn, Sought, SoughtIn}
+use Rattle.explaining.specs.Walk.{isUnseen, isOpen, isClue, noFound, Lasts, MaySeek, MaySeekIn, Sought, SoughtIn}
 use Rattle.explaining.proofs.Seen.{cut-too-early}
 use Rattle.explaining.proofs.Opening.{closed, open-whole}
 use Rattle.explaining.proofs.Matching.{still-differs, seen-same, seen-other}
@@ -52,8 +52,8 @@ pub record Climbing (row crossed : List ℕ) (z : Sizes) (p : Picked) (n s e : �
 pub goes-up : (test : ℕ → Bool) (n i r : ℕ) → r ≡ seek test n (i + 1) → i < r
 goes-up test n i r e = omega (arith, seek-from test n (i + 1))
 
-module _ (row table crossed last : List ℕ) (z : Sizes) (ps : Standing) (p : Picked) (n : ℕ) (named : List ℕ) (all : Bool) (s e : ℕ)
-    (m : MaySeekIn row table crossed last z ps p n named all s e) where
+module _ (row table crossed : List ℕ) (z : Sizes) (ps : Standing) (p : Picked) (n : ℕ) (named last : List ℕ) (all : Bool) (s e : ℕ)
+    (m : MaySeekIn row table crossed z ps p n named last all s e) where
   abbrev start : ℕ
   start = code (p .slot) (p .link)
 
@@ -90,7 +90,7 @@ module _ (row table crossed last : List ℕ) (z : Sizes) (ps : Standing) (p : Pi
   looks-first r = looked e r (omega arith) (m .link) (λ a b x long low high. absurd (omega arith))
 
   module _ (i : ℕ) (g : Looking row crossed z p n s e i) where
-    pub may-go-on : (q : Picked) → i < z .links → q ≡ withPair p s i → MaySeek row table crossed last z ps q (n - 1)
+    pub may-go-on : (q : Picked) → i < z .links → q ≡ withPair p s i → MaySeek row table crossed z ps q (n - 1)
     may-go-on q l is =
         let room : p .count < mostCuts = omega (arith, m .few, m .some) in
         record {
@@ -107,7 +107,6 @@ module _ (row table crossed last : List ℕ) (z : Sizes) (ps : Standing) (p : Pi
                     (matches-more (planOf row) (cutsOf p) (p .count) (m .holding .chosen .long) s i crossed (m .before));
                 size = m .size;
               };
-          lasts = m .lasts;
           few = rw is (omega (arith, m .few, m .some));
         }
 
@@ -141,8 +140,7 @@ module _ (row table crossed last : List ℕ) (z : Sizes) (ps : Standing) (p : Pi
         (slot-over (planOf row) (Matches (planOf row) crossed) few (cutsOf p) (p .count) start (m .holding .chosen) (n - 1) (code s e) s
         (subst (λ (j : ℕ). NoneIn (planOf row) (Matches (planOf row) crossed) (cutsOf p) (n - 1) (code s e) (code s j)) end (g .none)))
 
-module _ (row table crossed last : List ℕ) (z : Sizes) (ps : Standing) (p : Picked) (n : ℕ)
-    (m : MaySeek row table crossed last z ps p n) where
+module _ (row table crossed : List ℕ) (z : Sizes) (ps : Standing) (p : Picked) (n : ℕ) (m : MaySeek row table crossed z ps p n) where
   -- no list from here matches
   pub no-hope : (r : Found) → r ≡ noFound → NoneOf (planOf row) (Matches (planOf row) crossed) (cutsOf p) n → Sought row crossed p n r
   no-hope r is all = tells-none _ _ (p .count + n) r is all
@@ -181,9 +179,9 @@ module _ (row table crossed last : List ℕ) (z : Sizes) (ps : Standing) (p : Pi
         }
 
     module _ (s e : ℕ) (qs : Standing) (g : Climbing row crossed z p n s e qs) where
-      pub may-look-in : (v : Suspicion) → Suspected row crossed p n v → v .hopeless ≡ false → s < z .timeout →
-          MaySeekIn row table crossed last z qs p n (v .down) (v .all) s e
-      may-look-in v told hope early =
+      pub may-look-in : (v : Suspicion) (last : List ℕ) → Suspected row crossed p n v → v .hopeless ≡ false → Lasts crossed z last →
+          s < z .timeout → MaySeekIn row table crossed z qs p n (v .down) last (v .all) s e
+      may-look-in v last told hope lasts early =
           record {
             good = m .suspect .good;
             play = m .suspect .play;
@@ -191,7 +189,7 @@ module _ (row table crossed last : List ℕ) (z : Sizes) (ps : Standing) (p : Pi
             stand = g .stand;
             before = g .before;
             size = m .suspect .size;
-            lasts = m .lasts;
+            lasts = lasts;
             few = m .few;
             some = omega (arith, some);
             early = early;

@@ -64,13 +64,12 @@ abbrev pub noHunted : Hunted
 noHunted = record { found = false; pairs = 0; numbers = replicate (2 * mostCuts) 0 }
 
 -- n pairs more may be sought
-pub record MaySeek (row table crossed last : List ℕ) (z : Sizes) (ps : Standing) (p : Picked) (n : ℕ) : Type 0 where
+pub record MaySeek (row table crossed : List ℕ) (z : Sizes) (ps : Standing) (p : Picked) (n : ℕ) : Type 0 where
   pub suspect : MaySuspect row table crossed z ps p
-  pub lasts : Lasts crossed z last
   pub few : p .count + n ≤ mostCuts
 
 -- the first of them in slot s, from link e on; and where all is true, no list that matches goes on with a link that is not named
-pub record MaySeekIn (row table crossed last : List ℕ) (z : Sizes) (ps : Standing) (p : Picked) (n : ℕ) (named : List ℕ) (all : Bool)
+pub record MaySeekIn (row table crossed : List ℕ) (z : Sizes) (ps : Standing) (p : Picked) (n : ℕ) (named last : List ℕ) (all : Bool)
     (s e : ℕ) : Type 0 where
   pub good : rules (planOf row) ≡ gives 0
   pub play : Playable row table z

@@ -135,29 +135,29 @@ fn in_slot(
     row: &[u16],
     table: &[u8],
     crossed: &[u8],
-    last: &[u8],
     z: Sizes,
     ps: Standing,
     p: Picked,
     n: usize,
     named: [u8; LINKS],
+    last: [u8; LINKS],
     all: bool,
     s: usize,
     e: usize,
 ) -> Found
-    requires { ⌜ MaySeekIn (now row) (now table) (now crossed) (now last) z ps p n named all s e ⌝ }
+    requires { ⌜ MaySeekIn (now row) (now table) (now crossed) z ps p n named last all s e ⌝ }
     ensures { λ r. ⌜ SoughtIn (now (row .entry)) (now (crossed .entry)) p n s e r ⌝ }
 {
     let down = p.down;
     let links = z.links;
-    let mut i = next_link(&down, &named, last, all, s, e, links);
+    let mut i = next_link(&down, &named, &last, all, s, e, links);
     while i < links {
         let q = picks::pick(p, s, i);
-        let r = level(row, table, crossed, last, z, ps, q, n - 1);
+        let r = level(row, table, crossed, z, ps, q, n - 1);
         if r.found {
             return r;
         }
-        i = next_link(&down, &named, last, all, s, i + 1, links);
+        i = next_link(&down, &named, &last, all, s, i + 1, links);
     }
     nothing()
 }
@@ -167,13 +167,12 @@ fn level(
     row: &[u16],
     table: &[u8],
     crossed: &[u8],
-    last: &[u8],
     z: Sizes,
     ps: Standing,
     p: Picked,
     n: usize,
 ) -> Found
-    requires { ⌜ MaySeek (now row) (now table) (now crossed) (now last) z ps p n ⌝ }
+    requires { ⌜ MaySeek (now row) (now table) (now crossed) z ps p n ⌝ }
     ensures { λ r. ⌜ Sought (now (row .entry)) (now (crossed .entry)) p n r ⌝ }
 {
     let suspicion = clues::suspect(row, table, crossed, z, ps, p, n);
@@ -187,6 +186,7 @@ fn level(
             numbers,
         };
     }
+    let last = last_seen(crossed, z);
     let named = suspicion.down;
     let all = suspicion.all;
     let down = p.down;
@@ -194,7 +194,7 @@ fn level(
     let mut s = p.slot;
     let mut e = p.link;
     while s < z.timeout {
-        let r = in_slot(row, table, crossed, last, z, qs, p, n, named, all, s, e);
+        let r = in_slot(row, table, crossed, z, qs, p, n, named, last, all, s, e);
         if r.found {
             return r;
         }
@@ -223,11 +223,10 @@ pub fn first_list(
     requires { ⌜ MayHunt (now row) (now table) (now crossed) z ps k ⌝ }
     ensures { λ r. ⌜ Hunts (now (row .entry)) (now (crossed .entry)) k r ⌝ }
 {
-    let last = last_seen(crossed, z);
     let p = picks::no_pair();
     let mut n = 0;
     while n <= k {
-        let r = level(row, table, crossed, &last, z, ps, p, n);
+        let r = level(row, table, crossed, z, ps, p, n);
         if r.found {
             let numbers = r.numbers;
             return Hunted {

@@ -16,6 +16,7 @@ use Rattle.explaining.proofs.level.Reads as level
 use Rattle.explaining.proofs.level.Kinds as level-kinds
 use Rattle.explaining.proofs.+in_slot+level.Lts-level as level-lts
 use Rattle.explaining.proofs.differs.Reads as differs-reads
+use Rattle.explaining.proofs.last_seen.Reads as last-seen-reads
 use Rattle.clues.proofs.suspect.Reads as suspect-reads
 use Rattle.clues.proofs.look.Reads as look-reads
 use Rattle.explaining.proofs.next_link.Reads as next-link-reads
@@ -24,23 +25,23 @@ use Rattle.picks.proofs.pick.Reads as pick-reads
 use Rattle.explaining.proofs.+in_slot+level.{statement}
 use Rattle.explaining.proofs.+in_slot+level.Tie.{close}
 
-abbrev μ-in-slot : Measures 4 in-slot-kinds.ps ℕ
-μ-in-slot κs a = 2 * a .1 .1 .1 .1 .1 .1 .1 .0
+abbrev μ-in-slot : Measures 3 in-slot-kinds.ps ℕ
+μ-in-slot κs a = 2 * a .1 .1 .1 .1 .1 .1 .0
 
-abbrev μ-level : Measures 4 level-kinds.ps ℕ
-μ-level κs a = 2 * a .1 .1 .1 .1 .1 .1 .1 .0 + 1
+abbrev μ-level : Measures 3 level-kinds.ps ℕ
+μ-level κs a = 2 * a .1 .1 .1 .1 .1 .1 .0 + 1
 
-abbrev in-slot-at : ℕ → In 4 in-slot-kinds.ps
-in-slot-at t = and 4 in-slot-kinds.ps (is 4 in-slot-kinds.ps μ-in-slot t) in-slot.Pre
+abbrev in-slot-at : ℕ → In 3 in-slot-kinds.ps
+in-slot-at t = and 3 in-slot-kinds.ps (is 3 in-slot-kinds.ps μ-in-slot t) in-slot.Pre
 
-abbrev in-slot-below : ℕ → In 4 in-slot-kinds.ps
-in-slot-below t = and 4 in-slot-kinds.ps (falls 4 in-slot-kinds.ps _<_ μ-in-slot t) in-slot.Pre
+abbrev in-slot-below : ℕ → In 3 in-slot-kinds.ps
+in-slot-below t = and 3 in-slot-kinds.ps (falls 3 in-slot-kinds.ps _<_ μ-in-slot t) in-slot.Pre
 
-abbrev level-at : ℕ → In 4 level-kinds.ps
-level-at t = and 4 level-kinds.ps (is 4 level-kinds.ps μ-level t) level.Pre
+abbrev level-at : ℕ → In 3 level-kinds.ps
+level-at t = and 3 level-kinds.ps (is 3 level-kinds.ps μ-level t) level.Pre
 
-abbrev level-below : ℕ → In 4 level-kinds.ps
-level-below t = and 4 level-kinds.ps (falls 4 level-kinds.ps _<_ μ-level t) level.Pre
+abbrev level-below : ℕ → In 3 level-kinds.ps
+level-below t = and 3 level-kinds.ps (falls 3 level-kinds.ps _<_ μ-level t) level.Pre
 
 -- what a call of each function is known to ask and give
 abbrev in-calls : ℕ → in-slot-lts.Claims
@@ -61,6 +62,8 @@ level-calls t = (
   suspect-reads.Learnt,
   nothing-reads.Asked,
   nothing-reads.Learnt,
+  last-seen-reads.Asked,
+  last-seen-reads.Learnt,
   in-slot-below t,
   in-slot.Post,
   look-reads.Asked,
@@ -70,10 +73,10 @@ level-calls t = (
 )
 
 abbrev in-inv : in-slot-lts.InvT-loop
-in-inv row table crossed last z ps p n all s e named down links i₀ i = Looking row crossed z p n s e i
+in-inv row table crossed z ps p n all s e named last down links i₀ i = Looking row crossed z p n s e i
 
 abbrev in-less : in-slot-lts.MeasureT-loop
-in-less row table crossed last z ps p n all s e named down links i₀ i = links - i
+in-less row table crossed z ps p n all s e named last down links i₀ i = links - i
 
 in-slot-slice-aggregate-next-link : (t : ℕ) → in-slot-lts.Need-slice-aggregate-next-link (in-calls t) (in-slot-at t) in-slot.Post in-inv in-less
 in-slot-slice-aggregate-next-link t c = search needs
@@ -82,8 +85,13 @@ in-slot-slice-aggregate-next-link-2 : (t : ℕ) →
     in-slot-lts.Need-slice-aggregate-next-link-2 (in-calls t) (in-slot-at t) in-slot.Post in-inv in-less
 in-slot-slice-aggregate-next-link-2 t c = search needs
 
+in-slot-slice-aggregate-next-link-3 : (t : ℕ) →
+    in-slot-lts.Need-slice-aggregate-next-link-3 (in-calls t) (in-slot-at t) in-slot.Post in-inv in-less
+in-slot-slice-aggregate-next-link-3 t c = sym (c .before .before .before .before .before .before .before .pre .1 .lasts .size)
+
 in-slot-next-link-requires : (t : ℕ) → in-slot-lts.Need-next-link-requires (in-calls t) (in-slot-at t) in-slot.Post in-inv in-less
-in-slot-next-link-requires t c κs = let may = c .before .before .before .before .before .before .before .pre .1 in (may .link, may .play .few)
+in-slot-next-link-requires t c κs =
+    let may = c .before .before .before .before .before .before .before .pre .1 in (may .link, may .play .few)
 
 in-slot-loop-holds : (t : ℕ) → in-slot-lts.Need-loop-holds (in-calls t) (in-slot-at t) in-slot.Post in-inv in-less
 in-slot-loop-holds t c =
@@ -123,44 +131,52 @@ in-slot-returns t c =
     (c .before .before .before .before .loop .inv) _ _ (c .before .before .before .loop-test .taken) (c .before .before .pick .ensures)
     (c .before .level .ensures) (c .if1 .taken)
 
-in-slot-slice-aggregate-next-link-3 : (t : ℕ) →
-    in-slot-lts.Need-slice-aggregate-next-link-3 (in-calls t) (in-slot-at t) in-slot.Post in-inv in-less
-in-slot-slice-aggregate-next-link-3 t c =
-    let may = c .before .before .before .before .before .before .before .before .before .before .before .before .before .before .pre .1 in
-    sym (may .holding .size)
-
 in-slot-slice-aggregate-next-link-4 : (t : ℕ) →
     in-slot-lts.Need-slice-aggregate-next-link-4 (in-calls t) (in-slot-at t) in-slot.Post in-inv in-less
 in-slot-slice-aggregate-next-link-4 t c =
+    let may = c .before .before .before .before .before .before .before .before .before .before .before .before .before .before .pre .1 in
+    sym (may .holding .size)
+
+in-slot-slice-aggregate-next-link-5 : (t : ℕ) →
+    in-slot-lts.Need-slice-aggregate-next-link-5 (in-calls t) (in-slot-at t) in-slot.Post in-inv in-less
+in-slot-slice-aggregate-next-link-5 t c =
     search (
       needs,
       c .before .before .before .before .before .before .before .before .before .before .before .before .before .before .before .good,
     )
 
+in-slot-slice-aggregate-next-link-6 : (t : ℕ) →
+    in-slot-lts.Need-slice-aggregate-next-link-6 (in-calls t) (in-slot-at t) in-slot.Post in-inv in-less
+in-slot-slice-aggregate-next-link-6 t c =
+    let may =
+    c .before .before .before .before .before .before .before .before .before .before .before .before .before .before .before .before .pre .1 in
+    sym (may .lasts .size)
+
 in-slot-add-next-link : (t : ℕ) → in-slot-lts.Need-add-next-link (in-calls t) (in-slot-at t) in-slot.Post in-inv in-less
 in-slot-add-next-link t c =
     let may =
-    c .before .before .before .before .before .before .before .before .before .before .before .before .before .before .before .pre .1 in
-    omega (arith, c .before .before .before .before .before .loop-test .taken, may .play .few)
+    c .before .before .before .before .before .before .before .before .before .before .before .before .before .before .before .before .pre .1 in
+    omega (arith, c .before .before .before .before .before .before .loop-test .taken, may .play .few)
 
 in-slot-next-link-requires-2 : (t : ℕ) → in-slot-lts.Need-next-link-requires-2 (in-calls t) (in-slot-at t) in-slot.Post in-inv in-less
-in-slot-next-link-requires-2 t c κs = (
-  omega (arith, c .before .before .before .before .before .loop-test .taken),
-  c .before .before .before .before .before .before .before .before .before .before .before .before .before .before .before .pre .1 .play .few,
-)
+in-slot-next-link-requires-2 t c κs =
+    let may =
+    c .before .before .before .before .before .before .before .before .before .before .before .before .before .before .before .before .pre .1 in
+    (omega (arith, c .before .before .before .before .before .before .loop-test .taken), may .play .few)
 
 in-slot-loop-less : (t : ℕ) → in-slot-lts.Need-loop-less (in-calls t) (in-slot-at t) in-slot.Post in-inv in-less
 in-slot-loop-less t c =
-    omega (arith, c .before .before .before .before .before .before .loop-test .taken, goes-up _ _ _ _ (c .next-link2 .ensures))
+    omega (arith, c .before .before .before .before .before .before .before .loop-test .taken, goes-up _ _ _ _ (c .next-link2 .ensures))
 
 in-slot-loop-again : (t : ℕ) → in-slot-lts.Need-loop-again (in-calls t) (in-slot-at t) in-slot.Post in-inv in-less
 in-slot-loop-again t c =
     let may =
-    c .before .before .before .before .before .before .before .before .before .before .before .before .before .before .before .before .pre .1 in
-    let inv = c .before .before .before .before .before .before .before .loop .inv in
-    looks-on _ _ _ _ _ _ _ _ _ _ _ _ may _ inv _ _ (c .before .before .before .before .before .before .loop-test .taken)
-    (c .before .before .before .before .before .pick .ensures) (c .before .before .before .before .level .ensures) _
-    (c .before .before .before .if1 .left)
+    c .before .before .before .before .before .before .before .before .before .before .before .before .before .before .before
+    .before .before .pre .1 in
+    let inv = c .before .before .before .before .before .before .before .before .loop .inv in
+    looks-on _ _ _ _ _ _ _ _ _ _ _ _ may _ inv _ _ (c .before .before .before .before .before .before .before .loop-test .taken)
+    (c .before .before .before .before .before .before .pick .ensures) (c .before .before .before .before .before .level .ensures) _
+    (c .before .before .before .before .if1 .left)
     (c .next-link2 .ensures)
 
 in-slot-nothing-requires : (t : ℕ) → in-slot-lts.Need-nothing-requires (in-calls t) (in-slot-at t) in-slot.Post in-inv in-less
@@ -172,47 +188,52 @@ in-slot-returns-2 t c =
     (c .before .before .loop .inv) _ (c .before .loop-test .left) (c .nothing .ensures)
 
 abbrev level-inv : level-lts.InvT-loop
-level-inv row table crossed last z p n named all down qs₀ s₀ e₀ qs s e = Climbing row crossed z p n s e qs
+level-inv row table crossed z p n last named all down qs₀ s₀ e₀ qs s e = Climbing row crossed z p n s e qs
 
 abbrev level-less : level-lts.MeasureT-loop
-level-less row table crossed last z p n named all down qs₀ s₀ e₀ qs s e = z .timeout - s
+level-less row table crossed z p n last named all down qs₀ s₀ e₀ qs s e = z .timeout - s
 
 level-suspect-requires : (t : ℕ) → level-lts.Need-suspect-requires (level-calls t) (level-at t) level.Post level-inv level-less
 level-suspect-requires t c κs =
-    c .before .before .before .before .pre .1 .suspect
+    c .before .before .before .pre .1 .suspect
 
 level-nothing-requires : (t : ℕ) → level-lts.Need-nothing-requires (level-calls t) (level-at t) level.Post level-inv level-less
 level-nothing-requires t c κs = search needs
 
 level-returns : (t : ℕ) → level-lts.Need-returns (level-calls t) (level-at t) level.Post level-inv level-less
 level-returns t c =
-    no-hope _ _ _ _ _ _ _ _ (c .before .before .before .before .before .before .before .pre .1) _ (c .nothing .ensures)
+    no-hope _ _ _ _ _ _ _ (c .before .before .before .before .before .before .pre .1) _ (c .nothing .ensures)
     (c .before .before .suspect .ensures .none (c .before .if1 .taken))
 
 level-returns-2 : (t : ℕ) → level-lts.Need-returns-2 (level-calls t) (level-at t) level.Post level-inv level-less
 level-returns-2 t c =
-    is-it _ _ _ _ _ _ _ _ (c .before .before .before .before .before .before .before .before .pre .1) _ (c .before .if2 .taken) refl refl
+    is-it _ _ _ _ _ _ _ (c .before .before .before .before .before .before .before .pre .1) _ (c .before .if2 .taken) refl refl
     (c .before .before .before .suspect .ensures .whole (c .before .before .if1 .left) (c .before .if2 .taken))
+
+level-last-seen-requires : (t : ℕ) → level-lts.Need-last-seen-requires (level-calls t) (level-at t) level.Post level-inv level-less
+level-last-seen-requires t c κs =
+    let may = c .before .before .before .before .before .before .pre .1 .suspect in (may .size, may .play .short)
 
 level-loop-holds : (t : ℕ) → level-lts.Need-loop-holds (level-calls t) (level-at t) level.Post level-inv level-less
 level-loop-holds t c =
-    climbs-first _ _ _ _ _ _ _ _ (c .before .before .before .before .before .before .before .before .before .pre .1)
-    (c .before .before .if2 .left)
+    climbs-first _ _ _ _ _ _ _ (c .before .before .before .before .before .before .before .before .before .pre .1)
+    (c .before .before .before .if2 .left)
 
 level-in-slot-requires : (t : ℕ) → level-lts.Need-in-slot-requires (level-calls t) (level-at t) level.Post level-inv level-less
 level-in-slot-requires t c κs =
     let may = c .before .before .before .before .before .before .before .before .before .before .before .before .pre .1 in
-    let told = c .before .before .before .before .before .before .before .suspect .ensures in (
+    let told = c .before .before .before .before .before .before .before .before .suspect .ensures in (
       omega (arith, c .before .before .before .before .before .before .before .before .before .before .before .before .pre .0),
-      may-look-in _ _ _ _ _ _ _ _ may (c .before .before .before .before .before .if2 .left) _ _ _ (c .before .before .loop .inv) _ told
-          (c .before .before .before .before .before .before .if1 .left) (c .if3 .taken),
+      may-look-in _ _ _ _ _ _ _ may (c .before .before .before .before .before .before .if2 .left) _ _ _ (c .before .before .loop .inv) _ _ told
+          (c .before .before .before .before .before .before .before .if1 .left) (c .before .before .before .before .before .last-seen .ensures)
+          (c .if3 .taken),
     )
 
 level-returns-3 : (t : ℕ) → level-lts.Need-returns-3 (level-calls t) (level-at t) level.Post level-inv level-less
 level-returns-3 t c =
     let may = c .before .before .before .before .before .before .before .before .before .before .before .before .before .before .pre .1 in
-    let more = c .before .before .before .before .before .before .before .if2 .left in
-    climbs-some _ _ _ _ _ _ _ _ may more _ _ _ (c .before .before .before .before .loop .inv) _
+    let more = c .before .before .before .before .before .before .before .before .if2 .left in
+    climbs-some _ _ _ _ _ _ _ may more _ _ _ (c .before .before .before .before .loop .inv) _
     (c .before .in-slot .ensures) (c .if4 .taken)
 
 level-slice-aggregate-look : (t : ℕ) → level-lts.Need-slice-aggregate-look (level-calls t) (level-at t) level.Post level-inv level-less
@@ -223,9 +244,10 @@ level-slice-aggregate-look t c =
 
 level-look-requires : (t : ℕ) → level-lts.Need-look-requires (level-calls t) (level-at t) level.Post level-inv level-less
 level-look-requires t c κs =
-    may-look _ _ _ _ _ _ _ _
+    may-look _ _ _ _ _ _ _
     (c .before .before .before .before .before .before .before .before .before .before .before .before .before .before .before .pre .1)
-    (c .before .before .before .before .before .before .before .before .if2 .left) _ _ _ (c .before .before .before .before .before .loop .inv)
+    (c .before .before .before .before .before .before .before .before .before .if2 .left) _ _ _
+    (c .before .before .before .before .before .loop .inv)
     (c .before .before .before .if3 .taken)
 
 level-differs-requires : (t : ℕ) → level-lts.Need-differs-requires (level-calls t) (level-at t) level.Post level-inv level-less
@@ -239,9 +261,9 @@ level-returns-4 t c =
     let may =
     c .before .before .before .before .before .before .before .before .before .before .before .before .before .before .before .before
     .before .before .before .pre .1 in
-    let more = c .before .before .before .before .before .before .before .before .before .before .before .before .if2 .left in
+    let more = c .before .before .before .before .before .before .before .before .before .before .before .before .before .if2 .left in
     let inv = c .before .before .before .before .before .before .before .before .before .loop .inv in
-    climbs-stop _ _ _ _ _ _ _ _ may more _ _ _ inv _
+    climbs-stop _ _ _ _ _ _ _ may more _ _ _ inv _
     (c .before .before .before .before .before .before .in-slot .ensures) (c .before .before .before .before .before .if4 .left)
     (c .before .before .before .before .before .before .before .if3 .taken) _ _ (c .before .before .differs .ensures)
     (c .before .before .before .look .ensures) _ (c .nothing2 .ensures) (c .before .if5 .taken)
@@ -266,9 +288,9 @@ level-loop-again t c =
     let may =
     c .before .before .before .before .before .before .before .before .before .before .before .before .before .before .before .before
     .before .before .before .pre .1 in
-    let more = c .before .before .before .before .before .before .before .before .before .before .before .before .if2 .left in
+    let more = c .before .before .before .before .before .before .before .before .before .before .before .before .before .if2 .left in
     let inv = c .before .before .before .before .before .before .before .before .before .loop .inv in
-    climbs-on _ _ _ _ _ _ _ _ may more _ _ _ inv _
+    climbs-on _ _ _ _ _ _ _ may more _ _ _ inv _
     (c .before .before .before .before .before .before .in-slot .ensures) (c .before .before .before .before .before .if4 .left)
     (c .before .before .before .before .before .before .before .if3 .taken) _ _ (c .before .before .differs .ensures)
     (c .before .before .before .look .ensures) (c .before .if5 .left)
@@ -279,22 +301,24 @@ level-nothing-requires-3 t c κs = search needs
 level-returns-5 : (t : ℕ) → level-lts.Need-returns-5 (level-calls t) (level-at t) level.Post level-inv level-less
 level-returns-5 t c =
     let may = c .before .before .before .before .before .before .before .before .before .before .before .before .before .pre .1 in
-    climbs-over _ _ _ _ _ _ _ _ may
-    (c .before .before .before .before .before .before .if2 .left) _ _ _ (c .before .before .before .loop .inv) _ (c .nothing3 .ensures)
+    climbs-over _ _ _ _ _ _ _ may
+    (c .before .before .before .before .before .before .before .if2 .left) _ _ _ (c .before .before .before .loop .inv) _ (c .nothing3 .ensures)
     (c .before .if3 .left)
 
 pub +in-slot+level-spec : {M : Type 1} → statement M
 +in-slot+level-spec = close μ-in-slot μ-level (λ t. in-slot-lts.spec (in-calls t) (in-slot-at t) in-slot.Post in-inv in-less
     (in-slot-slice-aggregate-next-link t)
     (in-slot-slice-aggregate-next-link-2 t)
+    (in-slot-slice-aggregate-next-link-3 t)
     (in-slot-next-link-requires t)
     (in-slot-loop-holds t)
     (in-slot-pick-requires t)
     (in-slot-sub-level t)
     (in-slot-level-requires t)
     (in-slot-returns t)
-    (in-slot-slice-aggregate-next-link-3 t)
     (in-slot-slice-aggregate-next-link-4 t)
+    (in-slot-slice-aggregate-next-link-5 t)
+    (in-slot-slice-aggregate-next-link-6 t)
     (in-slot-add-next-link t)
     (in-slot-next-link-requires-2 t)
     (in-slot-loop-less t)
@@ -306,6 +330,7 @@ pub +in-slot+level-spec : {M : Type 1} → statement M
     (level-nothing-requires t)
     (level-returns t)
     (level-returns-2 t)
+    (level-last-seen-requires t)
     (level-loop-holds t)
     (level-in-slot-requires t)
     (level-returns-3 t)
