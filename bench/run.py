@@ -254,7 +254,7 @@ def explained(goals):
             for k in 1, 2, 3:
                 question = 'infer%d' % k
                 pairs, slots = ask(c, plan, 'slots%d' % k, 1, given=given)[0].split()
-                turns = 1 + 400000 // (20 + int(slots))  # so many that the time can be told
+                turns = 1 + 100000 // (20 + int(slots))  # so many that the time can be told
                 taken = []
                 for _ in range(3):
                     said, mine = ask(ours, plan, question, turns, given=given)
