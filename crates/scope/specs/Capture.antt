@@ -55,10 +55,11 @@ unfoldable pub isCaptured : List ℕ → ℕ → ℕ → ℕ → Bool
 isCaptured capture i e m =
     some (λ j. eqb (seenSlot capture j) i && eqb (seenLink capture j) e && eqb (seenMessage capture j) m) (triples capture)
 
--- "(kinds 2 and 3)": in slot i of the replay under a cut list message m crosses link e
+-- "(kinds 2 and 3)": an event of this kind and number is the crossing of link e
 abbrev pub isCrossing : ℕ → ℕ → ℕ → Bool
 isCrossing kind number e = (eqb kind 2 || eqb kind 3) && eqb number e
 
+-- message m crosses link e in slot i of the replay under a cut list, by the row of events
 unfoldable pub hasCrossing : Plan → List ℕ → ℕ → ℕ → ℕ → Bool
 hasCrossing plan cuts i e m =
     let j = i * length (plan .messages) + m in
