@@ -16,7 +16,8 @@ use Rattle.laws.proofs.Cuts.{is-cut, cuts-grow}
 use Rattle.order.proofs.Parts.{link-left, link-right}
 use Rattle.order.proofs.Prefix.{cut-more, event-before}
 use Rattle.order.proofs.Pigeons.{pigeons}
-use Rattle.clues.specs.Clues.{crossingOf, MatchesBefore}
+use Rattle.step.specs.Events.{crossingOf}
+use Rattle.clues.specs.Clues.{MatchesBefore}
 
 module _ (plan : Plan) (pre : List ℕ) (d : ℕ) (long : length pre ≡ 2 * d) (s e : ℕ) where
   -- before the slot of its last pair it matches what it does without that pair

@@ -31,7 +31,8 @@ use Rattle.picks.proofs.Picking.{down-more}
 use Rattle.clues.specs.declared.Clue.{Clue}
 use Rattle.clues.specs.declared.Clue.the-variants.{Nothing, Link, Dead}
 use Rattle.clues.specs.declared.Seen.{Seen}
-use Rattle.clues.specs.Clues.{eventIn, crossingOf, MatchesIn, MatchesBefore, Matches, Foremost, Says, MayLook, Shows, Looked, MaySuspect}
+use Rattle.step.specs.Events.{crossingOf}
+use Rattle.clues.specs.Clues.{eventIn, MatchesIn, MatchesBefore, Matches, Foremost, Says, MayLook, Shows, Looked, MaySuspect}
 use Rattle.clues.proofs.Crossings.{same-crossing, crossing-same, may-name}
 use Rattle.clues.proofs.Lists.{matches-more, within-more, Apart, apart-more, too-many}
 use Rattle.clues.proofs.Looking.{shown-nothing}
@@ -136,7 +137,7 @@ module _ (row table crossed : List ℕ) (z : Sizes) (ps : Standing) (p : Picked)
             early = omega arith;
             size = g .size;
             are = λ j e h. g .are j e (omega arith);
-            stand = shows .stand;
+            stand = shows .stand is;
             before = λ j h. by j h (ltb j i) refl;
             within = g .within;
             apart = g .apart;

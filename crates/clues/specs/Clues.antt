@@ -2,11 +2,11 @@
 -- byte for each slot and message: the link that the message crosses in the slot, plus one, or 0.
 use Prim.Native.Nat.{ℕ, _+_, _*_, _≤_, _<_}
 use mathlib.Core.Path.{_≡_}
-use mathlib.Core.Bool.{Bool, true, false, cond, _&&_, _||_}
+use mathlib.Core.Bool.{Bool, true, false, cond, _&&_}
 use mathlib.Core.List.{List, _∷_, _++_}
-use lib.ListN.{length, getD}
-use lib.Dec.{ltb, eqb}
-use Rattle.scope.specs.Limits.{mostSlots, mostMessages, crossedSize}
+use lib.ListN.{length}
+use lib.Dec.{ltb}
+use Rattle.scope.specs.Limits.{crossedSize}
 use Rattle.scope.specs.Outcome.{gives}
 use Rattle.scope.specs.Plan.{Plan, planOf}
 use Rattle.scope.specs.Good.{rules}
@@ -16,6 +16,7 @@ use Rattle.scope.specs.Cycle.{orderOf, tableOf, start}
 use Rattle.laws.specs.Message.{eventOf}
 use Rattle.cuts.specs.Down.{isDown}
 use Rattle.step.specs.declared.Standing.{Standing}
+use Rattle.step.specs.Events.{crossingOf}
 use Rattle.step.specs.Stand.{Stand}
 use Rattle.order.specs.Search.{Not, NoneOf}
 use Rattle.capture.specs.Kept.{crossedAt}
@@ -26,10 +27,6 @@ use Rattle.clues.specs.declared.Clue.{Clue}
 use Rattle.clues.specs.declared.Clue.the-variants.{Nothing, Link, Dead}
 use Rattle.clues.specs.declared.Seen.{Seen}
 use Rattle.clues.specs.declared.Suspicion.{Suspicion}
-
--- the link that an event crosses, plus one, or 0 where it is no crossing
-abbrev pub crossingOf : Event → ℕ
-crossingOf v = cond (eqb (v .kind) 2 || eqb (v .kind) 3) (v .number + 1) 0
 
 -- message m's event in slot i of the replay under a list
 abbrev pub eventIn : Plan → List ℕ → ℕ → ℕ → Event
@@ -70,20 +67,6 @@ Says event seen n Dead = (m : ℕ) × Foremost event seen n m × (mayName (event
 abbrev pub clueOf : Event → Clue
 clueOf v = cond (mayName v) (Link (v .number)) Dead
 
--- an event of this kind and number, and message m's in a row of them
-abbrev pub anEvent : ℕ → ℕ → Event
-anEvent kind number = record { kind = kind; number = number }
-
-abbrev pub eventAt : List ℕ → ℕ → Event
-eventAt events m = anEvent (getD events (2 * m) 0) (getD events (2 * m + 1) 0)
-
--- the events of n messages may be held against slot i of the table
-pub record MayCompare (events crossed : List ℕ) (i n : ℕ) : Type 0 where
-  pub enough : 2 * n ≤ length events
-  pub few : n ≤ mostMessages
-  pub slot : i < mostSlots
-  pub size : length crossed ≡ crossedSize
-
 -- the messages may be looked at in the slot that begins now
 pub record MayLook (row table crossed : List ℕ) (z : Sizes) (ps : Standing) : Type 0 where
   pub play : Playable row table z
@@ -91,10 +74,10 @@ pub record MayLook (row table crossed : List ℕ) (z : Sizes) (ps : Standing) : 
   pub early : ps .time .0 < z .timeout
   pub size : length crossed ≡ crossedSize
 
--- what slot s says, and where the messages stand after it, under a list
+-- what slot s says under a list, and where the messages stand after it, where it says nothing
 pub record Shows (row crossed : List ℕ) (n : ℕ) (cuts : List ℕ) (s : ℕ) (r : Seen) : Type 0 where
   pub says : Says (eventIn (planOf row) cuts s) (crossedAt crossed s) (length (planOf row .messages)) (r .clue)
-  pub stand : StandAt row n cuts (s + 1) (r .next)
+  pub stand : r .clue ≡ Nothing → StandAt row n cuts (s + 1) (r .next)
 
 -- that of the slot that begins now, under any list under which the messages stand as they do and which cuts in that slot what is down
 abbrev pub Looked : List ℕ → List ℕ → Sizes → List ℕ → Standing → Seen → Type 0

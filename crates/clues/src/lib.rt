@@ -1,4 +1,4 @@
-// What a capture says of the cuts: a slot is played and held against the table of crossings, and where they differ the foremost message
+// What a capture says of the cuts: a slot is played and held against the table of crossings, up to the foremost message that differs: it
 // names a link that every list with these crossings has cut by then, or there is no such list. `look` reads one slot; `suspect` cuts what
 // is named, slot by slot, and says that no list with so many pairs more has the crossings of the table, or that such a list cuts only
 // what was named. That a link is named at all is `Named` of `laws`; it leans on `step` for a slot, on `picks` for the pairs picked and on
@@ -7,13 +7,12 @@ use picks::Picked;
 use picks::Sizes;
 use scope::limits::LINKS;
 use scope::limits::MESSAGES;
-use scope::limits::SLOT_EVENTS;
 use step::Standing;
 ghost use Prim.Native.Nat.{_+_, _*_, _<_};
 ghost use mathlib.Core.Path.{_≡_};
 ghost use mathlib.Core.Bool.{true};
-ghost use Rattle.capture.specs.Kept.{crossedAt};
-ghost use Rattle.clues.specs.Clues.{crossingOf, clueOf, Says, anEvent, eventAt, MayCompare, MayLook, Looked, MaySuspect, Suspected};
+ghost use Rattle.step.specs.Events.{anEvent};
+ghost use Rattle.clues.specs.Clues.{clueOf, MayLook, Looked, MaySuspect, Suspected};
 
 // What a slot says of the cuts: nothing, where its crossings are those of the table; a link that is cut; or that there is no list.
 pub enum Clue {
@@ -22,7 +21,7 @@ pub enum Clue {
     Dead,
 }
 
-// What a slot says, and where the messages stand after it.
+// What a slot says, and where the messages stand after it, where it says nothing.
 pub struct Seen {
     pub clue: Clue,
     pub next: Standing,
@@ -36,16 +35,6 @@ pub struct Suspicion {
     pub down: [u8; LINKS],
 }
 
-// The link that an event crosses, plus one, or 0.
-fn crossing(kind: u16, number: u16) -> usize
-    ensures { λ r. ⌜ r ≡ crossingOf (anEvent kind number) ⌝ }
-{
-    match kind {
-        2 | 3 => number as usize + 1,
-        _ => 0,
-    }
-}
-
 // What the event of the foremost message that differs says.
 fn clue_of(kind: u16, number: u16) -> Clue
     ensures { λ r. ⌜ r ≡ clueOf (anEvent kind number) ⌝ }
@@ -56,23 +45,6 @@ fn clue_of(kind: u16, number: u16) -> Clue
     }
 }
 
-// The events of n messages against slot i of the table, the foremost message first.
-fn compare(events: &[u16], crossed: &[u8], i: usize, n: usize) -> Clue
-    requires { ⌜ MayCompare (now events) (now crossed) i n ⌝ }
-    ensures { λ r. ⌜ Says (eventAt (now (events .entry))) (crossedAt (now (crossed .entry)) i) n r ⌝ }
-{
-    let mut m = 0;
-    while m < n {
-        let kind = events[2 * m];
-        let number = events[2 * m + 1];
-        if crossing(kind, number) != crossed[i * MESSAGES + m] as usize {
-            return clue_of(kind, number);
-        }
-        m += 1;
-    }
-    Clue::Nothing
-}
-
 // The slot that begins now, under what is down: what it says, and where the messages stand after it.
 pub fn look(row: &[u16], table: &[u8], crossed: &[u8], z: Sizes, down: &[u8], ps: Standing) -> Seen
     requires { ⌜ MayLook (now row) (now table) (now crossed) z ps ⌝ }
@@ -80,9 +52,15 @@ pub fn look(row: &[u16], table: &[u8], crossed: &[u8], z: Sizes, down: &[u8], ps
 {
     let time = ps.time();
     let i = time.begins(z.timeout);
-    let mut events = [0u16; SLOT_EVENTS];
-    let next = ps.told(i, z.messages, row, table, down, &mut events);
-    let clue = compare(&events, crossed, i.number(), z.messages);
+    let from = i.number() * MESSAGES;
+    let end = from + MESSAGES;
+    let seen = ps.watched(i, z.messages, row, table, down, &crossed[from..end]);
+    let next = seen.next;
+    if seen.alike < z.messages {
+        let clue = clue_of(seen.kind, seen.number);
+        return Seen { clue, next };
+    }
+    let clue = Clue::Nothing;
     Seen { clue, next }
 }
 

@@ -12,3 +12,4 @@ pub mod Moving
 pub mod Telling
 pub mod Again
 pub mod Walking
+pub mod Seen

@@ -86,17 +86,24 @@ module _ {row : List ℕ} {down : ℕ → ℕ → Bool} {owner : ℕ → ℕ →
   pub telling-room : m < n → 2 * m + 1 < length out
   telling-room h = omega (arith, g .room, telling-length)
 
+  -- message m's event, as the pass has it
+  pub telling-event : (moved : Moved) (tried′ : List ℕ) → m < n → ActsIn row (down i) (owner i) i (getD new m home) m tried tried′ moved →
+      eventOf (moved .event) ≡ getD (passes row (down i) (owner i) i n old tried₀) m (S.moved (S.onFirst []) 0 0) .event
+  telling-event moved tried′ h a =
+      let d : S.Moved = S.moved (S.onFirst []) 0 0 in
+      ap (λ (x : S.Moved). x .event) (a .acts .is ∙ sym (moving-at (g .moving) d h))
+
   pub telling-more : (moved : Moved) (tried′ out′ : List ℕ) → m < n →
       ActsIn row (down i) (owner i) i (getD new m home) m tried tried′ moved →
       out′ ≡ set (set out (2 * m) (eventOf (moved .event) .kind)) (2 * m + 1) (eventOf (moved .event) .number) →
       Telling row down owner i n old tried₀ buffer (m + 1) (set new m (moved .next)) tried′ out′
   telling-more moved tried′ out′ h a e =
-      let d : S.Moved = S.moved (positionOf row home) 0 0 in
+      let d : S.Moved = S.moved (S.onFirst []) 0 0 in
       let v = eventOf (moved .event) in
       let l : m < length all = omega (arith, all-length (g .moving .passing)) in
-      let is = a .acts .is ∙ sym (moving-at (g .moving) d h) in
-      let k : v .kind ≡ getD (numbers all) (2 * m) 0 = ap (λ x. x .event .kind) is ∙ sym (kind-at all m d l) in
-      let x : v .number ≡ getD (numbers all) (2 * m + 1) 0 = ap (λ x. x .event .number) is ∙ sym (number-at all m d l) in
+      let is = telling-event moved tried′ h a in
+      let k : v .kind ≡ getD (numbers all) (2 * m) 0 = ap (λ (x : S.Event). x .kind) is ∙ sym (kind-at all m d l) in
+      let x : v .number ≡ getD (numbers all) (2 * m + 1) 0 = ap (λ (x : S.Event). x .number) is ∙ sym (number-at all m d l) in
       record {
         moving = moving-more (g .moving) (moved .next) tried′ h (moves-by a);
         room = g .room;

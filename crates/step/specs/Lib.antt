@@ -3,3 +3,4 @@ pub mod Where
 pub mod Stand
 pub mod Slot
 pub mod Pass
+pub mod Seen

@@ -2,13 +2,15 @@
 // with `slot` of document 01's section "One slot" (specs/Slot and specs/Cycle of `scope`), for any row of numbers, anything that is down in
 // the slot and any table. All that is asked is that a position ends below index 65536, which no function here undoes.
 //
-// A slot is one pass over the messages, in their order: `after` moves them, in records that are lent, and `told` moves them and tells what
-// they do. `move_all` and `lend` alone hold a slice of records, and their proofs are walks by hand.
+// A slot is one pass over the messages, in their order: `after` moves them, in records that are lent; `told` moves them and tells what
+// they do; `watched` is that pass too, held against what was seen, and ends at the first message that does something else. `move_all` and
+// `lend` alone hold a slice of records, and their proofs are walks by hand.
 use cuts::is_down;
 use rows::number;
 use rows::place_at;
 use rows::place_slot;
 use scope::limits::MESSAGES;
+use scope::limits::SLOT_EVENTS;
 use scope::limits::TRIES;
 ghost use Prim.Native.Nat.{_+_, _<_, _≤_};
 ghost use mathlib.Core.Path.{_≡_};
@@ -19,9 +21,10 @@ ghost use Rattle.scope.specs.Plan.{at};
 ghost use Rattle.scope.specs.Slot.{onFirst};
 ghost use Rattle.cuts.specs.Down.{isDown};
 ghost use Rattle.table.specs.Table.{entryAt};
-ghost use Rattle.step.specs.Events.{eventOf};
+ghost use Rattle.step.specs.Events.{eventOf, anEvent, crossingOf};
 ghost use Rattle.step.specs.Where.{endOf, placesAfter, doesFirst, doesSecond, Leads, Acts, Faces, Meets, MetActs};
-ghost use Rattle.step.specs.Stand.{Stand, Moves, MayTellAll, MovesAndTells};
+ghost use Rattle.step.specs.Stand.{Stand, Moves, MayTellAll};
+ghost use Rattle.step.specs.Seen.{asSeen, GoesAsSeen, Watches};
 ghost use Rattle.step.specs.Slot.{downNow, allIn, MayGo, GoesOn, MayTell, GoesAndTells};
 ghost use Rattle.step.specs.Pass.{firstTrier, noted, Noting, MayAct, ActsIn, MovesIn, MayMoveAll, MovesAll};
 
@@ -410,16 +413,46 @@ fn after_slot(
     lend(ps, n, row, table, down, i, &mut tried)
 }
 
-// An event in the row of events: "kind then number".
-fn put_event(out: &mut [u16], k: usize, event: Event)
-    requires { ⌜ k + 1 < length (now out) ⌝ }
-    ensures { λ _. ⌜ now (out .exit) ≡ set (set (now (out .entry)) k (eventOf event .kind)) (k + 1) (eventOf event .number) ⌝ }
+// The link that an event of this kind and number crosses, plus one, or 0.
+fn crossing(kind: u16, number: u16) -> usize
+    ensures { λ r. ⌜ r ≡ crossingOf (anEvent kind number) ⌝ }
 {
-    out[k] = event.kind();
-    out[k + 1] = event.number();
+    match kind {
+        2 | 3 => number as usize + 1,
+        _ => 0,
+    }
 }
 
-// One slot of all messages that is told, in records of one's own: each moves, in their order, and its event is put at the front of `out`.
+// Message m, with an event of this kind and number, crosses what was seen of it.
+fn as_seen(kind: u16, number: u16, seen: &[u8], m: usize) -> bool
+    ensures { λ r. ⌜ r ≡ asSeen (now (seen .entry)) m (anEvent kind number) ⌝ }
+{
+    if m < seen.len() {
+        crossing(kind, number) == seen[m] as usize
+    } else {
+        true
+    }
+}
+
+// An event in the row of events: "kind then number".
+fn put_event(out: &mut [u16], k: usize, kind: u16, number: u16)
+    requires { ⌜ k + 1 < length (now out) ⌝ }
+    ensures { λ _. ⌜ now (out .exit) ≡ set (set (now (out .entry)) k kind) (k + 1) number ⌝ }
+{
+    out[k] = kind;
+    out[k + 1] = number;
+}
+
+// How many messages do what was seen of them, the event of the next one, and all records where that is nobody.
+struct Gone {
+    alike: usize,
+    kind: u16,
+    number: u16,
+    positions: [Position; MESSAGES],
+}
+
+// One slot of all messages that is told, in records of one's own: each moves, in their order, and its event is put at the front of `out`. It
+// ends at the first message that does something else than was seen of it.
 fn go_all(
     ps: [Position; MESSAGES],
     n: usize,
@@ -427,12 +460,13 @@ fn go_all(
     table: &[u8],
     down: &[u8],
     i: Slot,
+    seen: &[u8],
     out: &mut [u16],
-) -> [Position; MESSAGES]
+) -> Gone
     requires { ⌜ MayTellAll (now row) ps n (i .0) (length (now out)) ⌝ }
     ensures { λ r.
-        ⌜ MovesAndTells (now (row .entry)) n (allIn (now (row .entry)) (now (table .entry)) (now (down .entry)) (i .0) n ps) ps r
-        (now (out .entry)) (now (out .exit)) ⌝ }
+        ⌜ GoesAsSeen (now (row .entry)) n (allIn (now (row .entry)) (now (table .entry)) (now (down .entry)) (i .0) n ps)
+        (now (seen .entry)) ps (now (out .entry)) (now (out .exit)) r ⌝ }
 {
     let mut tried = [0u16; TRIES];
     let mut qs = ps;
@@ -441,18 +475,42 @@ fn go_all(
         let p = qs[m];
         let moved = act_one(p, m, row, table, down, i, &mut tried);
         let event = moved.event;
-        put_event(out, 2 * m, event);
+        let kind = event.kind();
+        let number = event.number();
+        if !as_seen(kind, number, seen, m) {
+            return Gone {
+                alike: m,
+                kind,
+                number,
+                positions: qs,
+            };
+        }
+        put_event(out, 2 * m, kind, number);
         let q = moved.next;
         qs[m] = q;
         m += 1;
     }
-    qs
+    Gone {
+        alike: m,
+        kind: 0,
+        number: 0,
+        positions: qs,
+    }
 }
 
 // Where all messages stand at a time, one record a message.
 pub struct Standing {
     time: Time,
     positions: [Position; MESSAGES],
+}
+
+// How many messages do in a slot what was seen of them, from the first on; the event of the next one, zeros where that is nobody; and where
+// all stand after the slot, if nobody does anything else.
+pub struct Watched {
+    pub alike: usize,
+    pub kind: u16,
+    pub number: u16,
+    pub next: Standing,
 }
 
 impl Standing {
@@ -508,11 +566,50 @@ impl Standing {
             (now (out .entry)) (now (out .exit)) ⌝ }
     {
         let ps = self.positions;
-        let qs = go_all(ps, n, row, table, down, i, out);
+        let gone = go_all(ps, n, row, table, down, i, &[], out);
+        let qs = gone.positions;
         let time = i.leads_to();
         Standing {
             time,
             positions: qs,
+        }
+    }
+
+    // The slot step held against what was seen of the messages, a number each: the link that it crosses, plus one, or 0.
+    pub fn watched(
+        self,
+        i: Slot,
+        n: usize,
+        row: &[u16],
+        table: &[u8],
+        down: &[u8],
+        seen: &[u8],
+    ) -> Watched
+        requires { ⌜ MayGo (now row) n self (i .0) ⌝ }
+        ensures { λ r. ⌜ Watches (now (row .entry)) (now (table .entry)) (now (down .entry)) (now (seen .entry)) n (i .0) self r ⌝ }
+    {
+        let mut out = [0u16; SLOT_EVENTS];
+        let ps = self.positions;
+        let gone = go_all(ps, n, row, table, down, i, seen, &mut out);
+        if gone.alike < n {
+            return Watched {
+                alike: gone.alike,
+                kind: gone.kind,
+                number: gone.number,
+                next: self,
+            };
+        }
+        let qs = gone.positions;
+        let time = i.leads_to();
+        let next = Standing {
+            time,
+            positions: qs,
+        };
+        Watched {
+            alike: gone.alike,
+            kind: gone.kind,
+            number: gone.number,
+            next,
         }
     }
 }

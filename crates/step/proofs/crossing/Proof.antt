@@ -1,9 +1,9 @@
--- `clues::crossing` meets its contract.
+-- `step::crossing` meets its contract.
 use native.Mathlib.Omega.{arith}
 use borrow.Author.Needs.{needs}
-use Rattle.clues.proofs.Crossings.{is-crossing, no-crossing}
-use Rattle.clues.proofs.crossing.Statement.{statement}
-use Rattle.clues.proofs.crossing.Tie as tie
+use Rattle.step.proofs.Seen.{is-crossing, no-crossing}
+use Rattle.step.proofs.crossing.Statement.{statement}
+use Rattle.step.proofs.crossing.Tie as tie
 
 returns : tie.Need-returns
 returns c = is-crossing (c .before .before .args .kind) (c .before .before .args .number) (omega arith) (omega arith)
