@@ -470,28 +470,28 @@ fn go_all(
 {
     let mut tried = [0u16; TRIES];
     let mut qs = ps;
-    let mut m = 0;
-    while m < n {
-        let p = qs[m];
-        let moved = act_one(p, m, row, table, down, i, &mut tried);
+    let mut k = 0;
+    while k < n {
+        let p = qs[k];
+        let moved = act_one(p, k, row, table, down, i, &mut tried);
         let event = moved.event;
         let kind = event.kind();
         let number = event.number();
-        if !as_seen(kind, number, seen, m) {
+        if !as_seen(kind, number, seen, k) {
             return Gone {
-                alike: m,
+                alike: k,
                 kind,
                 number,
                 positions: qs,
             };
         }
-        put_event(out, 2 * m, kind, number);
+        put_event(out, 2 * k, kind, number);
         let q = moved.next;
-        qs[m] = q;
-        m += 1;
+        qs[k] = q;
+        k += 1;
     }
     Gone {
-        alike: m,
+        alike: k,
         kind: 0,
         number: 0,
         positions: qs,

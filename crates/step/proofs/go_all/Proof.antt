@@ -1,4 +1,4 @@
--- `step::go_all` meets its contract. The loop's invariant: the first m messages have moved, their events are told, and they are as seen. Assumes
+-- `step::go_all` meets its contract. The loop's invariant: the first k messages have moved, their events are told, and they are as seen. Assumes
 -- nothing.
 use Prim.Native.Nat.{_-_}
 use mathlib.Core.Path.{_≡_, refl, sym, _∙_}
@@ -15,11 +15,11 @@ use Rattle.step.proofs.go_all.Statement.{statement}
 use Rattle.step.proofs.go_all.Tie as tie
 
 abbrev Inv-loop : tie.InvT-loop
-Inv-loop n row table down i seen out₀ tried₀ qs₀ m₀ out tried qs m =
-    Watching row (downNow down) (entryAt table) (i .0) n qs₀ tried₀ out₀ seen m qs tried out
+Inv-loop n row table down i seen out₀ tried₀ qs₀ k₀ out tried qs k =
+    Watching row (downNow down) (entryAt table) (i .0) n qs₀ tried₀ out₀ seen k qs tried out
 
 abbrev μ-loop : tie.MeasureT-loop
-μ-loop n row table down i seen out₀ tried₀ qs₀ m₀ out tried qs m = n - m
+μ-loop n row table down i seen out₀ tried₀ qs₀ k₀ out tried qs k = n - k
 
 loop-holds : tie.Need-loop-holds Inv-loop μ-loop
 loop-holds c =
@@ -63,8 +63,8 @@ array-set-from-qs : tie.Need-array-set-from-qs Inv-loop μ-loop
 array-set-from-qs c =
     omega (arith, c .before .before .before .before .before .before .before .before .before .before .before .before .before .loop-test .taken, c .before .before .before .before .before .before .before .before .before .before .before .before .before .before .loop .inv .telling .moving .passing .most)
 
-add-m : tie.Need-add-m Inv-loop μ-loop
-add-m c =
+add-k : tie.Need-add-k Inv-loop μ-loop
+add-k c =
     omega (arith, c .before .before .before .before .before .before .before .before .before .before .before .before .before .loop-test .taken, c .before .before .before .before .before .before .before .before .before .before .before .before .before .before .loop .inv .telling .moving .passing .most)
 
 loop-less : tie.Need-loop-less Inv-loop μ-loop
@@ -87,5 +87,5 @@ pub go-all-spec : {M : Type 1} → statement M
 go-all-spec =
     tie.close
     (tie.spec Inv-loop μ-loop loop-holds mul-p array-copy-out-p (λ c. search needs) act-one-requires (λ c κs. search needs)
-    (λ c κs. search needs) (λ c κs. search needs) same-length returns mul-put-event put-event-requires mul-qs array-set-from-qs add-m
+    (λ c κs. search needs) (λ c κs. search needs) same-length returns mul-put-event put-event-requires mul-qs array-set-from-qs add-k
     loop-less loop-again same-length-2 returns-2)
