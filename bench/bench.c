@@ -503,12 +503,12 @@ static int look(const position *ps, position *next, int i) {
     return NOTHING;
 }
 
-/* No list that goes on from the pairs picked with n more explains the capture: more links are named than that, or nothing can mend it. Where as many
-   are named, `only` has those, since a list that explains it cuts no other; else all links. */
-static int hopeless(const position *ps, int i, int n, usize *only) {
+/* How many links are named that every list has cut which goes on from the pairs picked with at most n more and explains the capture, and which; or -1
+   where more are named than that, or nothing can mend it, so that there is no such list. */
+static int suspect(const position *ps, int i, int n, usize *links) {
     position room[2][32];
     int names[3], named = 0, none = 0;
-    usize all = 0;
+    *links = 0;
     while (i < T && !none) {
         int clue = look(ps, room[i & 1], i);
         if (clue == NOTHING) ps = room[i++ & 1];
@@ -516,26 +516,24 @@ static int hopeless(const position *ps, int i, int n, usize *only) {
         else {
             names[named++] = clue;
             cut_from[clue] = i;
-            all |= 1ul << clue;
+            *links |= 1ul << clue;
         }
     }
-    *only = named == n ? all : ~0ul;
-    while (named) cut_from[names[--named]] = 65535;
-    return none;
+    for (int j = 0; j < named; j++) cut_from[names[j]] = 65535;
+    return none ? -1 : named;
 }
 
-/* The first list of n more pairs, from slot s and link e on, that explains the capture. */
-static int seek(const position *ps, int n, int at, int s, int e) {
+/* The first list of n more pairs, from slot s and link e on, that explains the capture. Where as many links are named, it cuts no other. */
+static int seek(const position *ps, int n, int at, int s, int e, int named, usize links) {
     position room[2][32];
-    usize only;
-    if (hopeless(ps, s, n, &only)) return 0;
-    if (!n) return 1;
+    usize only = named == n ? links : ~0ul;
     for (; s < T; s++, e = 0) {
         for (; e < E; e++) {
             if (cut_from[e] != 65535 || !(only >> e & 1) || s < past[e]) continue;
             cut_from[e] = pairs[at] = s;
             pairs[at + 1] = e;
-            int found = seek(ps, n - 1, at + 2, s, e + 1);
+            named = suspect(ps, s, n - 1, &links);
+            int found = named >= 0 && (n == 1 || seek(ps, n - 1, at + 2, s, e + 1, named, links));
             cut_from[e] = 65535;
             if (found) return 1;
         }
@@ -554,8 +552,12 @@ static int explain(int k) { /* the first list that explains the capture: how man
     clear_cuts();
     begin();
     slots = 0;
-    for (int n = 0; n <= k && !twice; n++)
-        if (seek(start, n, 0, 0, 0)) {
+    if (twice) return 0;
+    usize links;
+    int named = suspect(start, 0, k, &links);
+    if (named < 0) return 0;
+    for (int n = named; n <= k; n++)
+        if (!n || seek(start, n, 0, 0, 0, named, links)) {
             for (int i = 0; i < 2 * n; i++) out[i] = pairs[i];
             return n + 1;
         }

@@ -254,9 +254,9 @@ def explained(goals):
             for k in 1, 2, 3:
                 question = 'infer%d' % k
                 pairs, slots = ask(c, plan, 'slots%d' % k, 1, given=given)[0].split()
-                turns = 1 + 100000 // (20 + int(slots))  # so many that the time can be told
+                turns = 1 + 150000 // (8 + int(slots))  # so many that each run takes some 30 ms and more, of which a millisecond is its start
                 taken = []
-                for _ in range(3):
+                for _ in range(repetitions):
                     said, mine = ask(ours, plan, question, turns, given=given)
                     other, theirs = ask(c, plan, question, turns, given=given)
                     if said != other:
