@@ -5,8 +5,8 @@ use mathlib.Core.Path.{_≡_, refl, sym, _∙_, ap, ap₂, subst}
 use mathlib.Core.Bool.{Bool, true, false, not, _&&_, _||_}
 use mathlib.Core.List.{List, [], _∷_, _++_}
 use lib.ListN.{length, getD, take}
-use lib.Dec.{ltb}
-use borrow.Author.Tests.{ltb-true, ltb-false, leb-false}
+use lib.Dec.{ltb, eqb}
+use borrow.Author.Tests.{ltb-true, ltb-false, eqb-true, leb-false}
 use Rattle.scope.specs.Limits.{mostLinks, mostCuts}
 use Rattle.scope.specs.Lowest.{seek}
 use Rattle.cuts.specs.Down.{isDown}
@@ -180,7 +180,7 @@ module _ (row table crossed : List ℕ) (z : Sizes) (ps : Standing) (p : Picked)
 
     module _ (s e : ℕ) (qs : Standing) (g : Climbing row crossed z p n s e qs) where
       pub may-look-in : (v : Suspicion) (last : List ℕ) → Suspected row crossed p n v → v .hopeless ≡ false → Lasts crossed z last →
-          s < z .timeout → MaySeekIn row table crossed z qs p n (v .down) last (v .all) s e
+          s < z .timeout → MaySeekIn row table crossed z qs p n (v .down) last (eqb (v .named) n) s e
       may-look-in v last told hope lasts early =
           record {
             good = m .suspect .good;
@@ -195,7 +195,7 @@ module _ (row table crossed : List ℕ) (z : Sizes) (ps : Standing) (p : Picked)
             early = early;
             link = g .link;
             later = g .later;
-            only = told .only hope;
+            only = λ same a b x long. told .only hope a b x (omega (arith, eqb-true (v .named) n same));
           }
 
       pub may-look : s < z .timeout → MayLook row table crossed z qs

@@ -188,7 +188,7 @@ fn level(
     }
     let last = last_seen(crossed, z);
     let named = suspicion.down;
-    let all = suspicion.all;
+    let all = suspicion.named == n;
     let down = p.down;
     let mut qs = ps;
     let mut s = p.slot;

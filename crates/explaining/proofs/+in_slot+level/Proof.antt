@@ -203,12 +203,13 @@ level-nothing-requires t c κs = search needs
 level-returns : (t : ℕ) → level-lts.Need-returns (level-calls t) (level-at t) level.Post level-inv level-less
 level-returns t c =
     no-hope _ _ _ _ _ _ _ (c .before .before .before .before .before .before .pre .1) _ (c .nothing .ensures)
-    (c .before .before .suspect .ensures .none (c .before .if1 .taken))
+    (c .before .before .suspect .ensures .none (c .before .if1 .taken) _ (omega arith))
 
 level-returns-2 : (t : ℕ) → level-lts.Need-returns-2 (level-calls t) (level-at t) level.Post level-inv level-less
 level-returns-2 t c =
+    let told = c .before .before .before .suspect .ensures in
     is-it _ _ _ _ _ _ _ (c .before .before .before .before .before .before .before .pre .1) _ (c .before .if2 .taken) refl refl
-    (c .before .before .before .suspect .ensures .whole (c .before .before .if1 .left) (c .before .if2 .taken))
+    (told .whole (c .before .before .if1 .left) (omega (arith, told .few (c .before .before .if1 .left), c .before .if2 .taken)))
 
 level-last-seen-requires : (t : ℕ) → level-lts.Need-last-seen-requires (level-calls t) (level-at t) level.Post level-inv level-less
 level-last-seen-requires t c κs =
@@ -216,37 +217,37 @@ level-last-seen-requires t c κs =
 
 level-loop-holds : (t : ℕ) → level-lts.Need-loop-holds (level-calls t) (level-at t) level.Post level-inv level-less
 level-loop-holds t c =
-    climbs-first _ _ _ _ _ _ _ (c .before .before .before .before .before .before .before .before .before .pre .1)
-    (c .before .before .before .if2 .left)
+    climbs-first _ _ _ _ _ _ _ (c .before .before .before .before .before .before .before .before .before .before .pre .1)
+    (c .before .before .before .before .if2 .left)
 
 level-in-slot-requires : (t : ℕ) → level-lts.Need-in-slot-requires (level-calls t) (level-at t) level.Post level-inv level-less
 level-in-slot-requires t c κs =
-    let may = c .before .before .before .before .before .before .before .before .before .before .before .before .pre .1 in
-    let told = c .before .before .before .before .before .before .before .before .suspect .ensures in (
-      omega (arith, c .before .before .before .before .before .before .before .before .before .before .before .before .pre .0),
-      may-look-in _ _ _ _ _ _ _ may (c .before .before .before .before .before .before .if2 .left) _ _ _ (c .before .before .loop .inv) _ _ told
-          (c .before .before .before .before .before .before .before .if1 .left) (c .before .before .before .before .before .last-seen .ensures)
+    let may = c .before .before .before .before .before .before .before .before .before .before .before .before .before .pre .1 in
+    let told = c .before .before .before .before .before .before .before .before .before .suspect .ensures in (
+      omega (arith, c .before .before .before .before .before .before .before .before .before .before .before .before .before .pre .0),
+      may-look-in _ _ _ _ _ _ _ may (c .before .before .before .before .before .before .before .if2 .left) _ _ _ (c .before .before .loop .inv) _ _ told
+          (c .before .before .before .before .before .before .before .before .if1 .left) (c .before .before .before .before .before .before .last-seen .ensures)
           (c .if3 .taken),
     )
 
 level-returns-3 : (t : ℕ) → level-lts.Need-returns-3 (level-calls t) (level-at t) level.Post level-inv level-less
 level-returns-3 t c =
-    let may = c .before .before .before .before .before .before .before .before .before .before .before .before .before .before .pre .1 in
-    let more = c .before .before .before .before .before .before .before .before .if2 .left in
+    let may = c .before .before .before .before .before .before .before .before .before .before .before .before .before .before .before .pre .1 in
+    let more = c .before .before .before .before .before .before .before .before .before .if2 .left in
     climbs-some _ _ _ _ _ _ _ may more _ _ _ (c .before .before .before .before .loop .inv) _
     (c .before .in-slot .ensures) (c .if4 .taken)
 
 level-slice-aggregate-look : (t : ℕ) → level-lts.Need-slice-aggregate-look (level-calls t) (level-at t) level.Post level-inv level-less
 level-slice-aggregate-look t c =
     let may =
-    c .before .before .before .before .before .before .before .before .before .before .before .before .before .before .before .pre .1 in
+    c .before .before .before .before .before .before .before .before .before .before .before .before .before .before .before .before .pre .1 in
     sym (may .suspect .holding .size)
 
 level-look-requires : (t : ℕ) → level-lts.Need-look-requires (level-calls t) (level-at t) level.Post level-inv level-less
 level-look-requires t c κs =
     may-look _ _ _ _ _ _ _
-    (c .before .before .before .before .before .before .before .before .before .before .before .before .before .before .before .pre .1)
-    (c .before .before .before .before .before .before .before .before .before .if2 .left) _ _ _
+    (c .before .before .before .before .before .before .before .before .before .before .before .before .before .before .before .before .pre .1)
+    (c .before .before .before .before .before .before .before .before .before .before .if2 .left) _ _ _
     (c .before .before .before .before .before .loop .inv)
     (c .before .before .before .if3 .taken)
 
@@ -260,8 +261,8 @@ level-returns-4 : (t : ℕ) → level-lts.Need-returns-4 (level-calls t) (level-
 level-returns-4 t c =
     let may =
     c .before .before .before .before .before .before .before .before .before .before .before .before .before .before .before .before
-    .before .before .before .pre .1 in
-    let more = c .before .before .before .before .before .before .before .before .before .before .before .before .before .if2 .left in
+    .before .before .before .before .pre .1 in
+    let more = c .before .before .before .before .before .before .before .before .before .before .before .before .before .before .if2 .left in
     let inv = c .before .before .before .before .before .before .before .before .before .loop .inv in
     climbs-stop _ _ _ _ _ _ _ may more _ _ _ inv _
     (c .before .before .before .before .before .before .in-slot .ensures) (c .before .before .before .before .before .if4 .left)
@@ -272,7 +273,7 @@ level-add-s : (t : ℕ) → level-lts.Need-add-s (level-calls t) (level-at t) le
 level-add-s t c =
     let may =
     c .before .before .before .before .before .before .before .before .before .before .before .before .before .before .before .before
-    .before .before .before .pre .1 in
+    .before .before .before .before .pre .1 in
     omega (
       arith,
       c .before .before .before .before .before .before .before .if3 .taken,
@@ -287,8 +288,8 @@ level-loop-again : (t : ℕ) → level-lts.Need-loop-again (level-calls t) (leve
 level-loop-again t c =
     let may =
     c .before .before .before .before .before .before .before .before .before .before .before .before .before .before .before .before
-    .before .before .before .pre .1 in
-    let more = c .before .before .before .before .before .before .before .before .before .before .before .before .before .if2 .left in
+    .before .before .before .before .pre .1 in
+    let more = c .before .before .before .before .before .before .before .before .before .before .before .before .before .before .if2 .left in
     let inv = c .before .before .before .before .before .before .before .before .before .loop .inv in
     climbs-on _ _ _ _ _ _ _ may more _ _ _ inv _
     (c .before .before .before .before .before .before .in-slot .ensures) (c .before .before .before .before .before .if4 .left)
@@ -300,9 +301,9 @@ level-nothing-requires-3 t c κs = search needs
 
 level-returns-5 : (t : ℕ) → level-lts.Need-returns-5 (level-calls t) (level-at t) level.Post level-inv level-less
 level-returns-5 t c =
-    let may = c .before .before .before .before .before .before .before .before .before .before .before .before .before .pre .1 in
+    let may = c .before .before .before .before .before .before .before .before .before .before .before .before .before .before .pre .1 in
     climbs-over _ _ _ _ _ _ _ may
-    (c .before .before .before .before .before .before .before .if2 .left) _ _ _ (c .before .before .before .loop .inv) _ (c .nothing3 .ensures)
+    (c .before .before .before .before .before .before .before .before .if2 .left) _ _ _ (c .before .before .before .loop .inv) _ (c .nothing3 .ensures)
     (c .before .if3 .left)
 
 pub +in-slot+level-spec : {M : Type 1} → statement M
