@@ -263,9 +263,9 @@ module _ (row table crossed : List ℕ) (z : Sizes) (ps : Standing) (p : Picked)
 -- so for the pairs picked with which a loop began, whatever they are; and no more links are named than pairs may come
 pub record Suspects (row table crossed : List ℕ) (z : Sizes) (n : ℕ) (down₀ : List ℕ) (qs₀ : Standing) (i₀ : ℕ)
     (down : List ℕ) (qs : Standing) (named i : ℕ) : Type 0 where
-  pub few : named ≤ n
   pub of : (p : Picked) → MaySuspect row table crossed z qs₀ p → p .down ≡ down₀ → p .slot ≡ i₀ →
       Suspecting row crossed z p down qs named i
+  pub few : named ≤ n
 
 -- what is answered where lists are given up
 pub suspects-given-up : (row crossed : List ℕ) (p : Picked) (n : ℕ) (r : Suspicion) → r .hopeless ≡ true →

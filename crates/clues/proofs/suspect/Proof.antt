@@ -28,7 +28,7 @@ abbrev μ-loop : tie.MeasureT-loop
 μ-loop row table crossed z n down₀ qs₀ named₀ i₀ down qs named i = z .timeout - i + (n - named)
 
 loop-holds : tie.Need-loop-holds Inv-loop μ-loop
-loop-holds c = record { few = omega arith; of = λ p m d s. suspects-none-yet _ _ _ _ _ p m _ _ d s }
+loop-holds c = record { of = λ p m d s. suspects-none-yet _ _ _ _ _ p m _ _ d s; few = omega arith }
 
 slice-aggregate-look : tie.Need-slice-aggregate-look Inv-loop μ-loop
 slice-aggregate-look c =
@@ -45,10 +45,10 @@ loop-again : tie.Need-loop-again Inv-loop μ-loop
 loop-again c =
     let inv = c .before .before .before .before .before .before .before .loop .inv in
     record {
-      few = inv .few;
       of = λ p m d s.
           suspects-on _ _ _ _ _ p m _ _ _ _ (inv .of p m d s) (c .before .before .before .before .before .if1 .taken) _
           (c .before .before .before .look .ensures) (c .before .enum-told .given .1);
+      few = inv .few;
     }
 
 returns : tie.Need-returns Inv-loop μ-loop
@@ -72,10 +72,10 @@ loop-again-2 : tie.Need-loop-again-2 Inv-loop μ-loop
 loop-again-2 c =
     let inv = c .before .before .before .before .before .before .before .before .loop .inv in
     record {
-      few = omega (arith, inv .few, c .if2 .left);
       of = λ p m d s.
           suspects-more _ _ _ _ _ p m _ _ _ _ (inv .of p m d s) (c .before .before .before .before .before .before .if1 .taken) _
           (c .before .before .before .before .look .ensures) _ (c .before .before .clue .given .1);
+      few = omega (arith, inv .few, c .if2 .left);
     }
 
 returns-2 : tie.Need-returns-2 Inv-loop μ-loop
