@@ -63,9 +63,9 @@ apart-more pre d s e long apart new i j h l same = by (ltb i d) refl
         let last : cutLink (pre ++ s ∷ e ∷ []) i ≡ e = ap (cutLink (pre ++ s ∷ e ∷ [])) is ∙ link-right pre (s ∷ e ∷ []) d long 0 in
         new j (omega arith) (sym (left j (omega arith)) ∙ same ∙ last)
 
--- n + 1 different links are not all cut by a list of n pairs
-module _ (plan : Plan) (cuts others : List ℕ) (n : ℕ) (long : length cuts ≡ 2 * (n + 1)) (few : length others ≡ 2 * n)
-    (apart : Apart cuts (n + 1)) (within : Within (isCut plan cuts) (isCut plan others)) where
+-- c different links are not all cut by a list of n pairs, which are fewer
+module _ (plan : Plan) (cuts others : List ℕ) (c n : ℕ) (more : n < c) (long : length cuts ≡ 2 * c) (few : length others ≡ 2 * n)
+    (apart : Apart cuts c) (within : Within (isCut plan cuts) (isCut plan others)) where
   -- pair i's link is cut by this pair of the others
   test : ℕ → ℕ → Bool
   test i j = cutsLink plan (cutLink others j) (cutLink cuts i) && leb (cutSlot others j) (cutSlot cuts i)
@@ -73,7 +73,7 @@ module _ (plan : Plan) (cuts others : List ℕ) (n : ℕ) (long : length cuts �
   cutter : ℕ → ℕ
   cutter i = lowest (test i) n
 
-  there : (i : ℕ) → i < n + 1 → cutter i < n
+  there : (i : ℕ) → i < c → cutter i < n
   unfolding isCut cutter test
   there i l =
       let count : pairs others ≡ n = omega arith in
@@ -82,7 +82,7 @@ module _ (plan : Plan) (cuts others : List ℕ) (n : ℕ) (long : length cuts �
       let cut : isCut plan others s e ≡ true = within s e (is-cut plan cuts s e i (omega arith) (eq-eqb e e refl) (omega arith)) in
       ltb-true (lowest (test i) n) n (ap (some (test i)) (sym count) ∙ cut)
 
-  names : (i : ℕ) → i < n + 1 → cutLink others (cutter i) ≡ cutLink cuts i
+  names : (i : ℕ) → i < c → cutLink others (cutter i) ≡ cutLink cuts i
   unfolding cutter test
   names i l =
       let is = seek-is (test i) n 0 (omega (arith, there i l)) in

@@ -1,6 +1,6 @@
 -- The links that the slots name, one after another: every list that goes on from the pairs picked and has the crossings of the table has cut
 -- them all. They are different links, so that no more can be named than there are pairs to come.
-use Prim.Native.Nat.{ℕ, _+_, _-_, _*_, _≤_, _<_}
+use Prim.Native.Nat.{ℕ, _+_, _*_, _≤_, _<_}
 use native.Mathlib.Omega.{arith}
 use mathlib.Core.Path.{_≡_, refl, sym, _∙_, ap, subst}
 use mathlib.Core.Bool.{Bool, true, false, and-eq-true-iff, true≢false}
@@ -32,42 +32,41 @@ use Rattle.clues.specs.declared.Clue.{Clue}
 use Rattle.clues.specs.declared.Clue.the-variants.{Nothing, Link, Dead}
 use Rattle.clues.specs.declared.Seen.{Seen}
 use Rattle.step.specs.Events.{crossingOf}
+use Rattle.clues.specs.declared.Suspicion.{Suspicion}
 use Rattle.clues.specs.Clues.{eventIn, MatchesIn, MatchesBefore, Matches, Foremost, Says, MayLook, Shows, Looked, MaySuspect}
+use Rattle.clues.specs.Clues.{Suspected}
 use Rattle.clues.proofs.Crossings.{same-crossing, crossing-same, may-name}
 use Rattle.clues.proofs.Lists.{matches-more, within-more, Apart, apart-more, too-many}
 use Rattle.clues.proofs.Looking.{shown-nothing}
 
--- a list of n pairs more that has the crossings of the table
-pub record Answer (row crossed : List ℕ) (p : Picked) (n : ℕ) (x : List ℕ) : Type 0 where
-  pub long : length x ≡ 2 * n
+-- a list that goes on from the pairs picked and has the crossings of the table
+pub record Answer (row crossed : List ℕ) (p : Picked) (x : List ℕ) : Type 0 where
   pub good : isCutList (planOf row) (cutsOf p ++ x) ≡ true
   pub matches : Matches (planOf row) crossed (cutsOf p ++ x)
 
--- at time i n - left links are named: with them the pairs picked have the crossings of the table before slot i, and every answer cuts what
+-- at time i so many links are named: with them the pairs picked have the crossings of the table before slot i, and every answer cuts what
 -- they cut
-pub record Suspecting (row crossed : List ℕ) (z : Sizes) (p : Picked) (n : ℕ) (down : List ℕ) (qs : Standing) (left i : ℕ) : Type 0 where
+pub record Suspecting (row crossed : List ℕ) (z : Sizes) (p : Picked) (down : List ℕ) (qs : Standing) (named i : ℕ) : Type 0 where
   pub cuts : List ℕ
-  pub few : left ≤ n
-  pub long : length cuts ≡ 2 * (p .count + (n - left))
-  pub bare : left ≡ n → cuts ≡ cutsOf p
+  pub long : length cuts ≡ 2 * (p .count + named)
+  pub bare : named ≡ 0 → cuts ≡ cutsOf p
   pub early : i ≤ z .timeout
   pub size : length down ≡ mostLinks
   pub are : (j e : ℕ) → i ≤ j → isDown down e ≡ isCut (planOf row) cuts j e
   pub stand : StandAt row (z .messages) cuts i qs
   pub before : MatchesBefore (planOf row) crossed cuts i
-  pub within : (x : List ℕ) → Answer row crossed p n x → Within (isCut (planOf row) cuts) (isCut (planOf row) (cutsOf p ++ x))
-  pub apart : (x : List ℕ) → Answer row crossed p n x → Apart cuts (p .count + (n - left))
+  pub within : (x : List ℕ) → Answer row crossed p x → Within (isCut (planOf row) cuts) (isCut (planOf row) (cutsOf p ++ x))
+  pub apart : (x : List ℕ) → Answer row crossed p x → Apart cuts (p .count + named)
 
-module _ (row table crossed : List ℕ) (z : Sizes) (ps : Standing) (p : Picked) (n : ℕ) (may : MaySuspect row table crossed z ps p) where
+module _ (row table crossed : List ℕ) (z : Sizes) (ps : Standing) (p : Picked) (may : MaySuspect row table crossed z ps p) where
   -- no link is named yet
-  pub suspects-none-yet : (down : List ℕ) (i : ℕ) → p .down ≡ down → p .slot ≡ i → Suspecting row crossed z p n down ps n i
+  pub suspects-none-yet : (down : List ℕ) (i : ℕ) → p .down ≡ down → p .slot ≡ i → Suspecting row crossed z p down ps 0 i
   suspects-none-yet down i d s =
       let h = may .holding in
       let plan = planOf row in
-      let z0 : p .count + (n - n) ≡ p .count = omega arith in
+      let z0 : p .count + 0 ≡ p .count = omega arith in
       record {
         cuts = cutsOf p;
-        few = omega arith;
         long = rw z0 (h .chosen .long);
         bare = λ e. refl;
         early = omega (arith, h .slot);
@@ -88,34 +87,32 @@ module _ (row table crossed : List ℕ) (z : Sizes) (ps : Standing) (p : Picked)
             same;
       }
 
-  -- an answer cuts a link that is not down: then no pair cuts it yet, and with it all that are named are too many once none is to come
-  module _ (down : List ℕ) (qs : Standing) (left i : ℕ) (g : Suspecting row crossed z p n down qs left i) (x : List ℕ)
-      (a : Answer row crossed p n x) (s e : ℕ) (whole : isDown down e ≡ false) (cut : isCut (planOf row) (cutsOf p ++ x) s e ≡ true) where
+  -- an answer cuts a link that is not down: then no pair cuts it yet, and with it there are more links than are named
+  module _ (down : List ℕ) (qs : Standing) (named i : ℕ) (g : Suspecting row crossed z p down qs named i) (x : List ℕ)
+      (a : Answer row crossed p x) (s e : ℕ) (whole : isDown down e ≡ false) (cut : isCut (planOf row) (cutsOf p ++ x) s e ≡ true) where
     abbrev longer : List ℕ
     longer = g .cuts ++ s ∷ e ∷ []
 
     within-longer : Within (isCut (planOf row) longer) (isCut (planOf row) (cutsOf p ++ x))
-    within-longer = within-more (planOf row) (g .cuts) (p .count + (n - left)) (g .long) s e (cutsOf p ++ x) (g .within x a) cut
+    within-longer = within-more (planOf row) (g .cuts) (p .count + named) (g .long) s e (cutsOf p ++ x) (g .within x a) cut
 
-    new : (j : ℕ) → j < p .count + (n - left) → cutLink (g .cuts) j ≡ e → ⊥
+    new : (j : ℕ) → j < p .count + named → cutLink (g .cuts) j ≡ e → ⊥
     new j h same =
         let k = i + cutSlot (g .cuts) j in
         true≢false
         (sym (is-cut (planOf row) (g .cuts) k e j (omega (arith, g .long)) (eq-eqb (cutLink (g .cuts) j) e same) (omega arith)) ∙
         sym (g .are k e (omega arith)) ∙ whole)
 
-    apart-longer : Apart longer (p .count + (n - left) + 1)
-    apart-longer = apart-more (g .cuts) (p .count + (n - left)) s e (g .long) (g .apart x a) new
+    apart-longer : Apart longer (p .count + named + 1)
+    apart-longer = apart-more (g .cuts) (p .count + named) s e (g .long) (g .apart x a) new
 
-    one-too-many : left ≡ 0 → ⊥
-    one-too-many zero =
-        let all : p .count + (n - left) ≡ p .count + n = omega arith in
-        too-many (planOf row) longer (cutsOf p ++ x) (p .count + n)
+    one-too-many : (j : ℕ) → length x ≡ 2 * j → j ≤ named → ⊥
+    one-too-many j long few =
+        too-many (planOf row) longer (cutsOf p ++ x) (p .count + named + 1) (p .count + j) (omega arith)
         (omega (arith, length-append (g .cuts) (s ∷ e ∷ []), g .long))
-        (omega (arith, length-append (cutsOf p) x, a .long, may .holding .chosen .long))
-        (subst (λ (k : ℕ). Apart longer (k + 1)) all apart-longer) within-longer
+        (omega (arith, length-append (cutsOf p) x, may .holding .chosen .long)) apart-longer within-longer
 
-  module _ (down : List ℕ) (qs : Standing) (left i : ℕ) (g : Suspecting row crossed z p n down qs left i) (l : i < z .timeout) where
+  module _ (down : List ℕ) (qs : Standing) (named i : ℕ) (g : Suspecting row crossed z p down qs named i) (l : i < z .timeout) where
     pub may-look : MayLook row table crossed z qs
     may-look = record { play = may .play; stand = g .stand .next .stand; early = omega (arith, g .stand .time); size = may .size }
 
@@ -127,11 +124,10 @@ module _ (row table crossed : List ℕ) (z : Sizes) (ps : Standing) (p : Picked)
           (λ e. g .are (qs .time .0) e (omega (arith, g .stand .time))))
 
       -- the slot has the crossings of the table
-      pub suspects-on : r .clue ≡ Nothing → Suspecting row crossed z p n down (r .next) left (i + 1)
+      pub suspects-on : r .clue ≡ Nothing → Suspecting row crossed z p down (r .next) named (i + 1)
       suspects-on is =
           record {
             cuts = g .cuts;
-            few = g .few;
             long = g .long;
             bare = g .bare;
             early = omega arith;
@@ -151,7 +147,7 @@ module _ (row table crossed : List ℕ) (z : Sizes) (ps : Standing) (p : Picked)
               subst (MatchesIn (planOf row) crossed (g .cuts)) at (shown-nothing row crossed (z .messages) (g .cuts) i r shows is)
 
       -- what the foremost message that differs says of an answer
-      convicts : (x : List ℕ) → Answer row crossed p n x → (m : ℕ) →
+      convicts : (x : List ℕ) → Answer row crossed p x → (m : ℕ) →
           Foremost (eventIn (planOf row) (g .cuts) i) (crossedAt crossed i) (length (planOf row .messages)) m →
           Convicts (isCut (planOf row) (g .cuts) i) (isCut (planOf row) (cutsOf p ++ x) i) (eventIn (planOf row) (g .cuts) i m)
       convicts x a m f =
@@ -169,10 +165,10 @@ module _ (row table crossed : List ℕ) (z : Sizes) (ps : Standing) (p : Picked)
       SaysOf = Says (eventIn (planOf row) (g .cuts) i) (crossedAt crossed i) (length (planOf row .messages))
 
       -- no answer, where that message can name no link
-      pub suspects-dead : r .clue ≡ Dead → NoneOf (planOf row) (Matches (planOf row) crossed) (cutsOf p) n
-      suspects-dead is x long good matches =
+      pub suspects-dead : r .clue ≡ Dead → (j : ℕ) → NoneOf (planOf row) (Matches (planOf row) crossed) (cutsOf p) j
+      suspects-dead is j x long good matches =
           let h : SaysOf Dead = subst SaysOf is (shows .says) in
-          let v = convicts x (record { long = long; good = good; matches = matches }) (h .0) (h .1) in
+          let v = convicts x (record { good = good; matches = matches }) (h .0) (h .1) in
           true≢false (sym (may-name (eventIn (planOf row) (g .cuts) i (h .0)) (v .waitsOrCrosses .0) (v .waitsOrCrosses .1)) ∙ h .2)
 
       module _ (e : ℕ) (is : r .clue ≡ Link e) where
@@ -195,7 +191,7 @@ module _ (row table crossed : List ℕ) (z : Sizes) (ps : Standing) (p : Picked)
               may .play .few,
             )
 
-        module _ (x : List ℕ) (a : Answer row crossed p n x) where
+        module _ (x : List ℕ) (a : Answer row crossed p x) where
           convicted : Convicts (isCut (planOf row) (g .cuts) i) (isCut (planOf row) (cutsOf p ++ x) i)
               (eventIn (planOf row) (g .cuts) i (says .0))
           convicted = convicts x a (says .0) (says .1)
@@ -206,21 +202,20 @@ module _ (row table crossed : List ℕ) (z : Sizes) (ps : Standing) (p : Picked)
           is-cut-there : isCut (planOf row) (cutsOf p ++ x) i e ≡ true
           is-cut-there = ap (isCut (planOf row) (cutsOf p ++ x) i) (sym (says .3)) ∙ convicted .cut
 
-        pub suspects-none : left ≡ 0 → NoneOf (planOf row) (Matches (planOf row) crossed) (cutsOf p) n
-        suspects-none zero x long good matches =
-            let a : Answer row crossed p n x = record { long = long; good = good; matches = matches } in
-            one-too-many down qs left i g x a i e (is-whole x a) (is-cut-there x a) zero
+        pub suspects-none : (j : ℕ) → j ≤ named → NoneOf (planOf row) (Matches (planOf row) crossed) (cutsOf p) j
+        suspects-none j few x long good matches =
+            let a : Answer row crossed p x = record { good = good; matches = matches } in
+            one-too-many down qs named i g x a i e (is-whole x a) (is-cut-there x a) j long few
 
-        pub suspects-more : 0 < left → Suspecting row crossed z p n (set down e 1) qs (left - 1) i
-        suspects-more some =
+        pub suspects-more : Suspecting row crossed z p (set down e 1) qs (named + 1) i
+        suspects-more =
             let plan = planOf row in
-            let d = p .count + (n - left) in
-            let more : d + 1 ≡ p .count + (n - (left - 1)) = omega (arith, g .few) in
+            let d = p .count + named in
+            let more : d + 1 ≡ p .count + (named + 1) = omega arith in
             record {
               cuts = g .cuts ++ i ∷ e ∷ [];
-              few = omega (arith, g .few);
-              long = omega (arith, length-append (g .cuts) (i ∷ e ∷ []), g .long, g .few);
-              bare = λ q. absurd (omega (arith, g .few));
+              long = omega (arith, length-append (g .cuts) (i ∷ e ∷ []), g .long);
+              bare = λ q. absurd (omega arith);
               early = omega arith;
               size = length-set down e 1 ∙ g .size;
               are = λ j y h. down-more plan (g .cuts) down d i e j y (g .long) (omega (arith, link-small, g .size)) h (g .are j y h);
@@ -234,33 +229,53 @@ module _ (row table crossed : List ℕ) (z : Sizes) (ps : Standing) (p : Picked)
                         };
                   };
               before = matches-more plan (g .cuts) d (g .long) i e crossed (g .before);
-              within = λ x a. within-longer down qs left i g x a i e (is-whole x a) (is-cut-there x a);
+              within = λ x a. within-longer down qs named i g x a i e (is-whole x a) (is-cut-there x a);
               apart = λ x a.
-                  subst (Apart (g .cuts ++ i ∷ e ∷ [])) more (apart-longer down qs left i g x a i e (is-whole x a) (is-cut-there x a));
+                  subst (Apart (g .cuts ++ i ∷ e ∷ [])) more (apart-longer down qs named i g x a i e (is-whole x a) (is-cut-there x a));
             }
 
-  -- a whole list at the end
-  pub suspects-over : (down : List ℕ) (qs : Standing) (left i : ℕ) → Suspecting row crossed z p n down qs left i → z .timeout ≤ i → n ≡ 0 →
-      Matches (planOf row) crossed (cutsOf p)
-  suspects-over down qs left i g over none =
-      let t : i ≡ planOf row .timeout = omega (arith, g .early, may .play .timeout) in
-      let same : g .cuts ≡ cutsOf p = g .bare (omega (arith, g .few)) in
-      subst (λ (c : List ℕ). Matches (planOf row) crossed c) same (subst (MatchesBefore (planOf row) crossed (g .cuts)) t (g .before))
+  module _ (down : List ℕ) (qs : Standing) (named i : ℕ) (g : Suspecting row crossed z p down qs named i) where
+    -- at the end, where nothing is named: the pairs picked have the crossings
+    pub suspects-over : z .timeout ≤ i → named ≡ 0 → Matches (planOf row) crossed (cutsOf p)
+    suspects-over over none =
+        let t : i ≡ planOf row .timeout = omega (arith, g .early, may .play .timeout) in
+        subst (λ (c : List ℕ). Matches (planOf row) crossed c) (g .bare none)
+        (subst (MatchesBefore (planOf row) crossed (g .cuts)) t (g .before))
 
-  -- where as many links are named as pairs are to come, an answer cuts no other first
-  pub suspects-only : (down : List ℕ) (qs : Standing) (left i : ℕ) → Suspecting row crossed z p n down qs left i → left ≡ 0 → (s e : ℕ) →
-      isDown down e ≡ false → (x : List ℕ) → length x + 2 ≡ 2 * n → Not (planOf row) (Matches (planOf row) crossed) (cutsOf p ++ s ∷ e ∷ x)
-  suspects-only down qs left i g zero s e whole x long good matches =
-      let y = s ∷ e ∷ x in
-      let h = may .holding .chosen .long in
-      let cut : isCut (planOf row) (cutsOf p ++ y) s e ≡ true =
-      is-cut (planOf row) (cutsOf p ++ y) s e (p .count + 0) (omega (arith, length-append (cutsOf p) y, h))
-      (eq-eqb (cutLink (cutsOf p ++ y) (p .count + 0)) e (link-right (cutsOf p) y (p .count) h 0))
-      (omega (arith, slot-right (cutsOf p) y (p .count) h 0)) in
-      one-too-many down qs left i g y (record { long = omega arith; good = good; matches = matches }) s e whole cut zero
+    -- fewer pairs than links are named do not cut them all
+    pub suspects-fewer : (j : ℕ) → j < named → NoneOf (planOf row) (Matches (planOf row) crossed) (cutsOf p) j
+    suspects-fewer j less x long good matches =
+        let a : Answer row crossed p x = record { good = good; matches = matches } in
+        too-many (planOf row) (g .cuts) (cutsOf p ++ x) (p .count + named) (p .count + j) (omega arith) (g .long)
+        (omega (arith, length-append (cutsOf p) x, may .holding .chosen .long)) (g .apart x a) (g .within x a)
 
--- so for the pairs picked with which a loop began, whatever they are
+    -- where as many links are named as pairs are to come, an answer cuts no other first
+    pub suspects-only : (s e : ℕ) (x : List ℕ) → length x + 2 ≡ 2 * named → isDown down e ≡ false →
+        Not (planOf row) (Matches (planOf row) crossed) (cutsOf p ++ s ∷ e ∷ x)
+    suspects-only s e x long whole good matches =
+        let y = s ∷ e ∷ x in
+        let h = may .holding .chosen .long in
+        let cut : isCut (planOf row) (cutsOf p ++ y) s e ≡ true =
+        is-cut (planOf row) (cutsOf p ++ y) s e (p .count + 0) (omega (arith, length-append (cutsOf p) y, h))
+        (eq-eqb (cutLink (cutsOf p ++ y) (p .count + 0)) e (link-right (cutsOf p) y (p .count) h 0))
+        (omega (arith, slot-right (cutsOf p) y (p .count) h 0)) in
+        one-too-many down qs named i g y (record { good = good; matches = matches }) s e whole cut named (omega arith) (omega arith)
+
+-- so for the pairs picked with which a loop began, whatever they are; and no more links are named than pairs may come
 pub record Suspects (row table crossed : List ℕ) (z : Sizes) (n : ℕ) (down₀ : List ℕ) (qs₀ : Standing) (i₀ : ℕ)
-    (down : List ℕ) (qs : Standing) (left i : ℕ) : Type 0 where
+    (down : List ℕ) (qs : Standing) (named i : ℕ) : Type 0 where
   pub of : (p : Picked) → MaySuspect row table crossed z qs₀ p → p .down ≡ down₀ → p .slot ≡ i₀ →
-      Suspecting row crossed z p n down qs left i
+      Suspecting row crossed z p down qs named i
+  pub few : named ≤ n
+
+-- what is answered where lists are given up
+pub suspects-given-up : (row crossed : List ℕ) (p : Picked) (n : ℕ) (r : Suspicion) → r .hopeless ≡ true →
+    ((j : ℕ) → j ≤ n → NoneOf (planOf row) (Matches (planOf row) crossed) (cutsOf p) j) → Suspected row crossed p n r
+suspects-given-up row crossed p n r t none =
+    record {
+      none = λ u. none;
+      few = λ f. absurd (true≢false (sym t ∙ f));
+      fewer = λ f. absurd (true≢false (sym t ∙ f));
+      whole = λ f. absurd (true≢false (sym t ∙ f));
+      only = λ f. absurd (true≢false (sym t ∙ f));
+    }

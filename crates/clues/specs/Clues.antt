@@ -94,10 +94,12 @@ pub record MaySuspect (row table crossed : List ℕ) (z : Sizes) (ps : Standing)
   pub before : MatchesBefore (planOf row) crossed (cutsOf p) (p .slot)
   pub size : length crossed ≡ crossedSize
 
--- hopeless: no list with n pairs more matches. A whole list that is not hopeless does; and where as many links are named as pairs are to
--- come, the first pair more of a list that matches cuts one that is down
+-- hopeless: no list with at most n pairs more matches. Else none does with fewer pairs more than links are named; the first pair more of one
+-- that does with as many cuts a link that is down; and where none is named, the pairs picked match
 pub record Suspected (row crossed : List ℕ) (p : Picked) (n : ℕ) (r : Suspicion) : Type 0 where
-  pub none : r .hopeless ≡ true → NoneOf (planOf row) (Matches (planOf row) crossed) (cutsOf p) n
-  pub whole : r .hopeless ≡ false → n ≡ 0 → Matches (planOf row) crossed (cutsOf p)
-  pub only : r .hopeless ≡ false → r .all ≡ true → (s e : ℕ) (x : List ℕ) → length x + 2 ≡ 2 * n → isDown (r .down) e ≡ false →
+  pub none : r .hopeless ≡ true → (j : ℕ) → j ≤ n → NoneOf (planOf row) (Matches (planOf row) crossed) (cutsOf p) j
+  pub few : r .hopeless ≡ false → r .named ≤ n
+  pub fewer : r .hopeless ≡ false → (j : ℕ) → j < r .named → NoneOf (planOf row) (Matches (planOf row) crossed) (cutsOf p) j
+  pub whole : r .hopeless ≡ false → r .named ≡ 0 → Matches (planOf row) crossed (cutsOf p)
+  pub only : r .hopeless ≡ false → (s e : ℕ) (x : List ℕ) → length x + 2 ≡ 2 * r .named → isDown (r .down) e ≡ false →
       Not (planOf row) (Matches (planOf row) crossed) (cutsOf p ++ s ∷ e ∷ x)

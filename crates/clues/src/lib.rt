@@ -1,8 +1,8 @@
 // What a capture says of the cuts: a slot is played and held against the table of crossings, up to the foremost message that differs: it
 // names a link that every list with these crossings has cut by then, or there is no such list. `look` reads one slot; `suspect` cuts what
-// is named, slot by slot, and says that no list with so many pairs more has the crossings of the table, or that such a list cuts only
-// what was named. That a link is named at all is `Named` of `laws`; it leans on `step` for a slot, on `picks` for the pairs picked and on
-// `order` for lists with one pair more.
+// is named, slot by slot, and says that no list with at most so many pairs more has the crossings of the table, or how many links such a
+// list cuts at least, and which where it cuts no more. That a link is named at all is `Named` of `laws`; it leans on `step` for a slot, on
+// `picks` for the pairs picked and on `order` for lists with one pair more.
 use picks::Picked;
 use picks::Sizes;
 use scope::limits::LINKS;
@@ -27,11 +27,11 @@ pub struct Seen {
     pub next: Standing,
 }
 
-// What the table says of the lists that go on from here: that none has its crossings; else whether as many links are named as pairs are to
-// come, and what is down with all that are named.
+// What the table says of the lists that go on from here: that none has its crossings; else how many links are named, and what is down with
+// all that are.
 pub struct Suspicion {
     pub hopeless: bool,
-    pub all: bool,
+    pub named: usize,
     pub down: [u8; LINKS],
 }
 
@@ -69,14 +69,15 @@ fn given_up() -> Suspicion
 {
     Suspicion {
         hopeless: true,
-        all: false,
+        named: 0,
         down: [0u8; LINKS],
     }
 }
 
-// Lists that go on from the pairs picked with n pairs more: the pairs picked are played on, and each link that a slot names is cut from that
-// slot on. Where more links are named than pairs are to come, or none can be, no such list has the crossings of the table; where as many are
-// named, one that has them cuts no other link. Where n is 0 and nothing is named, the pairs picked have them.
+// Lists that go on from the pairs picked with at most n pairs more: the pairs picked are played on, and each link that a slot names is cut
+// from that slot on. Where more than n links are named, or none can be, no such list has the crossings of the table. Else none has them with
+// fewer pairs more than links are named, and one that has them with as many cuts no other link. Where nothing is named, the pairs picked
+// have them.
 pub fn suspect(
     row: &[u16],
     table: &[u8],
@@ -91,7 +92,7 @@ pub fn suspect(
 {
     let mut down = p.down;
     let mut qs = ps;
-    let mut left = n;
+    let mut named = 0;
     let mut i = p.slot;
     while i < z.timeout {
         let seen = look(row, table, crossed, z, &down, qs);
@@ -103,18 +104,18 @@ pub fn suspect(
                 i += 1;
             }
             Clue::Link(x) => {
-                if left == 0 {
+                if named == n {
                     return given_up();
                 }
                 down[x] = 1;
-                left -= 1;
+                named += 1;
             }
             Clue::Dead => return given_up(),
         }
     }
     Suspicion {
         hopeless: false,
-        all: left == 0,
+        named,
         down,
     }
 }

@@ -5,8 +5,8 @@ use mathlib.Core.Path.{_≡_, refl, sym, _∙_, ap, ap₂, subst}
 use mathlib.Core.Bool.{Bool, true, false, not, _&&_, _||_}
 use mathlib.Core.List.{List, [], _∷_, _++_}
 use lib.ListN.{length, getD, take}
-use lib.Dec.{ltb}
-use borrow.Author.Tests.{ltb-true, ltb-false, leb-false}
+use lib.Dec.{ltb, eqb}
+use borrow.Author.Tests.{ltb-true, ltb-false, eqb-true, leb-false}
 use Rattle.scope.specs.Limits.{mostLinks, mostCuts}
 use Rattle.scope.specs.Lowest.{seek}
 use Rattle.cuts.specs.Down.{isDown}
@@ -18,14 +18,14 @@ use Rattle.order.proofs.Steps.{after, no-more, none-before, passed, passed-one,
 use Rattle.order.proofs.Steps.{itself, all-over, first-of-all}
 use Rattle.picks.specs.declared.Sizes.{Sizes}
 use Rattle.picks.specs.declared.Picked.{Picked}
-use Rattle.picks.specs.Picks.{cutsOf, withPair, StandAt}
+use Rattle.picks.specs.Picks.{cutsOf, withPair, Holding, StandAt}
 use Rattle.picks.proofs.Picking.{down-already, cuts-more, holding-more, stand-more}
 use Rattle.clues.specs.declared.Seen.{Seen}
 use Rattle.clues.specs.declared.Suspicion.{Suspicion}
-use Rattle.clues.specs.Clues.{MatchesIn, MatchesBefore, Matches, MayLook, Shows, Looked, Suspected}
+use Rattle.clues.specs.Clues.{MatchesIn, MatchesBefore, Matches, MayLook, Shows, Looked, MaySuspect, Suspected}
 use Rattle.clues.proofs.Lists.{matches-more}
 use Rattle.explaining.specs.declared.Found.{Found}
-use Rattle.explaining.specs.Walk.{isUnseen, isOpen, isClue, noFound, Lasts, MaySeek, MaySeekIn, Sought, SoughtIn}
+use Rattle.explaining.specs.Walk.{isUnseen, isOpen, isClue, noFound, MaySeek, MaySeekIn, Sought, SoughtIn}
 use Rattle.explaining.proofs.Seen.{cut-too-early}
 use Rattle.explaining.proofs.Opening.{closed, open-whole}
 use Rattle.explaining.proofs.Matching.{still-differs, seen-same, seen-other}
@@ -90,25 +90,26 @@ module _ (row table crossed : List ℕ) (z : Sizes) (ps : Standing) (p : Picked)
   looks-first r = looked e r (omega arith) (m .link) (λ a b x long low high. absurd (omega arith))
 
   module _ (i : ℕ) (g : Looking row crossed z p n s e i) where
-    pub may-go-on : (q : Picked) → i < z .links → q ≡ withPair p s i → MaySeek row table crossed z ps q (n - 1)
-    may-go-on q l is =
+    pub may-suspect : (q : Picked) → i < z .links → q ≡ withPair p s i → MaySuspect row table crossed z ps q
+    may-suspect q l is =
         let room : p .count < mostCuts = omega (arith, m .few, m .some) in
         record {
-          suspect =
-              record {
-                good = m .good;
-                play = m .play;
-                holding =
-                    rw is
-                    (holding-more row table z p (m .play) (m .holding) s i room (omega (arith, m .later, g .start)) (m .early) l (g .whole l));
-                stand = rw is (stand-more row table z p (m .play) (m .holding) s i room (z .messages) ps (m .stand));
-                before =
-                    rw (is, cuts-more row table z p (m .play) (m .holding) s i room)
-                    (matches-more (planOf row) (cutsOf p) (p .count) (m .holding .chosen .long) s i crossed (m .before));
-                size = m .size;
-              };
-          few = rw is (omega (arith, m .few, m .some));
+          good = m .good;
+          play = m .play;
+          holding =
+              rw is
+              (holding-more row table z p (m .play) (m .holding) s i room (omega (arith, m .later, g .start)) (m .early) l (g .whole l));
+          stand = rw is (stand-more row table z p (m .play) (m .holding) s i room (z .messages) ps (m .stand));
+          before =
+              rw (is, cuts-more row table z p (m .play) (m .holding) s i room)
+              (matches-more (planOf row) (cutsOf p) (p .count) (m .holding .chosen .long) s i crossed (m .before));
+          size = m .size;
         }
+
+    pub may-go-on : (q : Picked) (v : Suspicion) → i < z .links → q ≡ withPair p s i → Suspected row crossed q (n - 1) v →
+        MaySeek row table crossed z ps q (n - 1) v last
+    may-go-on q v l is told =
+        record { suspect = may-suspect q l is; few = rw is (omega (arith, m .few, m .some)); told = told; lasts = m .lasts }
 
     module _ (q : Picked) (r : Found) (l : i < z .links) (is : q ≡ withPair p s i) (f : Sought row crossed q (n - 1) r) where
       told : Sought row crossed (withPair p s i) (n - 1) r
@@ -140,21 +141,27 @@ module _ (row table crossed : List ℕ) (z : Sizes) (ps : Standing) (p : Picked)
         (slot-over (planOf row) (Matches (planOf row) crossed) few (cutsOf p) (p .count) start (m .holding .chosen) (n - 1) (code s e) s
         (subst (λ (j : ℕ). NoneIn (planOf row) (Matches (planOf row) crossed) (cutsOf p) (n - 1) (code s e) (code s j)) end (g .none)))
 
-module _ (row table crossed : List ℕ) (z : Sizes) (ps : Standing) (p : Picked) (n : ℕ) (m : MaySeek row table crossed z ps p n) where
-  -- no list from here matches
-  pub no-hope : (r : Found) → r ≡ noFound → NoneOf (planOf row) (Matches (planOf row) crossed) (cutsOf p) n → Sought row crossed p n r
-  no-hope r is all = tells-none _ _ (p .count + n) r is all
+-- the pairs picked are all, and they match
+pub is-it : (row crossed : List ℕ) (z : Sizes) (p : Picked) (n : ℕ) → Holding row z p → (r : Found) → n ≡ 0 → r .found ≡ true →
+    r .numbers ≡ p .numbers → Matches (planOf row) crossed (cutsOf p) → Sought row crossed p n r
+is-it row crossed z p n h r none t same it =
+    let c : p .count + 0 ≡ p .count = omega arith in
+    let list : take (2 * (p .count + 0)) (r .numbers) ≡ cutsOf p = ap₂ (λ (k : ℕ) (l : List ℕ). take (2 * k) l) c same in
+    rw none
+    (tells-some _ _ (p .count + 0) r t (ap length same ∙ h .long)
+    (rw list (itself (planOf row) (Matches (planOf row) crossed) (cutsOf p) (h .chosen .good) it))
+    (λ j l. rw same (h .past j (omega arith))))
 
-  -- the pairs picked are all, and they match
-  pub is-it : (r : Found) → n ≡ 0 → r .found ≡ true → r .numbers ≡ p .numbers → Matches (planOf row) crossed (cutsOf p) →
-      Sought row crossed p n r
-  is-it r none t same it =
-      let c : p .count + 0 ≡ p .count = omega arith in
-      let list : take (2 * (p .count + 0)) (r .numbers) ≡ cutsOf p = ap₂ (λ (k : ℕ) (l : List ℕ). take (2 * k) l) c same in
-      rw none
-      (tells-some _ _ (p .count + 0) r t (ap length same ∙ m .suspect .holding .long)
-      (rw list (itself (planOf row) (Matches (planOf row) crossed) (cutsOf p) (m .suspect .holding .chosen .good) it))
-      (λ j l. rw same (m .suspect .holding .past j (omega arith))))
+module _ (row table crossed : List ℕ) (z : Sizes) (ps : Standing) (p : Picked) (n : ℕ) (v : Suspicion) (last : List ℕ)
+    (m : MaySeek row table crossed z ps p n v last) where
+  -- no list from here matches
+  pub no-hope : (r : Found) → r ≡ noFound → v .hopeless ≡ true → Sought row crossed p n r
+  no-hope r is t = tells-none _ _ (p .count + n) r is (m .told .none t n (omega arith))
+
+  -- no pair is to come, and so none is named
+  pub no-more-pairs : (r : Found) → v .hopeless ≡ false → n ≡ 0 → r .found ≡ true → r .numbers ≡ p .numbers → Sought row crossed p n r
+  no-more-pairs r hope none t same =
+      is-it row crossed z p n (m .suspect .holding) r none t same (m .told .whole hope (omega (arith, m .told .few hope)))
 
   module _ (some : n ≡ 0 → ⊥) where
     abbrev begin : ℕ
@@ -179,9 +186,8 @@ module _ (row table crossed : List ℕ) (z : Sizes) (ps : Standing) (p : Picked)
         }
 
     module _ (s e : ℕ) (qs : Standing) (g : Climbing row crossed z p n s e qs) where
-      pub may-look-in : (v : Suspicion) (last : List ℕ) → Suspected row crossed p n v → v .hopeless ≡ false → Lasts crossed z last →
-          s < z .timeout → MaySeekIn row table crossed z qs p n (v .down) last (v .all) s e
-      may-look-in v last told hope lasts early =
+      pub may-look-in : v .hopeless ≡ false → s < z .timeout → MaySeekIn row table crossed z qs p n (v .down) last (eqb (v .named) n) s e
+      may-look-in hope early =
           record {
             good = m .suspect .good;
             play = m .suspect .play;
@@ -189,13 +195,13 @@ module _ (row table crossed : List ℕ) (z : Sizes) (ps : Standing) (p : Picked)
             stand = g .stand;
             before = g .before;
             size = m .suspect .size;
-            lasts = lasts;
+            lasts = m .lasts;
             few = m .few;
             some = omega (arith, some);
             early = early;
             link = g .link;
             later = g .later;
-            only = told .only hope;
+            only = λ same a b x long. m .told .only hope a b x (omega (arith, eqb-true (v .named) n same));
           }
 
       pub may-look : s < z .timeout → MayLook row table crossed z qs

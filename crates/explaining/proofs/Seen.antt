@@ -19,7 +19,8 @@ use Rattle.laws.proofs.Slots.{one-slot}
 use Rattle.laws.proofs.Cuts.{is-cut}
 use Rattle.order.proofs.Parts.{slot-right, link-right}
 use Rattle.picks.specs.declared.Sizes.{Sizes}
-use Rattle.clues.specs.Clues.{crossingOf, Matches}
+use Rattle.step.specs.Events.{crossingOf}
+use Rattle.clues.specs.Clues.{Matches}
 use Rattle.explaining.specs.Walk.{isUnseen, SeenFrom, Lasts}
 
 -- a link past the list is crossed by nobody

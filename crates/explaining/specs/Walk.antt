@@ -20,7 +20,8 @@ use Rattle.picks.specs.declared.Picked.{Picked}
 use Rattle.picks.specs.Picks.{cutsOf, Playable, Holding, StandAt}
 use Rattle.clues.specs.declared.Clue.{Clue}
 use Rattle.clues.specs.declared.Clue.the-variants.{Nothing, Link, Dead}
-use Rattle.clues.specs.Clues.{MatchesBefore, Matches, MaySuspect}
+use Rattle.clues.specs.declared.Suspicion.{Suspicion}
+use Rattle.clues.specs.Clues.{MatchesBefore, Matches, MaySuspect, Suspected}
 use Rattle.explaining.specs.declared.Found.{Found}
 use Rattle.explaining.specs.declared.Hunted.{Hunted}
 
@@ -63,10 +64,12 @@ noFound = record { found = false; numbers = replicate (2 * mostCuts) 0 }
 abbrev pub noHunted : Hunted
 noHunted = record { found = false; pairs = 0; numbers = replicate (2 * mostCuts) 0 }
 
--- n pairs more may be sought
-pub record MaySeek (row table crossed : List ℕ) (z : Sizes) (ps : Standing) (p : Picked) (n : ℕ) : Type 0 where
+-- n pairs more may be sought: what the table says of them is known, and where each link was seen crossed
+pub record MaySeek (row table crossed : List ℕ) (z : Sizes) (ps : Standing) (p : Picked) (n : ℕ) (v : Suspicion) (last : List ℕ) : Type 0 where
   pub suspect : MaySuspect row table crossed z ps p
   pub few : p .count + n ≤ mostCuts
+  pub told : Suspected row crossed p n v
+  pub lasts : Lasts crossed z last
 
 -- the first of them in slot s, from link e on; and where all is true, no list that matches goes on with a link that is not named
 pub record MaySeekIn (row table crossed : List ℕ) (z : Sizes) (ps : Standing) (p : Picked) (n : ℕ) (named last : List ℕ) (all : Bool)

@@ -1,10 +1,12 @@
 // The walk over cut lists that seeks those whose replay crosses what a table of crossings has: lists are tried in the order of document
-// 01's verdict, fewest pairs first. `clues::suspect` says of most that no list from here can match, so that nearly every list that is tried
-// leads to one; where it names as many links as pairs are to come, only these are tried; a link is tried only behind the last slot in which
-// the table has it crossed, since it is whole there; and where the slot before the next pair differs from the table, no later pair mends
-// it. It leans on `picks` for the pairs picked, on `clues` for what a slot says, on `order` for the steps from pair to pair and on `laws`
-// for who crosses a link.
+// 01's verdict, fewest pairs first. `clues::suspect` is asked before a pair is picked and after each one: it says of most that no list from
+// here can match, so that nearly every list that is tried leads to one; no list is tried with fewer pairs than links are named at first;
+// where as many links are named as pairs are to come, only these are tried; a link is tried only behind the last slot in which the table
+// has it crossed, since it is whole there; and where the slot before the next pair differs from the table, no later pair mends it. It leans
+// on `picks` for the pairs picked, on `clues` for what a slot says, on `order` for the steps from pair to pair and on `laws` for who
+// crosses a link.
 use clues::Clue;
+use clues::Suspicion;
 use picks::Picked;
 use picks::Sizes;
 use scope::limits::CUT_NUMBERS;
@@ -153,7 +155,8 @@ fn in_slot(
     let mut i = next_link(&down, &named, &last, all, s, e, links);
     while i < links {
         let q = picks::pick(p, s, i);
-        let r = level(row, table, crossed, z, ps, q, n - 1);
+        let v = clues::suspect(row, table, crossed, z, ps, q, n - 1);
+        let r = level(row, table, crossed, z, ps, q, n - 1, v, last);
         if r.found {
             return r;
         }
@@ -162,7 +165,8 @@ fn in_slot(
     nothing()
 }
 
-// All lists with n pairs more. Up to its next pair's slot a list does what the pairs picked do: once that differs, no list goes on.
+// All lists with n pairs more, by what the table says of them. Up to its next pair's slot a list does what the pairs picked do: once that
+// differs, no list goes on.
 fn level(
     row: &[u16],
     table: &[u8],
@@ -171,12 +175,13 @@ fn level(
     ps: Standing,
     p: Picked,
     n: usize,
+    v: Suspicion,
+    last: [u8; LINKS],
 ) -> Found
-    requires { ⌜ MaySeek (now row) (now table) (now crossed) z ps p n ⌝ }
+    requires { ⌜ MaySeek (now row) (now table) (now crossed) z ps p n v last ⌝ }
     ensures { λ r. ⌜ Sought (now (row .entry)) (now (crossed .entry)) p n r ⌝ }
 {
-    let suspicion = clues::suspect(row, table, crossed, z, ps, p, n);
-    if suspicion.hopeless {
+    if v.hopeless {
         return nothing();
     }
     if n == 0 {
@@ -186,9 +191,8 @@ fn level(
             numbers,
         };
     }
-    let last = last_seen(crossed, z);
-    let named = suspicion.down;
-    let all = suspicion.all;
+    let named = v.down;
+    let all = v.named == n;
     let down = p.down;
     let mut qs = ps;
     let mut s = p.slot;
@@ -211,7 +215,8 @@ fn level(
     nothing()
 }
 
-// The first list of at most k pairs that matches.
+// The first list of at most k pairs that matches. What is said of the lists before a pair is picked holds for each number of pairs, so that it
+// is asked once: where no link is named the list without a pair matches, and else none does with fewer pairs than links are named.
 pub fn first_list(
     row: &[u16],
     table: &[u8],
@@ -224,9 +229,22 @@ pub fn first_list(
     ensures { λ r. ⌜ Hunts (now (row .entry)) (now (crossed .entry)) k r ⌝ }
 {
     let p = picks::no_pair();
-    let mut n = 0;
+    let v = clues::suspect(row, table, crossed, z, ps, p, k);
+    if v.hopeless {
+        return no_list();
+    }
+    if v.named == 0 {
+        let numbers = p.numbers;
+        return Hunted {
+            found: true,
+            pairs: 0,
+            numbers,
+        };
+    }
+    let last = last_seen(crossed, z);
+    let mut n = v.named;
     while n <= k {
-        let r = level(row, table, crossed, z, ps, p, n);
+        let r = level(row, table, crossed, z, ps, p, n, v, last);
         if r.found {
             let numbers = r.numbers;
             return Hunted {

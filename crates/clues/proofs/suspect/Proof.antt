@@ -1,10 +1,9 @@
 -- `clues::suspect` meets its contract: each turn plays one slot more, or cuts one more link that a slot names.
 use Prim.Native.Nat.{_+_, _-_}
 use native.Mathlib.Omega.{arith}
-use mathlib.Core.Path.{refl, sym, _∙_}
+use mathlib.Core.Path.{refl, sym}
 use mathlib.Core.Bool.{true≢false}
 use borrow.Author.Needs.{needs}
-use borrow.Author.Tests.{eqb-true}
 use Rattle.clues.proofs.Suspecting.{
   Suspects,
   suspects-none-yet,
@@ -15,19 +14,21 @@ use Rattle.clues.proofs.Suspecting.{
   suspects-none,
   suspects-more,
   suspects-over,
+  suspects-fewer,
   suspects-only,
+  suspects-given-up,
 }
 use Rattle.clues.proofs.suspect.Statement.{statement}
 use Rattle.clues.proofs.suspect.Tie as tie
 
 abbrev Inv-loop : tie.InvT-loop
-Inv-loop row table crossed z n down₀ qs₀ left₀ i₀ down qs left i = Suspects row table crossed z n down₀ qs₀ i₀ down qs left i
+Inv-loop row table crossed z n down₀ qs₀ named₀ i₀ down qs named i = Suspects row table crossed z n down₀ qs₀ i₀ down qs named i
 
 abbrev μ-loop : tie.MeasureT-loop
-μ-loop row table crossed z n down₀ qs₀ left₀ i₀ down qs left i = z .timeout - i + left
+μ-loop row table crossed z n down₀ qs₀ named₀ i₀ down qs named i = z .timeout - i + (n - named)
 
 loop-holds : tie.Need-loop-holds Inv-loop μ-loop
-loop-holds c = record { of = λ p m d s. suspects-none-yet _ _ _ _ _ p _ m _ _ d s }
+loop-holds c = record { of = λ p m d s. suspects-none-yet _ _ _ _ _ p m _ _ d s; few = omega arith }
 
 slice-aggregate-look : tie.Need-slice-aggregate-look Inv-loop μ-loop
 slice-aggregate-look c =
@@ -38,34 +39,33 @@ look-requires : tie.Need-look-requires Inv-loop μ-loop
 look-requires c κs =
     let may = c .before .before .before .before .before .before .before .before .pre in
     let inv = c .before .before .before .loop .inv .of _ may refl refl in
-    may-look _ _ _ _ _ _ _ may _ _ _ _ inv (c .before .if1 .taken)
+    may-look _ _ _ _ _ _ may _ _ _ _ inv (c .before .if1 .taken)
 
 loop-again : tie.Need-loop-again Inv-loop μ-loop
 loop-again c =
     let inv = c .before .before .before .before .before .before .before .loop .inv in
     record {
       of = λ p m d s.
-          suspects-on _ _ _ _ _ p _ m _ _ _ _ (inv .of p m d s) (c .before .before .before .before .before .if1 .taken) _
+          suspects-on _ _ _ _ _ p m _ _ _ _ (inv .of p m d s) (c .before .before .before .before .before .if1 .taken) _
           (c .before .before .before .look .ensures) (c .before .enum-told .given .1);
+      few = inv .few;
     }
 
 returns : tie.Need-returns Inv-loop μ-loop
 returns c =
     let may = c .before .before .before .before .before .before .before .before .before .before .before .before .before .before .pre in
     let inv = c .before .before .before .before .before .before .before .before .before .loop .inv .of _ may refl refl in
-    record {
-      none = λ t.
-          suspects-none _ _ _ _ _ _ _ may _ _ _ _ inv (c .before .before .before .before .before .before .before .if1 .taken) _
-          (c .before .before .before .before .before .look .ensures) _ (c .before .before .before .clue .given .1) (c .before .if2 .taken);
-      whole = λ f. absurd (true≢false (sym (c .given-up .ensures) ∙ f));
-      only = λ f. absurd (true≢false (sym (c .given-up .ensures) ∙ f));
-    }
+    suspects-given-up _ _ _ _ _ (c .given-up .ensures)
+    (λ j few.
+    suspects-none _ _ _ _ _ _ may _ _ _ _ inv (c .before .before .before .before .before .before .before .if1 .taken) _
+    (c .before .before .before .before .before .look .ensures) _ (c .before .before .before .clue .given .1) j
+    (omega (arith, c .before .if2 .taken)))
 
 array-write-down : tie.Need-array-write-down Inv-loop μ-loop
 array-write-down c =
     let may = c .before .before .before .before .before .before .before .before .before .before .before .before .before .pre in
     let inv = c .before .before .before .before .before .before .before .before .loop .inv .of _ may refl refl in
-    link-small _ _ _ _ _ _ _ may _ _ _ _ inv (c .before .before .before .before .before .before .if1 .taken) _
+    link-small _ _ _ _ _ _ may _ _ _ _ inv (c .before .before .before .before .before .before .if1 .taken) _
     (c .before .before .before .before .look .ensures) _ (c .before .before .clue .given .1)
 
 loop-again-2 : tie.Need-loop-again-2 Inv-loop μ-loop
@@ -73,30 +73,31 @@ loop-again-2 c =
     let inv = c .before .before .before .before .before .before .before .before .loop .inv in
     record {
       of = λ p m d s.
-          suspects-more _ _ _ _ _ p _ m _ _ _ _ (inv .of p m d s) (c .before .before .before .before .before .before .if1 .taken) _
-          (c .before .before .before .before .look .ensures) _ (c .before .before .clue .given .1) (omega (arith, c .if2 .left));
+          suspects-more _ _ _ _ _ p m _ _ _ _ (inv .of p m d s) (c .before .before .before .before .before .before .if1 .taken) _
+          (c .before .before .before .before .look .ensures) _ (c .before .before .clue .given .1);
+      few = omega (arith, inv .few, c .if2 .left);
     }
 
 returns-2 : tie.Need-returns-2 Inv-loop μ-loop
 returns-2 c =
     let may = c .before .before .before .before .before .before .before .before .before .before .before .before .pre in
     let inv = c .before .before .before .before .before .before .before .loop .inv .of _ may refl refl in
-    record {
-      none = λ t.
-          suspects-dead _ _ _ _ _ _ _ may _ _ _ _ inv (c .before .before .before .before .before .if1 .taken) _
-          (c .before .before .before .look .ensures) (c .before .enum-told2 .given .1);
-      whole = λ f. absurd (true≢false (sym (c .given-up2 .ensures) ∙ f));
-      only = λ f. absurd (true≢false (sym (c .given-up2 .ensures) ∙ f));
-    }
+    suspects-given-up _ _ _ _ _ (c .given-up2 .ensures)
+    (λ j few.
+    suspects-dead _ _ _ _ _ _ may _ _ _ _ inv (c .before .before .before .before .before .if1 .taken) _
+    (c .before .before .before .look .ensures) (c .before .enum-told2 .given .1) j)
 
 returns-3 : tie.Need-returns-3 Inv-loop μ-loop
 returns-3 c =
     let may = c .before .before .before .before .before .before .before .pre in
-    let inv = c .before .before .loop .inv .of _ may refl refl in
+    let loop = c .before .before .loop .inv in
+    let inv = loop .of _ may refl refl in
     record {
       none = λ t. absurd (true≢false (sym t));
-      whole = λ f none. suspects-over _ _ _ _ _ _ _ may _ _ _ _ inv (c .if1 .left) none;
-      only = λ f all s e x long whole. suspects-only _ _ _ _ _ _ _ may _ _ _ _ inv (eqb-true _ 0 all) s e whole x long;
+      few = λ f. loop .few;
+      fewer = λ f. suspects-fewer _ _ _ _ _ _ may _ _ _ _ inv;
+      whole = λ f. suspects-over _ _ _ _ _ _ may _ _ _ _ inv (c .if1 .left);
+      only = λ f. suspects-only _ _ _ _ _ _ may _ _ _ _ inv;
     }
 
 pub suspect-spec : {M : Type 1} → statement M

@@ -6,8 +6,8 @@ use native.Mathlib.Omega.{arith}
 use borrow.Author.Needs.{needs}
 use borrow.Fn.Kinds.{In}
 use borrow.Fn.PlainCycle.{Measures, is, falls, and}
-use Rattle.explaining.proofs.Levels.{goes-up, Looking, Climbing, looks-first, may-go-on, looks-some, looks-on, looks-done}
-use Rattle.explaining.proofs.Levels.{no-hope, is-it, climbs-first, may-look-in, may-look, climbs-over, climbs-some}
+use Rattle.explaining.proofs.Levels.{goes-up, Looking, Climbing, looks-first, may-suspect, may-go-on, looks-some, looks-on, looks-done}
+use Rattle.explaining.proofs.Levels.{no-hope, no-more-pairs, climbs-first, may-look-in, may-look, climbs-over, climbs-some}
 use Rattle.explaining.proofs.Levels.{climbs-stop, climbs-on}
 use Rattle.explaining.proofs.in_slot.Reads as in-slot
 use Rattle.explaining.proofs.in_slot.Kinds as in-slot-kinds
@@ -16,7 +16,6 @@ use Rattle.explaining.proofs.level.Reads as level
 use Rattle.explaining.proofs.level.Kinds as level-kinds
 use Rattle.explaining.proofs.+in_slot+level.Lts-level as level-lts
 use Rattle.explaining.proofs.differs.Reads as differs-reads
-use Rattle.explaining.proofs.last_seen.Reads as last-seen-reads
 use Rattle.clues.proofs.suspect.Reads as suspect-reads
 use Rattle.clues.proofs.look.Reads as look-reads
 use Rattle.explaining.proofs.next_link.Reads as next-link-reads
@@ -50,6 +49,8 @@ in-calls t = (
   next-link-reads.Learnt,
   pick-reads.Asked,
   pick-reads.Learnt,
+  suspect-reads.Asked,
+  suspect-reads.Learnt,
   level-below t,
   level.Post,
   nothing-reads.Asked,
@@ -58,12 +59,8 @@ in-calls t = (
 
 abbrev level-calls : ℕ → level-lts.Claims
 level-calls t = (
-  suspect-reads.Asked,
-  suspect-reads.Learnt,
   nothing-reads.Asked,
   nothing-reads.Learnt,
-  last-seen-reads.Asked,
-  last-seen-reads.Learnt,
   in-slot-below t,
   in-slot.Post,
   look-reads.Asked,
@@ -109,32 +106,39 @@ in-slot-pick-requires t c κs =
       c .before .before .before .before .before .before .before .before .before .before .pre .1 .play .short,
     )
 
-in-slot-sub-level : (t : ℕ) → in-slot-lts.Need-sub-level (in-calls t) (in-slot-at t) in-slot.Post in-inv in-less
-in-slot-sub-level t c =
+in-slot-sub-suspect : (t : ℕ) → in-slot-lts.Need-sub-suspect (in-calls t) (in-slot-at t) in-slot.Post in-inv in-less
+in-slot-sub-suspect t c =
     omega (arith, c .before .before .before .before .before .before .before .before .before .before .before .pre .1 .some)
 
+in-slot-suspect-requires : (t : ℕ) → in-slot-lts.Need-suspect-requires (in-calls t) (in-slot-at t) in-slot.Post in-inv in-less
+in-slot-suspect-requires t c κs =
+    may-suspect _ _ _ _ _ _ _ _ _ _ _ _ (c .before .before .before .before .before .before .before .before .before .before .before .pre .1) _
+    (c .before .before .loop .inv) _ (c .before .loop-test .taken) (c .pick .ensures)
+
+in-slot-sub-level : (t : ℕ) → in-slot-lts.Need-sub-level (in-calls t) (in-slot-at t) in-slot.Post in-inv in-less
+in-slot-sub-level t c =
+    omega (arith, c .before .before .before .before .before .before .before .before .before .before .before .before .pre .1 .some)
+
 in-slot-level-requires : (t : ℕ) → in-slot-lts.Need-level-requires (in-calls t) (in-slot-at t) in-slot.Post in-inv in-less
-in-slot-level-requires t c κs = (
-  omega (
-    arith,
-    c .before .before .before .before .before .before .before .before .before .before .before .pre .0,
-    c .before .before .before .before .before .before .before .before .before .before .before .pre .1 .some,
-  ),
-  may-go-on _ _ _ _ _ _ _ _ _ _ _ _ (c .before .before .before .before .before .before .before .before .before .before .before .pre .1) _
-      (c .before .before .loop .inv) _ (c .before .loop-test .taken) (c .pick .ensures),
-)
+in-slot-level-requires t c κs =
+    let may = c .before .before .before .before .before .before .before .before .before .before .before .before .pre in (
+      omega (arith, may .0, may .1 .some),
+      may-go-on _ _ _ _ _ _ _ _ _ _ _ _ (may .1) _ (c .before .before .before .loop .inv) _ _ (c .before .before .loop-test .taken)
+          (c .before .pick .ensures) (c .suspect .ensures),
+    )
 
 in-slot-returns : (t : ℕ) → in-slot-lts.Need-returns (in-calls t) (in-slot-at t) in-slot.Post in-inv in-less
 in-slot-returns t c =
-    let may = c .before .before .before .before .before .before .before .before .before .before .before .before .before .pre .1 in
+    let may = c .before .before .before .before .before .before .before .before .before .before .before .before .before .before .pre .1 in
     looks-some _ _ _ _ _ _ _ _ _ _ _ _ may _
-    (c .before .before .before .before .loop .inv) _ _ (c .before .before .before .loop-test .taken) (c .before .before .pick .ensures)
-    (c .before .level .ensures) (c .if1 .taken)
+    (c .before .before .before .before .before .loop .inv) _ _ (c .before .before .before .before .loop-test .taken)
+    (c .before .before .before .pick .ensures) (c .before .level .ensures) (c .if1 .taken)
 
 in-slot-slice-aggregate-next-link-4 : (t : ℕ) →
     in-slot-lts.Need-slice-aggregate-next-link-4 (in-calls t) (in-slot-at t) in-slot.Post in-inv in-less
 in-slot-slice-aggregate-next-link-4 t c =
-    let may = c .before .before .before .before .before .before .before .before .before .before .before .before .before .before .pre .1 in
+    let may =
+    c .before .before .before .before .before .before .before .before .before .before .before .before .before .before .before .pre .1 in
     sym (may .holding .size)
 
 in-slot-slice-aggregate-next-link-5 : (t : ℕ) →
@@ -142,40 +146,43 @@ in-slot-slice-aggregate-next-link-5 : (t : ℕ) →
 in-slot-slice-aggregate-next-link-5 t c =
     search (
       needs,
-      c .before .before .before .before .before .before .before .before .before .before .before .before .before .before .before .good,
+      c .before .before .before .before .before .before .before .before .before .before .before .before .before .before .before .before .good,
     )
 
 in-slot-slice-aggregate-next-link-6 : (t : ℕ) →
     in-slot-lts.Need-slice-aggregate-next-link-6 (in-calls t) (in-slot-at t) in-slot.Post in-inv in-less
 in-slot-slice-aggregate-next-link-6 t c =
     let may =
-    c .before .before .before .before .before .before .before .before .before .before .before .before .before .before .before .before .pre .1 in
+    c .before .before .before .before .before .before .before .before .before .before .before .before .before .before .before .before
+    .before .pre .1 in
     sym (may .lasts .size)
 
 in-slot-add-next-link : (t : ℕ) → in-slot-lts.Need-add-next-link (in-calls t) (in-slot-at t) in-slot.Post in-inv in-less
 in-slot-add-next-link t c =
     let may =
-    c .before .before .before .before .before .before .before .before .before .before .before .before .before .before .before .before .pre .1 in
-    omega (arith, c .before .before .before .before .before .before .loop-test .taken, may .play .few)
+    c .before .before .before .before .before .before .before .before .before .before .before .before .before .before .before .before
+    .before .pre .1 in
+    omega (arith, c .before .before .before .before .before .before .before .loop-test .taken, may .play .few)
 
 in-slot-next-link-requires-2 : (t : ℕ) → in-slot-lts.Need-next-link-requires-2 (in-calls t) (in-slot-at t) in-slot.Post in-inv in-less
 in-slot-next-link-requires-2 t c κs =
     let may =
-    c .before .before .before .before .before .before .before .before .before .before .before .before .before .before .before .before .pre .1 in
-    (omega (arith, c .before .before .before .before .before .before .loop-test .taken), may .play .few)
+    c .before .before .before .before .before .before .before .before .before .before .before .before .before .before .before .before
+    .before .pre .1 in
+    (omega (arith, c .before .before .before .before .before .before .before .loop-test .taken), may .play .few)
 
 in-slot-loop-less : (t : ℕ) → in-slot-lts.Need-loop-less (in-calls t) (in-slot-at t) in-slot.Post in-inv in-less
 in-slot-loop-less t c =
-    omega (arith, c .before .before .before .before .before .before .before .loop-test .taken, goes-up _ _ _ _ (c .next-link2 .ensures))
+    omega (arith, c .before .before .before .before .before .before .before .before .loop-test .taken, goes-up _ _ _ _ (c .next-link2 .ensures))
 
 in-slot-loop-again : (t : ℕ) → in-slot-lts.Need-loop-again (in-calls t) (in-slot-at t) in-slot.Post in-inv in-less
 in-slot-loop-again t c =
     let may =
-    c .before .before .before .before .before .before .before .before .before .before .before .before .before .before .before
+    c .before .before .before .before .before .before .before .before .before .before .before .before .before .before .before .before
     .before .before .pre .1 in
-    let inv = c .before .before .before .before .before .before .before .before .loop .inv in
-    looks-on _ _ _ _ _ _ _ _ _ _ _ _ may _ inv _ _ (c .before .before .before .before .before .before .before .loop-test .taken)
-    (c .before .before .before .before .before .before .pick .ensures) (c .before .before .before .before .before .level .ensures) _
+    let inv = c .before .before .before .before .before .before .before .before .before .loop .inv in
+    looks-on _ _ _ _ _ _ _ _ _ _ _ _ may _ inv _ _ (c .before .before .before .before .before .before .before .before .loop-test .taken)
+    (c .before .before .before .before .before .before .before .pick .ensures) (c .before .before .before .before .before .level .ensures) _
     (c .before .before .before .before .if1 .left)
     (c .next-link2 .ensures)
 
@@ -193,59 +200,48 @@ level-inv row table crossed z p n last named all down qs₀ s₀ e₀ qs s e = C
 abbrev level-less : level-lts.MeasureT-loop
 level-less row table crossed z p n last named all down qs₀ s₀ e₀ qs s e = z .timeout - s
 
-level-suspect-requires : (t : ℕ) → level-lts.Need-suspect-requires (level-calls t) (level-at t) level.Post level-inv level-less
-level-suspect-requires t c κs =
-    c .before .before .before .pre .1 .suspect
-
 level-nothing-requires : (t : ℕ) → level-lts.Need-nothing-requires (level-calls t) (level-at t) level.Post level-inv level-less
 level-nothing-requires t c κs = search needs
 
 level-returns : (t : ℕ) → level-lts.Need-returns (level-calls t) (level-at t) level.Post level-inv level-less
 level-returns t c =
-    no-hope _ _ _ _ _ _ _ (c .before .before .before .before .before .before .pre .1) _ (c .nothing .ensures)
-    (c .before .before .suspect .ensures .none (c .before .if1 .taken))
+    no-hope _ _ _ _ _ _ _ _ _ (c .before .before .before .before .before .pre .1) _ (c .nothing .ensures) (c .before .if1 .taken)
 
 level-returns-2 : (t : ℕ) → level-lts.Need-returns-2 (level-calls t) (level-at t) level.Post level-inv level-less
 level-returns-2 t c =
-    is-it _ _ _ _ _ _ _ (c .before .before .before .before .before .before .before .pre .1) _ (c .before .if2 .taken) refl refl
-    (c .before .before .before .suspect .ensures .whole (c .before .before .if1 .left) (c .before .if2 .taken))
-
-level-last-seen-requires : (t : ℕ) → level-lts.Need-last-seen-requires (level-calls t) (level-at t) level.Post level-inv level-less
-level-last-seen-requires t c κs =
-    let may = c .before .before .before .before .before .before .pre .1 .suspect in (may .size, may .play .short)
+    no-more-pairs _ _ _ _ _ _ _ _ _ (c .before .before .before .before .before .before .pre .1) _ (c .before .before .if1 .left)
+    (c .before .if2 .taken) refl refl
 
 level-loop-holds : (t : ℕ) → level-lts.Need-loop-holds (level-calls t) (level-at t) level.Post level-inv level-less
 level-loop-holds t c =
-    climbs-first _ _ _ _ _ _ _ (c .before .before .before .before .before .before .before .before .before .pre .1)
+    climbs-first _ _ _ _ _ _ _ _ _ (c .before .before .before .before .before .before .before .before .pre .1)
     (c .before .before .before .if2 .left)
 
 level-in-slot-requires : (t : ℕ) → level-lts.Need-in-slot-requires (level-calls t) (level-at t) level.Post level-inv level-less
 level-in-slot-requires t c κs =
-    let may = c .before .before .before .before .before .before .before .before .before .before .before .before .pre .1 in
-    let told = c .before .before .before .before .before .before .before .before .suspect .ensures in (
-      omega (arith, c .before .before .before .before .before .before .before .before .before .before .before .before .pre .0),
-      may-look-in _ _ _ _ _ _ _ may (c .before .before .before .before .before .before .if2 .left) _ _ _ (c .before .before .loop .inv) _ _ told
-          (c .before .before .before .before .before .before .before .if1 .left) (c .before .before .before .before .before .last-seen .ensures)
-          (c .if3 .taken),
+    let may = c .before .before .before .before .before .before .before .before .before .before .before .pre in (
+      omega (arith, may .0),
+      may-look-in _ _ _ _ _ _ _ _ _ (may .1) (c .before .before .before .before .before .before .if2 .left) _ _ _ (c .before .before .loop .inv)
+          (c .before .before .before .before .before .before .before .if1 .left) (c .if3 .taken),
     )
 
 level-returns-3 : (t : ℕ) → level-lts.Need-returns-3 (level-calls t) (level-at t) level.Post level-inv level-less
 level-returns-3 t c =
-    let may = c .before .before .before .before .before .before .before .before .before .before .before .before .before .before .pre .1 in
+    let may = c .before .before .before .before .before .before .before .before .before .before .before .before .before .pre .1 in
     let more = c .before .before .before .before .before .before .before .before .if2 .left in
-    climbs-some _ _ _ _ _ _ _ may more _ _ _ (c .before .before .before .before .loop .inv) _
+    climbs-some _ _ _ _ _ _ _ _ _ may more _ _ _ (c .before .before .before .before .loop .inv) _
     (c .before .in-slot .ensures) (c .if4 .taken)
 
 level-slice-aggregate-look : (t : ℕ) → level-lts.Need-slice-aggregate-look (level-calls t) (level-at t) level.Post level-inv level-less
 level-slice-aggregate-look t c =
     let may =
-    c .before .before .before .before .before .before .before .before .before .before .before .before .before .before .before .pre .1 in
+    c .before .before .before .before .before .before .before .before .before .before .before .before .before .before .pre .1 in
     sym (may .suspect .holding .size)
 
 level-look-requires : (t : ℕ) → level-lts.Need-look-requires (level-calls t) (level-at t) level.Post level-inv level-less
 level-look-requires t c κs =
-    may-look _ _ _ _ _ _ _
-    (c .before .before .before .before .before .before .before .before .before .before .before .before .before .before .before .pre .1)
+    may-look _ _ _ _ _ _ _ _ _
+    (c .before .before .before .before .before .before .before .before .before .before .before .before .before .before .pre .1)
     (c .before .before .before .before .before .before .before .before .before .if2 .left) _ _ _
     (c .before .before .before .before .before .loop .inv)
     (c .before .before .before .if3 .taken)
@@ -260,10 +256,10 @@ level-returns-4 : (t : ℕ) → level-lts.Need-returns-4 (level-calls t) (level-
 level-returns-4 t c =
     let may =
     c .before .before .before .before .before .before .before .before .before .before .before .before .before .before .before .before
-    .before .before .before .pre .1 in
+    .before .before .pre .1 in
     let more = c .before .before .before .before .before .before .before .before .before .before .before .before .before .if2 .left in
     let inv = c .before .before .before .before .before .before .before .before .before .loop .inv in
-    climbs-stop _ _ _ _ _ _ _ may more _ _ _ inv _
+    climbs-stop _ _ _ _ _ _ _ _ _ may more _ _ _ inv _
     (c .before .before .before .before .before .before .in-slot .ensures) (c .before .before .before .before .before .if4 .left)
     (c .before .before .before .before .before .before .before .if3 .taken) _ _ (c .before .before .differs .ensures)
     (c .before .before .before .look .ensures) _ (c .nothing2 .ensures) (c .before .if5 .taken)
@@ -272,7 +268,7 @@ level-add-s : (t : ℕ) → level-lts.Need-add-s (level-calls t) (level-at t) le
 level-add-s t c =
     let may =
     c .before .before .before .before .before .before .before .before .before .before .before .before .before .before .before .before
-    .before .before .before .pre .1 in
+    .before .before .pre .1 in
     omega (
       arith,
       c .before .before .before .before .before .before .before .if3 .taken,
@@ -287,10 +283,10 @@ level-loop-again : (t : ℕ) → level-lts.Need-loop-again (level-calls t) (leve
 level-loop-again t c =
     let may =
     c .before .before .before .before .before .before .before .before .before .before .before .before .before .before .before .before
-    .before .before .before .pre .1 in
+    .before .before .pre .1 in
     let more = c .before .before .before .before .before .before .before .before .before .before .before .before .before .if2 .left in
     let inv = c .before .before .before .before .before .before .before .before .before .loop .inv in
-    climbs-on _ _ _ _ _ _ _ may more _ _ _ inv _
+    climbs-on _ _ _ _ _ _ _ _ _ may more _ _ _ inv _
     (c .before .before .before .before .before .before .in-slot .ensures) (c .before .before .before .before .before .if4 .left)
     (c .before .before .before .before .before .before .before .if3 .taken) _ _ (c .before .before .differs .ensures)
     (c .before .before .before .look .ensures) (c .before .if5 .left)
@@ -300,8 +296,8 @@ level-nothing-requires-3 t c κs = search needs
 
 level-returns-5 : (t : ℕ) → level-lts.Need-returns-5 (level-calls t) (level-at t) level.Post level-inv level-less
 level-returns-5 t c =
-    let may = c .before .before .before .before .before .before .before .before .before .before .before .before .before .pre .1 in
-    climbs-over _ _ _ _ _ _ _ may
+    let may = c .before .before .before .before .before .before .before .before .before .before .before .before .pre .1 in
+    climbs-over _ _ _ _ _ _ _ _ _ may
     (c .before .before .before .before .before .before .before .if2 .left) _ _ _ (c .before .before .before .loop .inv) _ (c .nothing3 .ensures)
     (c .before .if3 .left)
 
@@ -313,6 +309,8 @@ pub +in-slot+level-spec : {M : Type 1} → statement M
     (in-slot-next-link-requires t)
     (in-slot-loop-holds t)
     (in-slot-pick-requires t)
+    (in-slot-sub-suspect t)
+    (in-slot-suspect-requires t)
     (in-slot-sub-level t)
     (in-slot-level-requires t)
     (in-slot-returns t)
@@ -326,11 +324,9 @@ pub +in-slot+level-spec : {M : Type 1} → statement M
     (in-slot-nothing-requires t)
     (in-slot-returns-2 t))
     λ t. level-lts.spec (level-calls t) (level-at t) level.Post level-inv level-less
-    (level-suspect-requires t)
     (level-nothing-requires t)
     (level-returns t)
     (level-returns-2 t)
-    (level-last-seen-requires t)
     (level-loop-holds t)
     (level-in-slot-requires t)
     (level-returns-3 t)
