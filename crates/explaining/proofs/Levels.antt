@@ -28,7 +28,7 @@ use Rattle.explaining.specs.declared.Found.{Found}
 use Rattle.explaining.specs.Walk.{isUnseen, isOpen, isClue, noFound, MaySeek, MaySeekIn, Sought, SoughtIn}
 use Rattle.explaining.proofs.Seen.{cut-too-early}
 use Rattle.explaining.proofs.Opening.{closed, open-whole}
-use Rattle.explaining.proofs.Matching.{still-differs, seen-same, seen-other}
+use Rattle.explaining.proofs.Matching.{still-differs, says-nothing, seen-same, seen-other}
 use Rattle.explaining.proofs.Telling.{tells-none, tells-some, tells-more}
 
 -- in slot s, from link e on: no list matches whose next pair is there and before link i, which is not cut already
@@ -263,7 +263,7 @@ module _ (row table crossed : List ℕ) (z : Sizes) (ps : Standing) (p : Picked)
               let same = seen-same row crossed (z .messages) (cutsOf p) (qs .time .0) seen saw (sym is ∙ u) in
               record {
                 none = tried;
-                stand = rw at at (saw .stand);
+                stand = rw at at (saw .stand (says-nothing (seen .clue) (sym is ∙ u)));
                 before = λ i l. by i l (ltb i s) refl (rw at at same);
                 from = omega (arith, g .from);
                 early = omega arith;

@@ -10,10 +10,11 @@ use Rattle.scope.specs.Plan.{Plan, planOf}
 use Rattle.scope.specs.Cuts.{isCutList}
 use Rattle.order.proofs.Pairs.{not-before}
 use Rattle.order.proofs.Prefix.{event-before}
+use Rattle.step.specs.Events.{crossingOf}
 use Rattle.clues.specs.declared.Clue.{Clue}
 use Rattle.clues.specs.declared.Clue.the-variants.{Nothing, Link, Dead}
 use Rattle.clues.specs.declared.Seen.{Seen}
-use Rattle.clues.specs.Clues.{crossingOf, MatchesIn, Matches, Shows}
+use Rattle.clues.specs.Clues.{MatchesIn, Matches, Shows}
 use Rattle.clues.proofs.Looking.{shown-nothing, shown-link, shown-dead}
 use Rattle.explaining.specs.Walk.{isClue}
 
@@ -28,15 +29,16 @@ still-differs plan crossed pre d k s a b x few long rest early after good differ
     (λ m there.
     sym (ap crossingOf (event-before plan pre (a ∷ b ∷ x) d (1 + k) (s + 1) long size later s m (omega arith))) ∙ it s early m there)
 
+-- a slot that does not differ says nothing
+pub says-nothing : (clue : Clue) → isClue clue ≡ false → clue ≡ Nothing
+says-nothing Nothing e = refl
+says-nothing (Link x) e = absurd (true≢false e)
+says-nothing Dead e = absurd (true≢false e)
+
 -- what was seen in a slot: it does not differ, or it does
 module _ (row crossed : List ℕ) (n : ℕ) (cuts : List ℕ) (s : ℕ) (r : Seen) (shows : Shows row crossed n cuts s r) where
   pub seen-same : isClue (r .clue) ≡ false → MatchesIn (planOf row) crossed cuts s
-  seen-same = by (r .clue) refl
-    where
-      by : (clue : Clue) → r .clue ≡ clue → isClue clue ≡ false → MatchesIn (planOf row) crossed cuts s
-      by Nothing is e = shown-nothing row crossed n cuts s r shows is
-      by (Link x) is e = absurd (true≢false e)
-      by Dead is e = absurd (true≢false e)
+  seen-same e = shown-nothing row crossed n cuts s r shows (says-nothing (r .clue) e)
 
   pub seen-other : isClue (r .clue) ≡ true → MatchesIn (planOf row) crossed cuts s → ⊥
   seen-other = by (r .clue) refl

@@ -17,7 +17,8 @@ use Rattle.laws.specs.Message.{crosses}
 use Rattle.laws.proofs.Named.{crossing-in-replay}
 use Rattle.capture.specs.declared.Kept.{Kept}
 use Rattle.capture.specs.Kept.{crossedAt, KeepsAll}
-use Rattle.clues.specs.Clues.{crossingOf, eventIn, crossingIn, Matches}
+use Rattle.step.specs.Events.{crossingOf}
+use Rattle.clues.specs.Clues.{eventIn, crossingIn, Matches}
 
 -- an event crosses link e exactly if that is the link it crosses
 crosses-is : (v : Event) (e : ℕ) → crosses e v ≡ eqb (crossingOf v) (e + 1)
