@@ -1,16 +1,14 @@
 -- Crossings as numbers: what an event crosses, plus one, or 0.
 use Prim.Native.Nat.{ℕ, zero, suc, _+_, _≤_, _<_}
 use native.Mathlib.Omega.{arith}
-use mathlib.Core.Path.{_≡_, refl, sym, _∙_, ap, subst}
+use mathlib.Core.Path.{_≡_, refl, sym, _∙_, ap}
 use mathlib.Core.Bool.{Bool, true, false, cond, _&&_, _||_}
-use mathlib.Core.List.{List}
-use lib.Dec.{ltb, eqb}
-use borrow.Author.Tests.{eqb-true, eqb-false, eq-eqb, ne-eqb, lt-ltb, le-ltb, ltb-true, ltb-false}
+use lib.Dec.{eqb}
+use borrow.Author.Tests.{eqb-true, eqb-false, eq-eqb, ne-eqb, lt-ltb, le-ltb}
 use Rattle.scope.specs.Slot.{Event}
 use Rattle.laws.specs.Message.{crosses}
 use Rattle.laws.specs.Named.{SameCrossing}
-use Rattle.clues.specs.declared.Clue.{Clue}
-use Rattle.clues.specs.declared.Clue.the-variants.{Nothing, Link, Dead}
+use Rattle.clues.specs.declared.Clue.the-variants.{Link, Dead}
 use Rattle.step.specs.Events.{anEvent, crossingOf}
 use Rattle.clues.specs.Clues.{mayName, clueOf, Foremost, Says}
 

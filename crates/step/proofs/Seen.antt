@@ -5,7 +5,7 @@ use mathlib.Core.Bool.{Bool, true, false, not, cond, _||_, true≢false}
 use mathlib.Core.List.{List, []}
 use native.Mathlib.Omega.{arith}
 use lib.ListN.{length, getD, set, List·getD-eq-default}
-use lib.Dec.{ltb, eqb, leb}
+use lib.Dec.{ltb, eqb}
 use borrow.Author.Tests.{not-true, ltb-true, ltb-false, eqb-false, eq-eqb, ne-eqb, le-leb, lt-leb}
 use Rattle.scope.specs.Limits.{mostMessages}
 use Rattle.scope.specs.Lowest.{seek, lowest}
@@ -62,10 +62,6 @@ none-other n ms = by (ltb r n) refl
     by false e = omega (arith, ltb-false r n e, seek-most test n 0)
 
 module _ (row : List ℕ) (down : ℕ → ℕ → Bool) (owner : ℕ → ℕ → ℕ) (i n : ℕ) (old : List Position) (tried₀ buffer seen : List ℕ) where
-  -- what all do
-  abbrev pub doesAll : List S.Moved
-  doesAll = passes row (down i) (owner i) i n old tried₀
-
   -- message m does something else
   abbrev pub isOther : ℕ → Bool
   isOther m = not (asSeen seen m (eventAt (passes row (down i) (owner i) i n old tried₀) m))
@@ -83,6 +79,9 @@ module _ {row : List ℕ} {down : ℕ → ℕ → Bool} {owner : ℕ → ℕ →
     {m : ℕ} {new : List Position} {tried out : List ℕ} (g : Watching row down owner i n old tried₀ buffer seen m new tried out) where
   abbrev all : List S.Moved
   all = passes row (down i) (owner i) i n old tried₀
+
+  abbrev other : ℕ → Bool
+  other = isOther row down owner i n old tried₀ buffer seen
 
   abbrev Goes : List S.Moved → Gone → Type 0
   Goes ms r = GoesAsSeen row n ms seen old buffer out r
@@ -102,10 +101,10 @@ module _ {row : List ℕ} {down : ℕ → ℕ → Bool} {owner : ℕ → ℕ →
     pub watching-more : (out′ : List ℕ) → asSeen seen m (anEvent kind number) ≡ true → out′ ≡ set (set out (2 * m) kind) (2 * m + 1) number →
         Watching row down owner i n old tried₀ buffer seen (m + 1) (set new m (moved .next)) tried′ out′
     watching-more out′ t e =
-        let same : isOther row down owner i n old tried₀ buffer seen m ≡ false = ap (λ (v : S.Event). not (asSeen seen m v)) (sym is-event) ∙ ap not t in
+        let same : other m ≡ false = ap (λ (v : S.Event). not (asSeen seen m v)) (sym is-event) ∙ ap not t in
         record {
           telling = telling-more (g .telling) moved tried′ out′ l a (e ∙ ap₂ (λ (u v : ℕ). set (set out (2 * m) u) (2 * m + 1) v) k x);
-          first = sym (seek-next (isOther row down owner i n old tried₀ buffer seen) n m l same) ∙ g .first;
+          first = sym (seek-next other n m l same) ∙ g .first;
         }
 
     -- message m does something else
@@ -113,10 +112,10 @@ module _ {row : List ℕ} {down : ℕ → ℕ → Bool} {owner : ℕ → ℕ →
         r .kind ≡ kind → r .number ≡ number → r .positions ≡ new →
         GoesAsSeen row n (slot (orderOf (planOf row)) down owner i (positionsOf row n old)) seen old buffer out r
     watching-other r z f at is-kind is-number is-new =
-        let other : isOther row down owner i n old tried₀ buffer seen m ≡ true = ap (λ (v : S.Event). not (asSeen seen m v)) (sym is-event) ∙ ap not f in
+        let differs : other m ≡ true = ap (λ (v : S.Event). not (asSeen seen m v)) (sym is-event) ∙ ap not f in
         goes r
         (record {
-          alike = at ∙ sym (seek-found (isOther row down owner i n old tried₀ buffer seen) n m l other) ∙ g .first;
+          alike = at ∙ sym (seek-found other n m l differs) ∙ g .first;
           event = ap₂ anEvent is-kind is-number ∙ is-event ∙ ap (eventAt all) (sym at);
           long = is-long r is-new z;
           done = λ q. absurd (omega arith);
@@ -130,7 +129,7 @@ module _ {row : List ℕ} {down : ℕ → ℕ → Bool} {owner : ℕ → ℕ →
       let ms = slot (orderOf (planOf row)) down owner i (positionsOf row n old) in
       goes r
       (record {
-        alike = at ∙ sym (seek-done (isOther row down owner i n old tried₀ buffer seen) n m h) ∙ g .first;
+        alike = at ∙ sym (seek-done other n m h) ∙ g .first;
         event = ap₂ anEvent is-kind is-number ∙ sym (ap (λ (v : S.Moved). v .event) (List·getD-eq-default all (S.moved (S.onFirst []) 0 0) past));
         long = is-long r is-new z;
         done = λ q.

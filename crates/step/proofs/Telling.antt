@@ -13,7 +13,6 @@ use Rattle.scope.specs.Cycle.{orderOf, slot, numbers}
 use Rattle.step.specs.declared.Position.{Position}
 use Rattle.step.specs.declared.Moved.{Moved}
 use Rattle.step.specs.Events.{eventOf}
-use Rattle.step.specs.Where.{positionOf}
 use Rattle.step.specs.Stand.{home, positionsOf, MovesAndTells}
 use Rattle.step.specs.Pass.{MayMoveAll, ActsIn}
 use Rattle.step.proofs.Moves.{numbers-length}

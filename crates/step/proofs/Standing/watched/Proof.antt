@@ -1,5 +1,5 @@
 -- `step::Standing::watched` meets its contract: a message does something else, and all stay; or all go.
-use mathlib.Core.Path.{refl, sym, _∙_}
+use mathlib.Core.Path.{refl}
 use native.Mathlib.Omega.{arith}
 use borrow.Author.Needs.{needs}
 use Rattle.step.proofs.Seen.{goes-on}
