@@ -98,7 +98,7 @@ pub fn read_piece(name: &[u8], turn: u64, buf: &mut [u8]) -> Read
 {
     let read = read_more(STDIN_FILENO, buf, 0);
     match read {
-        Read::Bytes(n) => Read::Bytes(n),
+        Read::Bytes(came) => Read::Bytes(came),
         Read::Failed => {
             tell(name, b": standard input cannot be read");
             Read::Failed
