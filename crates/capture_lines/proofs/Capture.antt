@@ -12,46 +12,13 @@ use borrow.Author.Tests.{ne-eqb, ltb-true, ltb-false, eqb-true}
 use Rattle.scope.proofs.Bools.{and-left, and-right, not-true}
 use Rattle.scope.specs.Lines.{byteAt, numberAt, numberSize, pastNumber, secondNumber, thirdNumber, endOfTriple, isTripleLine}
 use Rattle.scope.specs.Lines.{captureFrom, captureOf}
-use Rattle.text.specs.declared.Number.{Number}
-use Rattle.text.specs.Reading.{goesOn, sizeFrom, valueFrom, sizeAt, valueAt, Reads}
-use Rattle.text.proofs.Going.{goes-digit}
-use Rattle.text.proofs.Read.{run-along, number-stops}
+use Rattle.text.specs.Reading.{goesOn, sizeAt, valueAt}
+use Rattle.text.proofs.Read.{run-along, number-stops, numberRead, read-here}
 use Rattle.cut_lines.proofs.Forms.{digit-low}
 use Rattle.cut_lines.proofs.Meets.{Meets, none, cut-off, one, two, meets}
 use Rattle.capture_lines.specs.Rest.{lineOf, fresh, endMark, lineAfter, adds, isFresh, restOf}
 use Rattle.capture_lines.specs.declared.Line.{Line}
 use Rattle.capture_lines.specs.declared.Step.the-variants.{On, End, Out}
-
--- a number that is read lies within its text and is small
-size-within : (begun : Bool) (a : ℕ) (s : List ℕ) → sizeFrom 63 begun a s ≤ length s
-unfolding sizeFrom
-size-within begun a [] = omega arith
-size-within begun a (b ∷ s) = by (goesOn 63 begun a b) (size-within true (a * 10 + (b - 48)) s)
-  where
-    by : (t : Bool) → sizeFrom 63 true (a * 10 + (b - 48)) s ≤ length s →
-        cond t (suc (sizeFrom 63 true (a * 10 + (b - 48)) s)) 0 ≤ suc (length s)
-    by true h = omega arith
-    by false h = omega arith
-
-value-small : (begun : Bool) (a : ℕ) (s : List ℕ) → a ≤ 63 → valueFrom 63 begun a s ≤ 63
-unfolding valueFrom
-value-small begun a [] h = h
-value-small begun a (b ∷ s) h = by (goesOn 63 begun a b) refl (value-small true (a * 10 + (b - 48)) s)
-  where
-    by : (t : Bool) → goesOn 63 begun a b ≡ t → (a * 10 + (b - 48) ≤ 63 → valueFrom 63 true (a * 10 + (b - 48)) s ≤ 63) →
-        cond t (valueFrom 63 true (a * 10 + (b - 48)) s) a ≤ 63
-    by true g rest = rest (goes-digit 63 begun a b g .fits)
-    by false g rest = h
-
--- the number at an index as `text` reads it
-abbrev numberRead : List ℕ → ℕ → Number
-numberRead text i = record { value = valueAt 63 text i; next = i + sizeAt 63 text i }
-
-read-here : (text : List ℕ) (i : ℕ) → Reads 63 text i (numberRead text i)
-read-here text i =
-    let w = size-within false 0 (drop i text) in
-    let d = length-drop i text in
-    record { value = refl; next = refl; small = value-small false 0 (drop i text) (omega arith); within = omega arith }
 
 -- a line in the midst of a number
 abbrev pub inLine : ℕ → ℕ → ℕ → Bool → ℕ → Line
@@ -154,7 +121,7 @@ module _ (text : List ℕ) (n a b : ℕ) where
       let h = f z in
       omega arith)
 
-  number-is : (i : ℕ) → Meets text i (numberRead text i) →
+  number-is : (i : ℕ) → Meets text i (numberRead 63 text i) →
       read i ≡ cond (isNumber i) (afterNumber n a b (numberAt text i) (drop (pastNumber text i + 1) text)) (0 ∷ [])
   number-is i (none s e) =
       let z : sizeAt 63 text i ≡ 0 = omega arith in
@@ -172,7 +139,7 @@ module _ (text : List ℕ) (n a b : ℕ) where
   pub number-adds : (i : ℕ) → (n ≡ 0 → i < length text) →
       restOf (lineOf n a b) (drop i text) ≡
       cond (isNumber i) (afterNumber n a b (numberAt text i) (drop (pastNumber text i + 1) text)) (0 ∷ [])
-  number-adds i f = read-adds i f ∙ number-is i (meets text i (numberRead text i) (read-here text i))
+  number-adds i f = read-adds i f ∙ number-is i (meets text i (numberRead 63 text i) (read-here 63 text i))
 
 -- the tests of a line, three by three
 six : (t u v w x y : Bool) (p q : List ℕ) → cond (t && u) (cond (v && w) (cond (x && y) p q) q) q ≡ cond (t && u && v && w && x && y) p q

@@ -1,9 +1,8 @@
 -- A line of a capture, read byte by byte: what a byte does to it, and which numbers the rest of a text still adds to the capture.
 use Prim.Native.Nat.{ℕ, _+_, _-_, _*_, _≤_}
 use mathlib.Core.Bool.{Bool, true, false, not, cond, _&&_}
-use mathlib.Core.List.{List, [], _∷_, _++_}
+use mathlib.Core.List.{List, [], _∷_}
 use lib.Dec.{ltb, eqb}
-use Rattle.scope.specs.Lines.{tripleLine}
 use Rattle.text.specs.Reading.{goesOn}
 use Rattle.capture_lines.specs.declared.Line.{Line}
 use Rattle.capture_lines.specs.declared.Step.{Step}
@@ -62,10 +61,3 @@ pub record SmallLine (l : Line) : Type 0 where
   pub value : l .value ≤ 63
   pub older : l .older ≤ 63
   pub newer : l .newer ≤ 63
-
--- the lines of a capture
-unfoldable pub tripleLines : List ℕ → List ℕ
-tripleLines [] = []
-tripleLines (i ∷ []) = []
-tripleLines (i ∷ e ∷ []) = []
-tripleLines (i ∷ e ∷ m ∷ capture) = tripleLine i e m ++ tripleLines capture

@@ -1,8 +1,8 @@
 // The lines of a capture, as the program `explain` reads them: document 02, [7], "lines of three decimals with single spaces", each ended by a
 // line feed. A text of any length is read in pieces, byte by byte, and of it are kept what `capture` keeps of the triples, and the line that is
 // being read: `begin`, then `feed` for each piece, then `finish`. A line out of form is a bad triple, and nothing behind a bad triple matters.
-// That this is what specs/Lines of `scope` makes of the whole text, and that printed lines are read back, is in proofs/. It leans on `text` for
-// a digit that goes on with a number and on `capture`.
+// That this is what specs/Lines of `scope` makes of the whole text is in proofs/; that printed lines are read back, and that accepted ones were
+// printed so, in specs/Round. It leans on `text` for a digit that goes on with a number and on `capture`.
 ghost use Prim.Native.Nat.{_<_, _≤_};
 ghost use mathlib.Core.Path.{_≡_};
 ghost use mathlib.Core.List.{[], _∷_};

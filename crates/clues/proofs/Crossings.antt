@@ -20,7 +20,7 @@ eqb-suc a b = by (eqb a b) refl
     by false e = ne-eqb (a + 1) (b + 1) (λ q. eqb-false a b e (omega arith))
 
 -- an event crosses link e exactly if its number is e's plus one
-crosses-is : (e : ℕ) (v : Event) → crosses e v ≡ eqb (crossingOf v) (e + 1)
+pub crosses-is : (e : ℕ) (v : Event) → crosses e v ≡ eqb (crossingOf v) (e + 1)
 crosses-is e v = by (eqb (v .kind) 2 || eqb (v .kind) 3)
   where
     by : (t : Bool) → (t && eqb (v .number) e) ≡ eqb (cond t (v .number + 1) 0) (e + 1)

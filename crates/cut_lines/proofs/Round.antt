@@ -1,18 +1,18 @@
--- What is read is what is printed: `isCutLine` holds exactly where a `cutLine` of numbers of at most 63 stands, and the lines of a list
--- of cuts give the list back.
+-- What is printed is read back: `isCutLine` holds where a `cutLine` of numbers of at most 63 stands, and the lines of a list of cuts give
+-- the list back.
 use Prim.Native.Nat.{ℕ, zero, suc, _+_, _-_, _*_, _/_, _%_, _≤_, _<_}
 use mathlib.Core.Path.{_≡_, refl, sym, _∙_, ap}
-use mathlib.Core.Bool.{Bool, true, false, cond, _&&_}
+use mathlib.Core.Bool.{Bool, true, false}
 use mathlib.Core.List.{List, [], _∷_, _++_, append-assoc}
 use native.Mathlib.Omega.{arith}
-use lib.ListN.{length, getD, take, drop, length-append, length-drop, List·getD-append, List·getD-eq-default}
-use lib.Seq.{getD-append-add, getD-take, getD-drop, ext-getD, length-take-le}
-use lib.Dec.{ltb, leb, eqb}
-use borrow.Author.Tests.{le-leb, ltb-true, ltb-false, leb-true, eqb-true}
-use Rattle.scope.specs.Lines.{byteAt, decimal, isDigit, numberAt, numberSize, hasWord, cutWord, cutLine, isCutLine, slotIndex, spaceIndex}
+use lib.ListN.{length, getD, take, drop, length-append, List·getD-append}
+use lib.Seq.{getD-append-add, getD-take, getD-drop}
+use lib.Dec.{ltb}
+use borrow.Author.Tests.{le-leb, ltb-true, ltb-false}
+use Rattle.scope.specs.Lines.{byteAt, decimal, isDigit, numberAt, numberSize, hasWord, cutWord, cutLine, isCutLine, slotIndex}
 use Rattle.scope.specs.Lines.{linkIndex, feedIndex, cutsFrom, cutsOf, cutLines}
 use Rattle.text.proofs.Decimal.{decimal-small, decimal-large}
-use Rattle.cut_lines.proofs.Forms.{size-one, size-two, value-one, value-two, digit-low, digit-high, is-line, feed-is}
+use Rattle.cut_lines.proofs.Forms.{size-one, size-two, value-one, value-two, is-line, feed-is}
 use Rattle.cut_lines.proofs.Lines.{cuts-end, cuts-line}
 
 -- the bytes of a text from index i on begin with a list
@@ -29,42 +29,16 @@ module _ (text : List ℕ) where
       let f : i + length a + k ≡ i + (length a + k) = omega arith in
       ap (byteAt text) f ∙ h (length a + k) (omega arith) ∙ getD-append-add a b k 0
 
-  bytes-append : (i : ℕ) (a b : List ℕ) → Bytes text i a → Bytes text (i + length a) b → Bytes text i (a ++ b)
-  bytes-append i a b p q k l = by (ltb k (length a)) refl
-    where
-      by : (t : Bool) → ltb k (length a) ≡ t → byteAt text (i + k) ≡ getD (a ++ b) k 0
-      by true e = let h = ltb-true k (length a) e in p k h ∙ sym (List·getD-append a b 0 k h)
-      by false e =
-          let h = ltb-false k (length a) e in
-          let n = length-append a b in
-          let f : i + k ≡ i + length a + (k - length a) = omega arith in
-          let g : length a + (k - length a) ≡ k = omega arith in
-          ap (byteAt text) f ∙ q (k - length a) (omega arith) ∙ sym (getD-append-add a b (k - length a) 0) ∙ ap (λ (x : ℕ). getD (a ++ b) x 0) g
-
-  -- as a part of the text
-  bytes-stand : (i : ℕ) (l : List ℕ) → i + length l ≤ length text → Bytes text i l → take (length l) (drop i text) ≡ l
-  bytes-stand i l h p =
-      let d = length-drop i text in
-      let n : length (take (length l) (drop i text)) ≡ length l = length-take-le (length l) (drop i text) (omega arith) in
-      ext-getD 0 (take (length l) (drop i text)) l n
-      (λ k g. getD-take (length l) (drop i text) k 0 (omega arith) ∙ getD-drop i text k 0 ∙ p k (omega arith))
-
+  -- a part of the text
   pub stand-bytes : (i : ℕ) (l : List ℕ) → take (length l) (drop i text) ≡ l → Bytes text i l
   stand-bytes i l e k h =
       sym (getD-drop i text k 0) ∙ sym (getD-take (length l) (drop i text) k 0 h) ∙ ap (λ (x : List ℕ). getD x k 0) e
-
-  bytes-one : (i x : ℕ) → byteAt text i ≡ x → Bytes text i (x ∷ [])
-  bytes-one i x p zero h = let e : i + 0 ≡ i = omega arith in ap (byteAt text) e ∙ p
-  bytes-one i x p (suc k) h = absurd (omega arith)
 
   pub bytes-first : (i x : ℕ) (l : List ℕ) → Bytes text i (x ∷ l) → byteAt text i ≡ x
   bytes-first i x l h = let e : i + 0 ≡ i = omega arith in sym (ap (byteAt text) e) ∙ h 0 (omega arith)
 
   bytes-next : (i x : ℕ) (l : List ℕ) → Bytes text i (x ∷ l) → Bytes text (i + 1) l
   bytes-next i x l h = bytes-right i (x ∷ []) l h
-
-  bytes-cons : (i x : ℕ) (l : List ℕ) → byteAt text i ≡ x → Bytes text (i + 1) l → Bytes text i (x ∷ l)
-  bytes-cons i x l p q = bytes-append i (x ∷ []) l (bytes-one i x p) q
 
 -- the digits of a number of at most 63
 pub decimal-two : (s : ℕ) → 10 ≤ s → s ≤ 63 → decimal s ≡ (48 + s / 10) ∷ (48 + s % 10) ∷ []
@@ -226,104 +200,13 @@ cuts-back cuts small =
     lines-read small (cutLines cuts) (length (cutLines cuts)) 0 (lines-many small) z
     (λ k h. let e : 0 + k ≡ k = omega arith in ap (byteAt (cutLines cuts)) e)
 
--- a number that is read was printed so
-record Printed (text : List ℕ) (i : ℕ) : Type 0 where
-  most : numberAt text i ≤ 63
-  size : numberSize text i ≡ length (decimal (numberAt text i))
-  bytes : Bytes text i (decimal (numberAt text i))
-
-module _ (text : List ℕ) (i : ℕ) where
-  number-there : 0 < numberSize text i → Printed text i
-  number-there h =
-      by (isDigit (byteAt text i)) (isDigit (byteAt text (i + 1))) (ltb 48 (byteAt text i))
-      (leb ((byteAt text i - 48) * 10 + (byteAt text (i + 1) - 48)) 63) refl refl refl refl h
-    where
-      one : isDigit (byteAt text i) ≡ true → isDigit (byteAt text (i + 1)) ≡ false → Printed text i
-      one p q =
-          let low = digit-low (byteAt text i) p in
-          let high = digit-high (byteAt text i) p in
-          let size : numberSize text i ≡ 1 = size-one (byteAt text i) (byteAt text (i + 1)) p q in
-          let value : numberAt text i ≡ byteAt text i - 48 = value-one (byteAt text i) (byteAt text (i + 1)) q in
-          let back : 48 + numberAt text i ≡ byteAt text i = omega arith in
-          let digits : decimal (numberAt text i) ≡ byteAt text i ∷ [] =
-          decimal-small (numberAt text i) (omega arith) ∙ ap (λ (x : ℕ). x ∷ []) back
-          in
-          record {
-            most = omega arith;
-            size = size ∙ sym (ap length digits);
-            bytes = rw digits (bytes-one text i (byteAt text i) refl);
-          }
-
-      two : isDigit (byteAt text i) ≡ true → isDigit (byteAt text (i + 1)) ≡ true → 48 < byteAt text i →
-          (byteAt text i - 48) * 10 + (byteAt text (i + 1) - 48) ≤ 63 → Printed text i
-      two p q f g =
-          let low = digit-low (byteAt text (i + 1)) q in
-          let high = digit-high (byteAt text (i + 1)) q in
-          let size : numberSize text i ≡ 2 = size-two (byteAt text i) (byteAt text (i + 1)) p q f g in
-          let value : numberAt text i ≡ (byteAt text i - 48) * 10 + (byteAt text (i + 1) - 48) =
-          value-two (byteAt text i) (byteAt text (i + 1)) q in
-          let front : 48 + numberAt text i / 10 ≡ byteAt text i = omega arith in
-          let back : 48 + numberAt text i % 10 ≡ byteAt text (i + 1) = omega arith in
-          let digits : decimal (numberAt text i) ≡ byteAt text i ∷ byteAt text (i + 1) ∷ [] =
-          decimal-two (numberAt text i) (omega arith) (omega arith) ∙ rw (front, back)
-          in
-          record {
-            most = omega arith;
-            size = size ∙ sym (ap length digits);
-            bytes = rw digits (bytes-cons text i (byteAt text i) (byteAt text (i + 1) ∷ []) refl
-                (bytes-one text (i + 1) (byteAt text (i + 1)) refl));
-          }
-
-      by : (t u v w : Bool) → isDigit (byteAt text i) ≡ t → isDigit (byteAt text (i + 1)) ≡ u → ltb 48 (byteAt text i) ≡ v →
-          leb ((byteAt text i - 48) * 10 + (byteAt text (i + 1) - 48)) 63 ≡ w → 0 < cond t (cond u (cond (v && w) 2 0) 1) 0 → Printed text i
-      by true true true true p q r x h = two p q (ltb-true 48 (byteAt text i) r)
-          (leb-true ((byteAt text i - 48) * 10 + (byteAt text (i + 1) - 48)) 63 x)
-      by true true true false p q r x h = absurd (omega arith)
-      by true true false w p q r x h = absurd (omega arith)
-      by true false v w p q r x h = one p q
-      by false u v w p q r x h = absurd (omega arith)
-
--- tests that hold together hold each
-and-split : (a b : Bool) → (a && b) ≡ true → (a ≡ true) × (b ≡ true)
-and-split true b e = (refl, e)
-and-split false b e = absurd (let z : _≡_ {A = ℕ} 0 1 = cc in omega arith)
-
--- a byte that is not 0 lies within the text
-byte-inside : (text : List ℕ) (j x : ℕ) → byteAt text j ≡ x → 0 < x → j < length text
-byte-inside text j x p h = by (ltb j (length text)) refl
-  where
-    by : (t : Bool) → ltb j (length text) ≡ t → j < length text
-    by true e = ltb-true j (length text) e
-    by false e =
-        let z : byteAt text j ≡ 0 = List·getD-eq-default text 0 (ltb-false j (length text) e) in
-        absurd (omega arith)
-
--- the parts of a line, one after the other
-assemble : (text : List ℕ) (i s e : ℕ) → byteAt text i ≡ 99 → byteAt text (i + 1) ≡ 117 → byteAt text (i + 2) ≡ 116 → byteAt text (i + 3) ≡ 32 →
-    Bytes text (i + 4) (decimal s) → byteAt text (i + 4 + length (decimal s)) ≡ 32 →
-    Bytes text (i + 4 + length (decimal s) + 1) (decimal e) →
-    byteAt text (i + 4 + length (decimal s) + 1 + length (decimal e)) ≡ 10 → Bytes text i (cutLine s e)
-assemble text i s e a b c d slot gap link feed =
-    bytes-append text i cutWord (afterWord s e) word
-    (bytes-append text (i + 4) (decimal s) (32 ∷ (decimal e ++ (10 ∷ []))) slot
-    (bytes-cons text (i + 4 + length (decimal s)) 32 (decimal e ++ (10 ∷ [])) gap
-    (bytes-append text (i + 4 + length (decimal s) + 1) (decimal e) (10 ∷ []) link
-    (bytes-one text (i + 4 + length (decimal s) + 1 + length (decimal e)) 10 feed))))
-  where
-    word : Bytes text i cutWord
-    word zero h = let z : i + 0 ≡ i = omega arith in ap (byteAt text) z ∙ a
-    word (suc zero) h = b
-    word (suc (suc zero)) h = c
-    word (suc (suc (suc zero))) h = d
-    word (suc (suc (suc (suc k)))) h = absurd (omega arith)
-
 -- a line of slot s and link e stands at index i of a text
 pub record CutLineAt (text : List ℕ) (i s e : ℕ) : Type 0 where
   pub slot : s ≤ 63
   pub link : e ≤ 63
   pub stands : take (length (cutLine s e)) (drop i text) ≡ cutLine s e
 
--- exactly where a line stands, `isCutLine` holds: with the numbers that are read, and only with them
+-- where a line stands, `isCutLine` holds, with its numbers
 pub line-holds : (text : List ℕ) (i s e : ℕ) → CutLineAt text i s e → isCutLine text i ≡ true
 line-holds text i s e c = line-here text i s e (c .slot) (c .link) (stand-bytes text i (cutLine s e) (c .stands)) .is
 
@@ -332,41 +215,3 @@ line-slot text i s e c = line-here text i s e (c .slot) (c .link) (stand-bytes t
 
 pub line-link : (text : List ℕ) (i s e : ℕ) → CutLineAt text i s e → numberAt text (linkIndex text i) ≡ e
 line-link text i s e c = line-here text i s e (c .slot) (c .link) (stand-bytes text i (cutLine s e) (c .stands)) .link
-
-pub line-stands : (text : List ℕ) (i : ℕ) → isCutLine text i ≡ true → CutLineAt text i (numberAt text (slotIndex i))
-    (numberAt text (linkIndex text i))
-line-stands text i h =
-    let t₅ = and-split (hasWord text i && ltb 0 (numberSize text (slotIndex i)) && eqb (byteAt text (spaceIndex text i)) 32 && ltb 0
-    (numberSize text (linkIndex text i))) (eqb (byteAt text (feedIndex text i)) 10) h in
-    let t₄ = and-split (hasWord text i && ltb 0 (numberSize text (slotIndex i)) && eqb (byteAt text (spaceIndex text i)) 32)
-    (ltb 0 (numberSize text (linkIndex text i))) (t₅ .0) in
-    let t₃ = and-split (hasWord text i && ltb 0 (numberSize text (slotIndex i))) (eqb (byteAt text (spaceIndex text i)) 32) (t₄ .0) in
-    let t₂ = and-split (hasWord text i) (ltb 0 (numberSize text (slotIndex i))) (t₃ .0) in
-    let w₄ = and-split (eqb (byteAt text i) 99 && eqb (byteAt text (i + 1)) 117 && eqb (byteAt text (i + 2)) 116)
-    (eqb (byteAt text (i + 3)) 32) (t₂ .0) in
-    let w₃ = and-split (eqb (byteAt text i) 99 && eqb (byteAt text (i + 1)) 117) (eqb (byteAt text (i + 2)) 116) (w₄ .0) in
-    let w₂ = and-split (eqb (byteAt text i) 99) (eqb (byteAt text (i + 1)) 117) (w₃ .0) in
-    let s = number-there text (slotIndex i) (ltb-true 0 (numberSize text (slotIndex i)) (t₂ .1)) in
-    let e = number-there text (linkIndex text i) (ltb-true 0 (numberSize text (linkIndex text i)) (t₄ .1)) in
-    let feed : byteAt text (feedIndex text i) ≡ 10 = eqb-true (byteAt text (feedIndex text i)) 10 (t₅ .1) in
-    let gap : byteAt text (spaceIndex text i) ≡ 32 = eqb-true (byteAt text (spaceIndex text i)) 32 (t₃ .1) in
-    let m = numberAt text (slotIndex i) in
-    let n = numberAt text (linkIndex text i) in
-    let space : spaceIndex text i ≡ i + 4 + length (decimal m) = ap (λ (k : ℕ). i + 4 + k) (s .size) in
-    let link : linkIndex text i ≡ i + 4 + length (decimal m) + 1 = ap (λ (k : ℕ). k + 1) space in
-    let last : feedIndex text i ≡ i + 4 + length (decimal m) + 1 + length (decimal n) = ap (λ (k : ℕ). linkIndex text i + k) (e .size) ∙
-    ap (λ (k : ℕ). k + length (decimal n)) link in
-    let inside = byte-inside text (feedIndex text i) 10 feed (omega arith) in
-    let size = line-size m n in
-    record {
-      slot = s .most;
-      link = e .most;
-      stands =
-          bytes-stand text i (cutLine m n) (omega arith)
-          (assemble text i m n
-          (eqb-true (byteAt text i) 99 (w₂ .0)) (eqb-true (byteAt text (i + 1)) 117 (w₂ .1)) (eqb-true (byteAt text (i + 2)) 116 (w₃ .1))
-          (eqb-true (byteAt text (i + 3)) 32 (w₄ .1))
-          (s .bytes) (sym (ap (byteAt text) space) ∙ gap)
-          (λ k g. ap (λ (x : ℕ). byteAt text (x + k)) (sym link) ∙ e .bytes k g)
-          (sym (ap (byteAt text) last) ∙ feed));
-    }

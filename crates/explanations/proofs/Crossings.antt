@@ -3,31 +3,20 @@
 use Prim.Native.Nat.{ℕ, zero, suc, _+_, _≤_}
 use native.Mathlib.Omega.{arith}
 use mathlib.Core.Path.{_≡_, refl, sym, _∙_, ap}
-use mathlib.Core.Bool.{Bool, true, false, cond, _&&_, _||_, true≢false, and-eq-true-iff}
+use mathlib.Core.Bool.{true, false, true≢false}
 use mathlib.Core.List.{List}
 use lib.ListN.{length}
 use lib.Dec.{eqb}
-use borrow.Author.Tests.{eqb-true, eqb-false, eq-eqb, ne-eqb}
+use borrow.Author.Tests.{eqb-true, eq-eqb, ne-eqb}
 use Rattle.scope.specs.Limits.{mostSlots, mostMessages}
 use Rattle.scope.specs.Plan.{Plan}
-use Rattle.scope.specs.Slot.{Event}
 use Rattle.scope.specs.Verdict.{First}
 use Rattle.scope.specs.Capture.{isCaptured, Explains, Unexplained}
-use Rattle.laws.specs.Message.{crosses}
 use Rattle.laws.proofs.Named.{crossing-in-replay}
 use Rattle.capture.specs.declared.Kept.{Kept}
 use Rattle.capture.specs.Kept.{crossedAt, KeepsAll}
-use Rattle.step.specs.Events.{crossingOf}
 use Rattle.clues.specs.Clues.{eventIn, crossingIn, Matches}
-
--- an event crosses link e exactly if that is the link it crosses
-crosses-is : (v : Event) (e : ℕ) → crosses e v ≡ eqb (crossingOf v) (e + 1)
-crosses-is v e = by (eqb (v .kind) 2 || eqb (v .kind) 3) (eqb (v .number) e) refl
-  where
-    by : (a b : Bool) → eqb (v .number) e ≡ b → (a && eqb (v .number) e) ≡ eqb (cond a (v .number + 1) 0) (e + 1)
-    by false b h = sym (ne-eqb 0 (e + 1) (λ z. omega arith))
-    by true true h = h ∙ sym (eq-eqb (v .number + 1) (e + 1) (omega (arith, eqb-true (v .number) e h)))
-    by true false h = h ∙ sym (ne-eqb (v .number + 1) (e + 1) (λ z. eqb-false (v .number) e h (omega arith)))
+use Rattle.clues.proofs.Crossings.{crosses-is}
 
 -- a link plus one, or 0, is known by the links that it is
 same-crossing : (a b : ℕ) → ((e : ℕ) → eqb a (e + 1) ≡ eqb b (e + 1)) → a ≡ b
@@ -46,13 +35,13 @@ module _ (plan : Plan) (slots : plan .timeout ≤ mostSlots) (many : length (pla
     matches it i l m there =
         same-crossing (crossingIn plan cuts i m) (crossedAt crossed i m)
         (λ e.
-        sym (crosses-is (eventIn plan cuts i m) e) ∙ sym (crossing-in-replay plan cuts i e m l there) ∙ it i e m l there ∙
+        sym (crosses-is e (eventIn plan cuts i m)) ∙ sym (crossing-in-replay plan cuts i e m l there) ∙ it i e m l there ∙
         h .marks once i e m (omega arith) (omega arith))
 
     pub explains : Matches plan crossed cuts → Explains plan capture cuts
     unfolding Explains
     explains it i e m l there =
-        crossing-in-replay plan cuts i e m l there ∙ crosses-is (eventIn plan cuts i m) e ∙ ap (λ (c : ℕ). eqb c (e + 1)) (it i l m there) ∙
+        crossing-in-replay plan cuts i e m l there ∙ crosses-is e (eventIn plan cuts i m) ∙ ap (λ (c : ℕ). eqb c (e + 1)) (it i l m there) ∙
         sym (h .marks once i e m (omega arith) (omega arith))
 
   -- an event crosses one link at most
@@ -60,14 +49,15 @@ module _ (plan : Plan) (slots : plan .timeout ≤ mostSlots) (many : length (pla
   unfolding Explains Unexplained
   unexplained two n cuts good few it =
       let c = h .clash two in
-      let v = eventIn plan cuts (c .slot) (c .message) in
-      let link : (e : ℕ) → isCaptured capture (c .slot) e (c .message) ≡ true → v .number ≡ e =
+      let link : (e : ℕ) → isCaptured capture (c .slot) e (c .message) ≡ true → crossingIn plan cuts (c .slot) (c .message) ≡ e + 1 =
       λ e seen.
-      eqb-true (v .number) e
-      (and-eq-true-iff (eqb (v .kind) 2 || eqb (v .kind) 3) (eqb (v .number) e) .0
-      (sym (crossing-in-replay plan cuts (c .slot) e (c .message) (c .early) (c .known)) ∙
-      it (c .slot) e (c .message) (c .early) (c .known) ∙ seen) .1) in
-      c .differ (sym (link (c .link) (c .here)) ∙ link (c .other) (c .there))
+      eqb-true (crossingIn plan cuts (c .slot) (c .message)) (e + 1)
+      (sym (crosses-is e (eventIn plan cuts (c .slot) (c .message))) ∙
+      sym (crossing-in-replay plan cuts (c .slot) e (c .message) (c .early) (c .known)) ∙
+      it (c .slot) e (c .message) (c .early) (c .known) ∙ seen) in
+      let here = link (c .link) (c .here) in
+      let there = link (c .other) (c .there) in
+      c .differ (omega arith)
 
 -- the first list that answers one question answers every question that the same lists answer
 pub first-same : (plan : Plan) (One Other : List ℕ → Type 0) (k : ℕ) (cuts : List ℕ) → ((x : List ℕ) → One x → Other x) →

@@ -1,11 +1,12 @@
 -- One message of a replay: where it stands, and what it does in a slot. A message that does not exist is at its target.
 use Prim.Native.Nat.{ℕ, _+_}
-use mathlib.Core.Bool.{Bool, true, false, _&&_, _||_}
+use mathlib.Core.Bool.{Bool, true, false}
 use mathlib.Core.List.{List, []}
 use lib.ListN.{getD}
 use lib.Dec.{eqb}
 use Rattle.scope.specs.Slot.{Position, onFirst, onSecond, Event, Moved, moved, turn, tries}
 use Rattle.scope.specs.Cycle.{slot, positions}
+use Rattle.scope.specs.Capture.{isCrossing}
 
 -- where message m stands
 abbrev pub positionOf : ℕ → List Position → Position
@@ -22,7 +23,7 @@ hasTurned (onSecond es) = true
 
 -- an event is the crossing of link e, on the first path or on a second one
 abbrev pub crosses : ℕ → Event → Bool
-crosses e v = (eqb (v .kind) 2 || eqb (v .kind) 3) && eqb (v .number) e
+crosses e v = isCrossing (v .kind) (v .number) e
 
 -- message m tries link e in a slot with these positions before it
 abbrev pub triesLink : (ℕ → Bool) → ℕ → ℕ → List Position → Bool

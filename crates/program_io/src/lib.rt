@@ -2,10 +2,11 @@
 // can say which bytes were read or written; that each count lies within its buffer and came from a read that did not fail is proved. It
 // leans on `io`, `os` and `libc`, whose calls of C are assumed. Nothing else here writes, and only `print` writes standard output.
 ghost use Prim.Native.Nat.{_≤_, _<_};
+ghost use mathlib.Core.Path.{_≡_};
 ghost use lib.ListN.{length};
 ghost use Rattle.io.specs.Counts.{Counts};
 ghost use Rattle.program_io.specs.Came.{Came, planFile, Reads, Prints};
-ghost use Rattle.program_io.specs.More.{More};
+ghost use Rattle.program_io.specs.More.{says, More};
 ghost use Rattle.program_io.specs.Pieces.{ReadsPiece};
 use libc::STDERR_FILENO;
 use libc::STDIN_FILENO;
@@ -18,16 +19,23 @@ pub enum Read {
     Failed,
 }
 
-// One read behind the first bytes of a buffer: how many came, 0 at the end.
+// What the answer of a read says of the bytes that it was handed: how many of them came, 0 at the end.
+fn said(got: isize, rest: &[u8]) -> Read
+    ensures { λ r. ⌜ r ≡ says got (length (now (rest .entry))) ⌝ }
+{
+    if got < 0 {
+        return Read::Failed;
+    }
+    Read::Bytes(io::count(got, rest))
+}
+
+// One read behind the first bytes of a buffer.
 fn read_more(fd: i32, buf: &mut [u8], from: usize) -> Read
     requires { ⌜ from ≤ length (now buf) ⌝ }
     ensures { λ r. ⌜ More r from (now (buf .exit)) ⌝ }
 {
     let got = libc::read(fd, &mut buf[from..]);
-    if got < 0 {
-        return Read::Failed;
-    }
-    Read::Bytes(io::count(got, &buf[from..]))
+    said(got, &buf[from..])
 }
 
 // Reads until the buffer is full or nothing more comes.
@@ -98,7 +106,7 @@ pub fn read_piece(name: &[u8], turn: u64, buf: &mut [u8]) -> Read
 {
     let read = read_more(STDIN_FILENO, buf, 0);
     match read {
-        Read::Bytes(n) => Read::Bytes(n),
+        Read::Bytes(came) => Read::Bytes(came),
         Read::Failed => {
             tell(name, b": standard input cannot be read");
             Read::Failed

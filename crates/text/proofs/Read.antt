@@ -5,11 +5,12 @@ use mathlib.Core.Bool.{Bool, true, false, cond, _||_}
 use mathlib.Core.List.{List, [], _∷_, _++_, append-assoc, append-nil}
 use native.Mathlib.Omega.{arith}
 use native.Mathlib.Nat.{pow-suc}
-use lib.ListN.{length, getD, take, drop, length-append}
+use lib.ListN.{length, getD, take, drop, length-append, length-drop}
 use lib.Dec.{ltb}
 use borrow.Author.Tests.{lt-ltb, le-leb, ltb-true, ltb-false}
 use Rattle.scope.specs.Lines.{decimal, isDigit}
-use Rattle.text.specs.Reading.{goesOn, sizeFrom, valueFrom}
+use Rattle.text.specs.Reading.{goesOn, sizeFrom, valueFrom, sizeAt, valueAt, Reads}
+use Rattle.text.specs.declared.Number.{Number}
 use Rattle.text.proofs.Decimal.{decimal-small, decimal-large}
 use Rattle.text.proofs.Going.{goes-digit, goes-more}
 
@@ -179,3 +180,34 @@ number-stops most begun a (b ∷ s) h = by begun (goesOn most begun a b) refl (n
         rw (g, lt-ltb 0 (suc (sizeFrom most true (a * 10 + (b - 48)) s)) (omega arith))
         (rest (let e = size-step most false a b s g in omega arith))
     by false false g rest h = rw (g, g)
+
+-- a number that is read lies within its text and is small
+size-within : (most : ℕ) (begun : Bool) (a : ℕ) (s : List ℕ) → sizeFrom most begun a s ≤ length s
+unfolding sizeFrom
+size-within most begun a [] = omega arith
+size-within most begun a (b ∷ s) = by (goesOn most begun a b) (size-within most true (a * 10 + (b - 48)) s)
+  where
+    by : (t : Bool) → sizeFrom most true (a * 10 + (b - 48)) s ≤ length s →
+        cond t (suc (sizeFrom most true (a * 10 + (b - 48)) s)) 0 ≤ suc (length s)
+    by true h = omega arith
+    by false h = omega arith
+
+value-small : (most : ℕ) (begun : Bool) (a : ℕ) (s : List ℕ) → a ≤ most → valueFrom most begun a s ≤ most
+unfolding valueFrom
+value-small most begun a [] h = h
+value-small most begun a (b ∷ s) h = by (goesOn most begun a b) refl (value-small most true (a * 10 + (b - 48)) s)
+  where
+    by : (t : Bool) → goesOn most begun a b ≡ t → (a * 10 + (b - 48) ≤ most → valueFrom most true (a * 10 + (b - 48)) s ≤ most) →
+        cond t (valueFrom most true (a * 10 + (b - 48)) s) a ≤ most
+    by true g rest = rest (goes-digit most begun a b g .fits)
+    by false g rest = h
+
+-- the number at an index
+abbrev pub numberRead : ℕ → List ℕ → ℕ → Number
+numberRead most text i = record { value = valueAt most text i; next = i + sizeAt most text i }
+
+pub read-here : (most : ℕ) (text : List ℕ) (i : ℕ) → Reads most text i (numberRead most text i)
+read-here most text i =
+    let w = size-within most false 0 (drop i text) in
+    let d = length-drop i text in
+    record { value = refl; next = refl; small = value-small most false 0 (drop i text) (omega arith); within = omega arith }
