@@ -30,8 +30,8 @@ crosses-is e v = by (eqb (v .kind) 2 || eqb (v .kind) 3)
 pub same-crossing : (v w : Event) → crossingOf v ≡ crossingOf w → SameCrossing v w
 same-crossing v w same e = crosses-is e v ∙ ap (λ (n : ℕ). eqb n (e + 1)) same ∙ sym (crosses-is e w)
 
--- a number is known by which it is of all above 0
-same-number : (a b : ℕ) → ((e : ℕ) → eqb a (e + 1) ≡ eqb b (e + 1)) → a ≡ b
+-- a link plus one, or 0, is known by the links that it is
+pub same-number : (a b : ℕ) → ((e : ℕ) → eqb a (e + 1) ≡ eqb b (e + 1)) → a ≡ b
 same-number zero zero h = refl
 same-number (suc a) b h =
     let is : suc a ≡ a + 1 = omega arith in

@@ -7,6 +7,7 @@ use native.Mathlib.Omega.{arith}
 use lib.Dec.{ltb, leb, eqb}
 use borrow.Author.Tests.{lt-ltb, le-ltb, le-leb, lt-leb, eq-eqb, ne-eqb, leb-true, ltb-true}
 use Rattle.scope.specs.Lines.{byteAt, isDigit, numberSize, hasWord, cutWord, isCutLine, slotIndex, spaceIndex, linkIndex, feedIndex}
+use Rattle.scope.proofs.Bools.{and-left, and-right}
 use Rattle.text.specs.Reading.{stands}
 use Rattle.cut_lines.specs.Reads.{End}
 
@@ -188,14 +189,6 @@ pub no-end : (text : List ℕ) (i : ℕ) → isCutLine text i ≡ false → End 
 no-end text i e = record { is = rw e; near = omega arith }
 
 -- both numbers of a line have bytes
-and-left : (a b : Bool) → (a && b) ≡ true → a ≡ true
-and-left true b e = refl
-and-left false b e = e
-
-and-right : (a b : Bool) → (a && b) ≡ true → b ≡ true
-and-right true b e = e
-and-right false b e = let z : _≡_ {A = ℕ} 0 1 = cc in absurd (omega arith)
-
 module _ (text : List ℕ) (i : ℕ) (h : isCutLine text i ≡ true) where
   four : (hasWord text i && slot text i && space text i && link text i) ≡ true
   four = and-left (hasWord text i && slot text i && space text i && link text i) (feed text i) h

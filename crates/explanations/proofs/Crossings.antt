@@ -1,13 +1,13 @@
 -- A list matches the table of crossings of a capture exactly if it explains the capture; and none explains one that has a message on two
 -- links in one slot.
-use Prim.Native.Nat.{ℕ, zero, suc, _+_, _≤_}
+use Prim.Native.Nat.{ℕ, _+_, _≤_}
 use native.Mathlib.Omega.{arith}
-use mathlib.Core.Path.{_≡_, refl, sym, _∙_, ap}
-use mathlib.Core.Bool.{true, false, true≢false}
+use mathlib.Core.Path.{_≡_, sym, _∙_, ap}
+use mathlib.Core.Bool.{true, false}
 use mathlib.Core.List.{List}
 use lib.ListN.{length}
 use lib.Dec.{eqb}
-use borrow.Author.Tests.{eqb-true, eq-eqb, ne-eqb}
+use borrow.Author.Tests.{eqb-true}
 use Rattle.scope.specs.Limits.{mostSlots, mostMessages}
 use Rattle.scope.specs.Plan.{Plan}
 use Rattle.scope.specs.Verdict.{First}
@@ -16,16 +16,7 @@ use Rattle.laws.proofs.Named.{crossing-in-replay}
 use Rattle.capture.specs.declared.Kept.{Kept}
 use Rattle.capture.specs.Kept.{crossedAt, KeepsAll}
 use Rattle.clues.specs.Clues.{eventIn, crossingIn, Matches}
-use Rattle.clues.proofs.Crossings.{crosses-is}
-
--- a link plus one, or 0, is known by the links that it is
-same-crossing : (a b : ℕ) → ((e : ℕ) → eqb a (e + 1) ≡ eqb b (e + 1)) → a ≡ b
-same-crossing zero zero h = refl
-same-crossing zero (suc b) h =
-    absurd (true≢false (sym (eq-eqb (suc b) (b + 1) (omega arith)) ∙ sym (h b) ∙ ne-eqb 0 (b + 1) (λ z. omega arith)))
-same-crossing (suc a) b h =
-    let is : b ≡ a + 1 = eqb-true b (a + 1) (sym (h a) ∙ eq-eqb (suc a) (a + 1) (omega arith)) in
-    omega arith
+use Rattle.clues.proofs.Crossings.{crosses-is, same-number}
 
 module _ (plan : Plan) (slots : plan .timeout ≤ mostSlots) (many : length (plan .messages) ≤ mostMessages) (capture crossed : List ℕ)
     (k : Kept) (h : KeepsAll plan capture crossed k) where
@@ -33,7 +24,7 @@ module _ (plan : Plan) (slots : plan .timeout ≤ mostSlots) (many : length (pla
     pub matches : Explains plan capture cuts → Matches plan crossed cuts
     unfolding Explains
     matches it i l m there =
-        same-crossing (crossingIn plan cuts i m) (crossedAt crossed i m)
+        same-number (crossingIn plan cuts i m) (crossedAt crossed i m)
         (λ e.
         sym (crosses-is e (eventIn plan cuts i m)) ∙ sym (crossing-in-replay plan cuts i e m l there) ∙ it i e m l there ∙
         h .marks once i e m (omega arith) (omega arith))
