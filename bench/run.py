@@ -19,6 +19,7 @@ samples = os.path.join(here, '..', 'samples')
 made = os.path.join(here, '..', 'target', 'bench')
 repetitions = 5
 mid = repetitions // 2
+rounds = 9  # of all captures
 solver = shutil.which('z3')
 unsolved = 'no table of the solver: z3 is not on the PATH (Debian, Ubuntu: apt-get install z3)'
 parts = os.environ.get('NUTHATCHET_BENCH')
@@ -244,31 +245,33 @@ def captures(plan):
 
 
 def explained(goals):
-    """The table of captures: for each sort and each k, over all plans. Returns our seconds for k 3 by plan and sort."""
+    """The table of captures: for each sort and each k, over all plans. Returns our seconds for k 3 by plan and sort. A question takes microseconds, and a
+    shared core is slow for a second now and then: all are asked in turn, again and again, and the middle one of what ours took against C is told."""
     heads = 'capture', 'k', 'plans', 'listed', 'most slots', 'longest, ms', 'plan'
     print('\n%-8s %1s %5s %6s %10s %11s %-10s   ours / C (lowest, median, highest, plan)' % heads, flush=True)
-    rows, each = collections.defaultdict(list), {}
+    rows, each, taken, questions = collections.defaultdict(list), {}, collections.defaultdict(list), []
     for plan in captured:
         for name in captures(plan):
-            given = given_of(plan, name)
             for k in 1, 2, 3:
-                question = 'infer%d' % k
-                pairs, slots = ask(c, plan, 'slots%d' % k, 1, given=given)[0].split()
-                turns = 1 + 150000 // (8 + int(slots))  # so many that each run takes some 30 ms and more, of which a millisecond is its start
-                taken = []
-                for _ in range(repetitions):
-                    said, mine = ask(ours, plan, question, turns, given=given)
-                    other, theirs = ask(c, plan, question, turns, given=given)
-                    if said != other:
-                        sys.exit('%s %s, %s: ours says %s and C says %s' % (plan, question, name, said, other))
-                    taken.append((mine, theirs))
-                mine, theirs = (min(column) for column in zip(*taken))
-                rows[name, k].append((plan, pairs != '-', int(slots), mine / turns, mine / theirs))
-                if k == 3:
-                    each[plan, name] = pairs, mine / turns
-                    goals['k 3, capture, ours / C'].append((mine / theirs, plan + ', ' + name))
-                    goals['k 3, capture, ours, s'].append((mine / turns, plan + ', ' + name))
-        note('%s: captures done' % plan)
+                pairs, slots = ask(c, plan, 'slots%d' % k, 1, given=given_of(plan, name))[0].split()
+                turns = 1 + 80000 // (8 + int(slots))  # so many that a run takes some 10 ms and more, of which less than one is its start
+                questions.append((plan, name, k, pairs, int(slots), turns))
+    for number in range(rounds):
+        for plan, name, k, _, _, turns in questions:
+            question, given = 'infer%d' % k, given_of(plan, name)
+            said, mine = ask(ours, plan, question, turns, given=given)
+            other, theirs = ask(c, plan, question, turns, given=given)
+            if said != other:
+                sys.exit('%s %s, %s: ours says %s and C says %s' % (plan, question, name, said, other))
+            taken[plan, name, k].append((mine / theirs, mine / turns))
+        note('captures: %d of %d' % (number + 1, rounds))
+    for plan, name, k, pairs, slots, _ in questions:
+        ratio, mine = (sorted(column)[rounds // 2] for column in zip(*taken[plan, name, k]))
+        rows[name, k].append((plan, pairs != '-', slots, mine, ratio))
+        if k == 3:
+            each[plan, name] = pairs, mine
+            goals['k 3, capture, ours / C'].append((ratio, plan + ', ' + name))
+            goals['k 3, capture, ours, s'].append((mine, plan + ', ' + name))
     for (name, k), found in sorted(rows.items(), key=lambda row: list(row)[0]):
         slowest = max(found, key=lambda row: row[3])
         ratios = sorted((row[4], row[0]) for row in found)
