@@ -7,7 +7,7 @@ use lib.ListN.{length}
 use Rattle.scope.specs.Outcome.{gives}
 use Rattle.scope.specs.Verdict.{Fails}
 use Rattle.scope.specs.Plan.{Plan}
-use Rattle.scope.specs.Good.{rules}
+use Rattle.scope.specs.Rules.{rules}
 use Rattle.scope.specs.Cuts.{pairs, cutSlot, cutLink}
 use Rattle.scope.proofs.Cuts.{slot-below, link-below}
 use Rattle.losses.specs.Touch.{harm, touches}

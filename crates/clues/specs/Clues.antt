@@ -9,7 +9,7 @@ use lib.Dec.{ltb}
 use Rattle.scope.specs.Limits.{crossedSize}
 use Rattle.scope.specs.Outcome.{gives}
 use Rattle.scope.specs.Plan.{Plan, planOf}
-use Rattle.scope.specs.Good.{rules}
+use Rattle.scope.specs.Rules.{rules}
 use Rattle.scope.specs.Slot.{Event}
 use Rattle.scope.specs.Cuts.{isCut}
 use Rattle.scope.specs.Cycle.{orderOf, tableOf, start}

@@ -14,7 +14,7 @@ use Rattle.scope.specs.Outcome.{Outcome, gives, refused, refuse, andThen, room}
 use Rattle.scope.specs.Fields.{opening, edition, step, width}
 use Rattle.scope.specs.Row.{walkFrom, walkRow}
 use Rattle.scope.specs.Plan.{planOf, at, linksAt, linkCount, firstLink}
-use Rattle.scope.specs.Good.{rules}
+use Rattle.scope.specs.Rules.{rules}
 use Rattle.scope.specs.Cuts.{checkCuts}
 use Rattle.scope.specs.Cycle.{eventRow, arrivals}
 use Rattle.scope.specs.Questions.{judge, replay}

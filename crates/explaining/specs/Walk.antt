@@ -7,7 +7,7 @@ use lib.ListN.{length, getD, take, replicate}
 use lib.Dec.{leb}
 use Rattle.scope.specs.Limits.{mostLinks, mostCuts, crossedSize}
 use Rattle.scope.specs.Outcome.{gives}
-use Rattle.scope.specs.Good.{rules}
+use Rattle.scope.specs.Rules.{rules}
 use Rattle.scope.specs.Plan.{planOf}
 use Rattle.scope.specs.Cuts.{pairs}
 use Rattle.scope.specs.Verdict.{First}

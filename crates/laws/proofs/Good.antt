@@ -11,7 +11,8 @@ use Rattle.scope.specs.Lowest.{lowest}
 use Rattle.scope.proofs.Outcomes.{not-both}
 use Rattle.scope.specs.Outcome.{Outcome, gives, refuse, unlessSome}
 use Rattle.scope.specs.Plan.{Plan, Place, linkOf, pathOf}
-use Rattle.scope.specs.Good.{rules, badEnds, repeats, badFirstPath, badSlots, badTable, badSecondPath, slotsRise}
+use Rattle.scope.specs.Good.{badEnds, repeats, badFirstPath, badSlots, badTable, badSecondPath, slotsRise}
+use Rattle.scope.specs.Rules.{rules}
 use Rattle.scope.specs.Good.{areLinks, joins, different, visited, isPathFrom, linksOf, headOf}
 use Rattle.scope.proofs.Bools.{and-left}
 use Rattle.scope.proofs.Lowest.{seek-low}

@@ -5,7 +5,7 @@ use mathlib.Core.Path.{_≡_, sym, _∙_, ap, subst}
 use mathlib.Core.Bool.{Bool, false}
 use Rattle.scope.specs.Outcome.{gives}
 use Rattle.scope.specs.Plan.{Plan}
-use Rattle.scope.specs.Good.{rules}
+use Rattle.scope.specs.Rules.{rules}
 use Rattle.scope.specs.Cuts.{isCut}
 use Rattle.scope.specs.Cycle.{positions, start, tableOf, orderOf}
 use Rattle.laws.specs.Message.{positionOf, triesLink}

@@ -10,7 +10,7 @@ use lib.Dec.{ltb}
 use borrow.Author.Tests.{ltb-true, ltb-false, eq-eqb}
 use Rattle.scope.specs.Outcome.{gives}
 use Rattle.scope.specs.Plan.{Plan}
-use Rattle.scope.specs.Good.{rules}
+use Rattle.scope.specs.Rules.{rules}
 use Rattle.scope.specs.Slot.{Position, onFirst, onSecond, Moved, atTarget}
 use Rattle.scope.specs.Cuts.{isCut}
 use Rattle.scope.specs.Cycle.{foremost, slot, positions, start, tableOf, orderOf, eventRow}

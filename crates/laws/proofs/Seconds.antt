@@ -10,7 +10,8 @@ use lib.Dec.{ltb, eqb}
 use borrow.Author.Tests.{ltb-true, eqb-true, eqb-false, eq-eqb, not-true, not-false}
 use Rattle.scope.specs.Outcome.{gives}
 use Rattle.scope.specs.Plan.{Plan, Place, linkOf, pathOf}
-use Rattle.scope.specs.Good.{rules, has, different, visited, areLinks, joins, isPathFrom, linksOf, endOf, headOf, goodPlace, goodSeconds}
+use Rattle.scope.specs.Good.{has, different, visited, areLinks, joins, isPathFrom, linksOf, endOf, headOf, goodPlace, goodSeconds}
+use Rattle.scope.specs.Rules.{rules}
 use Rattle.laws.specs.Links.{NoLinkTwice}
 use Rattle.laws.proofs.Good.{keeps-rules, there-or-not, good-links}
 use Rattle.laws.proofs.Kept.{different-rest}

@@ -6,11 +6,12 @@ use mathlib.Core.Bool.{true≢false}
 use mathlib.Core.List.{[], _∷_}
 use borrow.Author.Tests.{eqb-true}
 use Rattle.scope.specs.Lowest.{seek}
-use Rattle.scope.specs.Plan.{numbersAt, linksAt, placesAt, afterPlaces, messagesAt, planOf}
-use Rattle.scope.specs.Good.{has, different, areLinks, joins, visited, slotsRise, holds, taken, goodSeconds, rules}
+use Rattle.scope.specs.Plan.{numbersAt, linksAt, placesAt, afterPlaces, messagesAt, planOf, placeOf}
+use Rattle.scope.specs.Good.{has, different, areLinks, joins, visited, slotsRise, holds, taken, goodSeconds}
+use Rattle.scope.specs.Rules.{rules}
 use Rattle.scope.specs.Cuts.{pairs, cutLink, isCut}
 use Rattle.scope.specs.Cycle.{foremost, tableOf, moves, slot, numbers, positions, events, eventRow, orderOf}
-use Rattle.scope.specs.Spare.{entriesOf, entries, hasSecondThrough, lowerThrough, delay, placeOf}
+use Rattle.scope.specs.Spare.{entriesOf, entries, hasSecondThrough, lowerThrough, delay}
 use Rattle.laws.specs.Diverted.{WholeUntilArrival}
 use Rattle.laws.specs.Sharp.{planB, cutAtOnce, Sharp}
 use Rattle.laws.proofs.Cuts.{not-cut}

@@ -10,11 +10,11 @@ use lib.Seq.{drop-cons}
 use lib.IntN.{pos, negsuc, subℕ}
 use lib.Dec.{ltb}
 use borrow.Author.Tests.{ltb-false}
-use Rattle.scope.specs.Plan.{Plan, Place, pathOf}
+use Rattle.scope.specs.Plan.{Plan, Place, pathOf, placeOf}
 use Rattle.scope.specs.Slot.{Position, onFirst, onSecond, Moved, atTarget, turned, turn}
 use Rattle.scope.specs.Cuts.{isCut}
 use Rattle.scope.specs.Cycle.{positions, start, tableOf, orderOf}
-use Rattle.scope.specs.Spare.{delay, placeOf, noSecond}
+use Rattle.scope.specs.Spare.{delay, noSecond}
 use Rattle.laws.specs.Message.{hasTurned}
 use Rattle.laws.specs.Diverted.{standing, OnSecondPath, Leaves, ArrivesFromPlace, LeavesInTime, LeavesSomewhere, HasLeft}
 use Rattle.laws.specs.Diverted.{SlackMeansArrival, ArrivesUnderCuts, SlackUnderCuts}

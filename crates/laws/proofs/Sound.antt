@@ -9,7 +9,8 @@ use mathlib.Core.List.{List, _∷_}
 use lib.ListN.{length}
 use Rattle.scope.specs.Outcome.{gives}
 use Rattle.scope.specs.Plan.{Plan, Place}
-use Rattle.scope.specs.Good.{rules, areLinks}
+use Rattle.scope.specs.Good.{areLinks}
+use Rattle.scope.specs.Rules.{rules}
 use Rattle.scope.specs.Slot.{Position, onFirst, onSecond, Moved, turn}
 use Rattle.scope.specs.Cycle.{positions, start, tableOf}
 use Rattle.laws.specs.Message.{positionOf}

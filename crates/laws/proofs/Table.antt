@@ -10,7 +10,8 @@ use borrow.Author.Tests.{ltb-true, ltb-false, lt-ltb, eqb-true, eq-eqb}
 use Rattle.scope.specs.Lowest.{lowest, some}
 use Rattle.scope.specs.Outcome.{gives}
 use Rattle.scope.specs.Plan.{Plan, Place, pathOf}
-use Rattle.scope.specs.Good.{rules, holds, taken}
+use Rattle.scope.specs.Good.{holds, taken}
+use Rattle.scope.specs.Rules.{rules}
 use Rattle.scope.specs.Cycle.{entryOf, tableOf}
 use Rattle.scope.proofs.Lowest.{seek-low, seek-is}
 use Rattle.laws.specs.Links.{TableGives}

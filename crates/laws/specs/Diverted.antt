@@ -7,12 +7,13 @@ use mathlib.Core.List.{List, [], _∷_}
 use lib.ListN.{length, drop}
 use lib.IntN.{pos}
 use Rattle.scope.specs.Outcome.{gives}
-use Rattle.scope.specs.Plan.{Plan, Place, pathOf}
-use Rattle.scope.specs.Good.{has, slotsRise, rules}
+use Rattle.scope.specs.Plan.{Plan, Place, pathOf, placeOf}
+use Rattle.scope.specs.Good.{has, slotsRise}
+use Rattle.scope.specs.Rules.{rules}
 use Rattle.scope.specs.Slot.{Position, onFirst, onSecond, atTarget, turn}
 use Rattle.scope.specs.Cuts.{isCut}
 use Rattle.scope.specs.Cycle.{start, tableOf, orderOf}
-use Rattle.scope.specs.Spare.{delay, slackOf, placeOf, noSecond}
+use Rattle.scope.specs.Spare.{delay, slackOf, noSecond}
 use Rattle.laws.specs.Message.{positionOf, hasTurned, standsAt}
 use Rattle.laws.specs.Links.{NoLinkTwice}
 

@@ -7,7 +7,8 @@ use mathlib.Core.List.{List, [], _∷_}
 use lib.ListN.{length}
 use Rattle.scope.specs.Outcome.{gives}
 use Rattle.scope.specs.Plan.{Plan, Place}
-use Rattle.scope.specs.Good.{rules, different}
+use Rattle.scope.specs.Good.{different}
+use Rattle.scope.specs.Rules.{rules}
 use Rattle.scope.specs.Slot.{Position, onFirst, onSecond, Moved, turn}
 use Rattle.scope.specs.Cuts.{isCut}
 use Rattle.scope.specs.Cycle.{positions, start, tableOf, orderOf}

@@ -10,7 +10,7 @@ use mathlib.Core.List.{List}
 use lib.ListN.{length}
 use Rattle.scope.specs.Outcome.{gives}
 use Rattle.scope.specs.Plan.{Plan}
-use Rattle.scope.specs.Good.{rules}
+use Rattle.scope.specs.Rules.{rules}
 use Rattle.scope.specs.Slot.{Event}
 use Rattle.scope.specs.Cuts.{isCut}
 use Rattle.scope.specs.Cycle.{start, tableOf, orderOf}

@@ -6,12 +6,12 @@ use mathlib.Core.Bool.{true, false}
 use mathlib.Core.List.{List, [], _∷_}
 use lib.ListN.{getD}
 use Rattle.scope.specs.Outcome.{gives}
-use Rattle.scope.specs.Plan.{Plan, planOf}
-use Rattle.scope.specs.Good.{rules}
+use Rattle.scope.specs.Plan.{Plan, planOf, placeOf}
+use Rattle.scope.specs.Rules.{rules}
 use Rattle.scope.specs.Slot.{atTarget}
 use Rattle.scope.specs.Cuts.{isCut}
 use Rattle.scope.specs.Cycle.{orderOf, eventRow}
-use Rattle.scope.specs.Spare.{delay, placeOf}
+use Rattle.scope.specs.Spare.{delay}
 use Rattle.scope.specs.Cases.{rowB}
 use Rattle.laws.specs.Diverted.{standing, WholeUntilArrival, Leaves}
 

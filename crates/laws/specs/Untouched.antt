@@ -7,7 +7,8 @@ use mathlib.Core.List.{List, [], _∷_}
 use lib.ListN.{length, getD}
 use Rattle.scope.specs.Outcome.{gives}
 use Rattle.scope.specs.Plan.{Plan, Place, pathOf}
-use Rattle.scope.specs.Good.{slotsRise, rules}
+use Rattle.scope.specs.Good.{slotsRise}
+use Rattle.scope.specs.Rules.{rules}
 use Rattle.scope.specs.Slot.{Position, onFirst, atTarget}
 use Rattle.scope.specs.Cuts.{pairs, cutSlot, cutLink, cutsLink}
 use Rattle.scope.specs.Cycle.{events, eventRow, arrivals, positions, arrived, start}

@@ -8,7 +8,8 @@ use lib.ListN.{length, getD}
 use lib.Dec.{ltb, eqb}
 use Rattle.scope.specs.Outcome.{gives}
 use Rattle.scope.specs.Plan.{Plan, Place, pathOf}
-use Rattle.scope.specs.Good.{rules, areLinks, linksOf, slotsRise, holds}
+use Rattle.scope.specs.Good.{areLinks, linksOf, slotsRise, holds}
+use Rattle.scope.specs.Rules.{rules}
 use Rattle.scope.specs.Cycle.{tableOf}
 use Rattle.laws.specs.Links.{TableGives}
 use Rattle.laws.proofs.Cases.{cond-cases}

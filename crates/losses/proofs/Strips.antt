@@ -11,12 +11,13 @@ use lib.IntN.{pos, subℕ}
 use lib.Dec.{leb, eqb}
 use borrow.Author.Tests.{ltb-false, leb-true, le-ltb, eqb-true}
 use Rattle.scope.specs.Outcome.{gives}
-use Rattle.scope.specs.Plan.{Plan, Place, pathOf}
-use Rattle.scope.specs.Good.{rules, has, slotsRise}
+use Rattle.scope.specs.Plan.{Plan, Place, pathOf, placeOf}
+use Rattle.scope.specs.Good.{has, slotsRise}
+use Rattle.scope.specs.Rules.{rules}
 use Rattle.scope.specs.Slot.{Position, onFirst, onSecond, atTarget}
 use Rattle.scope.specs.Cuts.{pairs, cutSlot, cutLink, cutsLink, isCut}
 use Rattle.scope.specs.Cycle.{orderOf, tableOf, start}
-use Rattle.scope.specs.Spare.{delay, placeOf, noSecond}
+use Rattle.scope.specs.Spare.{delay, noSecond}
 use Rattle.scope.proofs.Bools.{or-left, or-right, and-right}
 use Rattle.laws.specs.Message.{hasTurned}
 use Rattle.laws.specs.Untouched.{WholeInTime}

@@ -10,7 +10,8 @@ use lib.Dec.{ltb, eqb}
 use borrow.Author.Tests.{ltb-true, ltb-false, eq-eqb}
 use Rattle.scope.specs.Outcome.{gives}
 use Rattle.scope.specs.Plan.{Plan, Place, pathOf}
-use Rattle.scope.specs.Good.{rules, areLinks, linksOf, slotsRise}
+use Rattle.scope.specs.Good.{areLinks, linksOf, slotsRise}
+use Rattle.scope.specs.Rules.{rules}
 use Rattle.scope.specs.Slot.{atTarget}
 use Rattle.scope.specs.Cuts.{pairs, cutSlot, cutLink, cutsLink, isCut}
 use Rattle.scope.specs.Cycle.{orderOf, tableOf, start}

@@ -8,7 +8,7 @@ use lib.ListN.{length}
 use lib.Dec.{ltb, eqb}
 use Rattle.scope.specs.Outcome.{gives}
 use Rattle.scope.specs.Plan.{Plan}
-use Rattle.scope.specs.Good.{rules}
+use Rattle.scope.specs.Rules.{rules}
 use Rattle.scope.specs.Slot.{Position, atTarget}
 use Rattle.scope.specs.Cuts.{pairs, isCut}
 use Rattle.scope.specs.Cycle.{orderOf, tableOf, start, positions, arrivals}

@@ -8,7 +8,7 @@ use lib.ListN.{length}
 use lib.Dec.{leb}
 use Rattle.scope.specs.Outcome.{gives}
 use Rattle.scope.specs.Plan.{Plan, Place, pathOf}
-use Rattle.scope.specs.Good.{rules}
+use Rattle.scope.specs.Rules.{rules}
 use Rattle.scope.specs.Slot.{atTarget}
 use Rattle.scope.specs.Cuts.{cutsLink}
 use Rattle.scope.specs.Cycle.{orderOf, arrivals}

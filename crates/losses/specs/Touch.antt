@@ -7,7 +7,7 @@ use lib.ListN.{length}
 use lib.Dec.{ltb}
 use Rattle.scope.specs.Outcome.{gives}
 use Rattle.scope.specs.Plan.{Plan}
-use Rattle.scope.specs.Good.{rules}
+use Rattle.scope.specs.Rules.{rules}
 use Rattle.scope.specs.Cuts.{cutSlot, cutLink, cutsLink}
 use Rattle.scope.specs.Cycle.{tableOf, arrivals}
 use Rattle.sets.specs.Sums.{sumOf, oneIf}

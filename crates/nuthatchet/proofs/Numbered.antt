@@ -13,12 +13,12 @@ use Rattle.scope.specs.Outcome.{Outcome, gives, refused, refuse, andThen, room,
 use Rattle.scope.specs.Fields.{width, step, opening, edition, editionWidth}
 use Rattle.scope.specs.Bits.{bits, fieldAt}
 use Rattle.scope.specs.File.{walkBits, zeros, endsAt, walkFile, rowOf, fileOf}
-use Rattle.scope.specs.Plan.{Plan, planOf}
-use Rattle.scope.specs.Good.{rules}
+use Rattle.scope.specs.Plan.{Plan, planOf, placeOf}
+use Rattle.scope.specs.Rules.{rules}
 use Rattle.scope.specs.Cuts.{pairs, badPair, checkCuts}
 use Rattle.scope.specs.Cycle.{eventRow, arrivals}
 use Rattle.scope.specs.Capture.{triples, badTriple, checkCapture}
-use Rattle.scope.specs.Spare.{placeOf, noSecond}
+use Rattle.scope.specs.Spare.{noSecond}
 use Rattle.scope.specs.Questions.{judge, readFile, writeFile, replay, mayJudge, mayExplain, maySpare}
 use Rattle.scope.specs.Limits.{longestRow, longestEvents}
 use Rattle.scope.specs.Lines.{cutsOf}

@@ -13,7 +13,8 @@ use Rattle.scope.specs.Outcome.{Outcome, gives, refused, refuse, andThen, unles
 use Rattle.scope.specs.Fields.{width, step, opening, edition}
 use Rattle.scope.specs.Row.{walkFrom, walkRow}
 use Rattle.scope.specs.Plan.{Plan, planOf}
-use Rattle.scope.specs.Good.{badEnds, repeats, badFirstPath, badSlots, badTable, badSecondPath, rules}
+use Rattle.scope.specs.Good.{badEnds, repeats, badFirstPath, badSlots, badTable, badSecondPath}
+use Rattle.scope.specs.Rules.{rules}
 use Rattle.scope.specs.Questions.{judge}
 
 -- an outcome that is no refusal, or a refusal with a number

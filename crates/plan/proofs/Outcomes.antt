@@ -12,7 +12,8 @@ use Rattle.scope.specs.Lowest.{lowest}
 use Rattle.scope.proofs.Outcomes.{not-both, same-answer}
 use Rattle.scope.specs.Outcome.{Outcome, outcomeOf, gives, refused, refuse, andThen, unlessSome, room}
 use Rattle.scope.specs.Plan.{Plan}
-use Rattle.scope.specs.Good.{badEnds, repeats, badFirstPath, badSlots, badTable, badSecondPath, rules}
+use Rattle.scope.specs.Good.{badEnds, repeats, badFirstPath, badSlots, badTable, badSecondPath}
+use Rattle.scope.specs.Rules.{rules}
 use Rattle.scope.specs.Questions.{after}
 use Rattle.plan.specs.Answers.{Answers}
 

@@ -16,7 +16,7 @@ use Rattle.scope.proofs.Outcomes.{not-both}
 use Rattle.scope.specs.Outcome.{Outcome, gives, refused, refuse, andThen, room}
 use Rattle.scope.specs.File.{walkFile, rowOf, fileOf}
 use Rattle.scope.specs.Plan.{planOf}
-use Rattle.scope.specs.Good.{rules}
+use Rattle.scope.specs.Rules.{rules}
 use Rattle.scope.specs.Questions.{after, judge, readFile, writeFile}
 use Rattle.forms.proofs.Theorems.{file-row}
 use Rattle.plan.specs.Answers.{GoodRow, Reads, Writes}

@@ -9,7 +9,7 @@ use Rattle.scope.specs.declared.Answer.{Answer}
 use Rattle.scope.specs.Outcome.{outcomeOf, gives, andThen, room}
 use Rattle.scope.specs.File.{walkFile, rowOf, fileOf}
 use Rattle.scope.specs.Plan.{planOf}
-use Rattle.scope.specs.Good.{rules}
+use Rattle.scope.specs.Rules.{rules}
 use Rattle.scope.specs.Questions.{judge, readFile, writeFile}
 use Rattle.bits.proofs.Laws.{AreBytes}
 use Rattle.scope.specs.Limits.{longestRow, longestFile}

@@ -12,7 +12,7 @@ use Rattle.scope.specs.Outcome.{Outcome, outcomeOf, gives, refused, refuse, and
 use Rattle.scope.specs.File.{walkFile, rowOf, fileOf}
 use Rattle.scope.specs.Row.{walkRow}
 use Rattle.scope.specs.Plan.{planOf}
-use Rattle.scope.specs.Good.{rules}
+use Rattle.scope.specs.Rules.{rules}
 use Rattle.scope.specs.SecondPath.{shown}
 use Rattle.scope.specs.Questions.{judge, readFile, writeFile, secondPath}
 use Rattle.rows.specs.View.{PartAt, secondPart, secondIndex}

@@ -10,7 +10,7 @@ use Rattle.scope.specs.Outcome.{Outcome, outcomeOf, number, gives, andThen, roo
 use Rattle.scope.specs.File.{rowOf, fileOf}
 use Rattle.scope.specs.Row.{walkRow}
 use Rattle.scope.specs.Plan.{planOf}
-use Rattle.scope.specs.Good.{rules}
+use Rattle.scope.specs.Rules.{rules}
 use Rattle.scope.specs.Questions.{after, judge, readFile, writeFile}
 use Rattle.rows.specs.View.{secondIndex}
 

@@ -7,9 +7,8 @@ use native.Mathlib.Omega.{arith}
 use borrow.Author.Tests.{lt-ltb, le-ltb, ltb-true, ltb-false}
 use lib.ListN.{length, getD, take, drop, List·getD-eq-default}
 use lib.Dec.{ltb}
-use Rattle.scope.specs.Plan.{Place, numbersAt, flagged, secondStart, secondCount, secondAt, placeAt, placeCount, messageAt, messageCount}
+use Rattle.scope.specs.Plan.{Place, numbersAt, flagged, secondStart, secondCount, secondAt, placeAt, placeCount, messageAt, messageCount, placeOf}
 use Rattle.scope.specs.Plan.{planOf, pathOf}
-use Rattle.scope.specs.Spare.{placeOf}
 use Rattle.scope.specs.SecondPath.{messageIndex, placeIndex, hasSecond}
 use Rattle.rows.specs.View.{IsPlace, IsSpan, secondPart, secondIndex, secondEnd}
 use Rattle.rows.specs.declared.RowPlace.{RowPlace}

@@ -12,7 +12,8 @@ use Rattle.scope.specs.Lowest.{lowest}
 use Rattle.scope.specs.Outcome.{gives, refuse}
 use Rattle.scope.specs.Limits.{mostMessages}
 use Rattle.scope.specs.Plan.{linkCount, Plan, messageAt, afterMessage, firstMessage, messageCount, planOf, pathOf}
-use Rattle.scope.specs.Good.{badEnds, repeats, badFirstPath, badSlots, badTable, badSecondPath, rules}
+use Rattle.scope.specs.Good.{badEnds, repeats, badFirstPath, badSlots, badTable, badSecondPath}
+use Rattle.scope.specs.Rules.{rules}
 use Rattle.scope.specs.SecondPath.{messageIndex}
 use Rattle.rows.specs.View.{Is}
 use Rattle.rows.specs.Lies.{MessageLies}

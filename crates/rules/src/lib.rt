@@ -13,7 +13,7 @@ ghost use Rattle.scope.specs.Lowest.{lowest};
 ghost use Rattle.scope.specs.Outcome.{gives, outcomeOf};
 ghost use Rattle.scope.specs.Row.{walkRow};
 ghost use Rattle.scope.specs.Plan.{planOf, messageCount};
-ghost use Rattle.scope.specs.Good.{rules};
+ghost use Rattle.scope.specs.Rules.{rules};
 ghost use Rattle.rules.specs.Rules.{Starts, Judging, breaks, countFor};
 
 // Where each message stands, 0 for those that the row does not have.

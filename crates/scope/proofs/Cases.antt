@@ -7,7 +7,8 @@ use Rattle.scope.specs.Bits.{bitsOf, bits, numberFrom, bytesOf}
 use Rattle.scope.specs.File.{walkBits, fieldsOf, zeros, endsAt, walkFile, rowOf, packed, fileOf}
 use Rattle.scope.specs.Row.{walkFrom, walkRow}
 use Rattle.scope.specs.Plan.{numbersAt, linksAt, placesAt, afterPlaces, messagesAt, afterMessages, planOf}
-use Rattle.scope.specs.Good.{has, different, areLinks, joins, visited, slotsRise, holds, taken, goodSeconds, rules}
+use Rattle.scope.specs.Good.{has, different, areLinks, joins, visited, slotsRise, holds, taken, goodSeconds}
+use Rattle.scope.specs.Rules.{rules}
 use Rattle.scope.specs.Cuts.{checkCuts, isCut}
 use Rattle.scope.specs.Cycle.{foremost, tableOf, moves, slot, numbers, positions, events, arrived, arrivals, eventRow}
 use Rattle.scope.specs.Verdict.{FirstFailing, earlier}

@@ -1,11 +1,10 @@
--- "A plan is good if": the rules of a good plan, and refusals 5 to 10, number before number, then the lowest link or message.
+-- "A plan is good if": the rules of a good plan. specs/Rules has their refusals in their order.
 use Prim.Native.Nat.{ℕ, _+_}
 use mathlib.Core.Bool.{Bool, true, false, not, _&&_, _||_}
 use mathlib.Core.List.{List, [], _∷_, map}
 use lib.ListN.{length}
 use lib.Dec.{ltb, eqb}
 use Rattle.scope.specs.Lowest.{some}
-use Rattle.scope.specs.Outcome.{Outcome, gives, unlessSome}
 use Rattle.scope.specs.Plan.{Plan, Link, Place, linkOf, pathOf}
 
 -- a number stands in a list
@@ -67,7 +66,7 @@ lastOf x (y ∷ ys) = lastOf y ys
 abbrev pub endOf : Plan → List ℕ → ℕ
 endOf plan es = linkOf plan (lastOf 0 es) .to
 
--- refusal 7: "a first path breaks a rule other than that of slots"
+-- "a first path breaks a rule other than that of slots"
 abbrev pub badFirstPath : Plan → ℕ → Bool
 badFirstPath plan m =
     let es = linksOf (pathOf plan m) in
@@ -113,19 +112,18 @@ unfoldable pub goodSeconds : Plan → ℕ → List Place → Bool
 goodSeconds plan end [] = true
 goodSeconds plan end (p ∷ ps) = goodPlace plan end p (p .second) && goodSeconds plan end ps
 
--- refusal 10: "a second path breaks a rule"
+-- "a second path breaks a rule"
 abbrev pub badSecondPath : Plan → ℕ → Bool
 badSecondPath plan m = not (goodSeconds plan (endOf plan (linksOf (pathOf plan m))) (pathOf plan m))
 
--- refusals 5 to 10, or none
-unfoldable pub rules : Plan → Outcome
-rules plan =
+-- "A plan is good if": none of these rules is broken
+unfoldable pub isGood : Plan → Bool
+isGood plan =
     let e = length (plan .links) in
     let m = length (plan .messages) in
-    unlessSome 5 (badEnds plan) e
-    (unlessSome 6 (repeats plan) e
-    (unlessSome 7 (badFirstPath plan) m
-    (unlessSome 8 (badSlots plan) m
-    (unlessSome 9 (badTable plan) m
-    (unlessSome 10 (badSecondPath plan) m
-    (gives 0))))))
+    not (some (badEnds plan) e) &&
+    not (some (repeats plan) e) &&
+    not (some (badFirstPath plan) m) &&
+    not (some (badSlots plan) m) &&
+    not (some (badTable plan) m) &&
+    not (some (badSecondPath plan) m)

@@ -8,6 +8,8 @@ pub mod File
 pub mod Row
 pub mod Plan
 pub mod Good
+pub mod PathRules
+pub mod Rules
 pub mod Cuts
 pub mod Slot
 pub mod Cycle

@@ -8,7 +8,7 @@ use lib.IntN.{ℤ, pos, negsuc}
 use lib.Dec.{ltb, leb, eqb}
 use Rattle.scope.specs.Limits.{longestRow, longestEvents}
 use Rattle.scope.specs.declared.Refusal.{Refusal}
-use Rattle.scope.specs.Outcome.{Outcome, gives, refused}
+use Rattle.scope.specs.Outcome.{Outcome, gives, refused, namesLink}
 use Rattle.scope.specs.File.{rowOf}
 use Rattle.scope.specs.Plan.{Plan, Place, planOf}
 use Rattle.scope.specs.Questions.{readFile, replay, mayExplain}
@@ -164,11 +164,18 @@ captureOf text = captureFrom (length text) text 0
 
 -- What the programs print.
 
--- `refused N place P`
-abbrev pub refusedLine : Refusal → List ℕ
-refusedLine r =
+-- "the printed refusal ends with both": the place and the step, of a refusal that has them
+abbrev pub pathText : Refusal → List ℕ
+pathText r = cond (namesLink (r .no)) (space ++ (decimal (r .at) ++ (space ++ decimal (r .step)))) []
+
+-- `refused N place P`, and of a rule of paths `refused N place MESSAGE PLACE STEP`, without the end of the line
+abbrev pub refusedText : Refusal → List ℕ
+refusedText r =
     (114 ∷ 101 ∷ 102 ∷ 117 ∷ 115 ∷ 101 ∷ 100 ∷ 32 ∷ []) ++
-    (decimal (r .no) ++ ((32 ∷ 112 ∷ 108 ∷ 97 ∷ 99 ∷ 101 ∷ 32 ∷ []) ++ (decimal (r .place) ++ lineFeed)))
+    (decimal (r .no) ++ ((32 ∷ 112 ∷ 108 ∷ 97 ∷ 99 ∷ 101 ∷ 32 ∷ []) ++ (decimal (r .place) ++ pathText r)))
+
+abbrev pub refusedLine : Refusal → List ℕ
+refusedLine r = refusedText r ++ lineFeed
 
 -- `slot message kind number`
 abbrev pub header : List ℕ

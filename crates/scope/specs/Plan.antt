@@ -125,3 +125,7 @@ linkOf plan e = getD (plan .links) e (record { from = 0; to = 0 })
 
 abbrev pub pathOf : Plan → ℕ → List Place
 pathOf plan m = getD (plan .messages) m []
+
+-- the place of a message; without a second path where there is no such message or place
+abbrev pub placeOf : Plan → ℕ → ℕ → Place
+placeOf plan m p = getD (pathOf plan m) p (record { link = 0; slot = 0; second = [] })

@@ -8,12 +8,12 @@ use lib.Dec.{ltb}
 use Rattle.scope.specs.Outcome.{Outcome, gives, refused, refuse, andThen, room}
 use Rattle.scope.specs.File.{walkFile, rowOf, fileOf}
 use Rattle.scope.specs.Row.{walkRow}
-use Rattle.scope.specs.Plan.{planOf}
-use Rattle.scope.specs.Good.{rules}
+use Rattle.scope.specs.Plan.{planOf, placeOf}
+use Rattle.scope.specs.Rules.{rules}
 use Rattle.scope.specs.Cuts.{checkCuts}
 use Rattle.scope.specs.Cycle.{arrivals, eventRow, orderOf}
 use Rattle.scope.specs.Capture.{checkCapture}
-use Rattle.scope.specs.Spare.{slackOf, placeOf, noSecond}
+use Rattle.scope.specs.Spare.{slackOf, noSecond}
 use Rattle.scope.specs.SecondPath.{shown}
 
 -- a lent buffer after the call: "A success changes only the part it writes", and a refusal changes nothing

@@ -2,10 +2,9 @@
 use Prim.Native.Nat.{ℕ, _+_}
 use mathlib.Core.Bool.{Bool, true, false, cond, _&&_, _||_}
 use mathlib.Core.List.{List, [], _∷_}
-use lib.ListN.{getD}
 use lib.IntN.{ℤ, subℕ}
 use lib.Dec.{ltb, eqb}
-use Rattle.scope.specs.Plan.{Plan, Place, pathOf}
+use Rattle.scope.specs.Plan.{Plan, Place}
 use Rattle.scope.specs.Good.{has}
 
 -- how many entries a first path has on link e
@@ -37,10 +36,6 @@ delay rank paths m (e ∷ es) = 1 + entries e paths + lowerThrough rank m e 0 pa
 -- "The slack is t less the slot of that place less D"
 abbrev pub slackOf : (ℕ → ℕ) → Plan → ℕ → Place → ℤ
 slackOf rank plan m p = subℕ (plan .timeout) (p .slot + delay rank (plan .messages) m (p .second))
-
--- the place of a message; without a second path where there is no such message or place
-abbrev pub placeOf : Plan → ℕ → ℕ → Place
-placeOf plan m p = getD (pathOf plan m) p (record { link = 0; slot = 0; second = [] })
 
 -- refusal 11: "for slack, no such message, place or second path"
 abbrev pub noSecond : List ℕ → Bool

@@ -2,14 +2,17 @@
 // one place that makes a refusal. The rules themselves are in specs/, one file for each section of the document; docs/TRACE.md leads
 // from each sentence to its name.
 ghost use mathlib.Core.Path.{_≡_};
-ghost use Rattle.scope.specs.Outcome.{outcomeOf, refusalAt, refuse};
+ghost use Rattle.scope.specs.Outcome.{outcomeOf, refusalAt, refusalOn, refuse, refuseOn};
 
 pub mod limits;
 
-// A refusal: its number, and its place. One struct in every answer.
+// A refusal: its number, and its place; of a rule of paths the place is the message, and with it come the place on its first path and
+// the step, zero in every other refusal. One struct in every answer.
 pub struct Refusal {
     pub no: usize,
     pub place: usize,
+    pub at: usize,
+    pub step: usize,
 }
 
 // An answer that is one number: a count of numbers or bytes, or the number of arrivals.
@@ -18,11 +21,18 @@ pub enum Answer {
     Refused(Refusal),
 }
 
-// The refusal with a number and a place. Every refusal is made here.
+// The refusal of a rule of paths: message, place and step. Every refusal is made here.
+pub fn refusal_on(no: usize, message: usize, at: usize, step: usize) -> Refusal
+    ensures { λ r. ⌜ r ≡ refusalOn no message at step ⌝ }
+{
+    Refusal { no, place: message, at, step }
+}
+
+// The refusal with a number and a place.
 pub fn refusal_at(no: usize, place: usize) -> Refusal
     ensures { λ r. ⌜ r ≡ refusalAt no place ⌝ }
 {
-    Refusal { no, place }
+    refusal_on(no, place, 0, 0)
 }
 
 // The answer that refuses with a number and a place.
@@ -30,6 +40,13 @@ pub fn refuse(no: usize, place: usize) -> Answer
     ensures { λ r. ⌜ outcomeOf r ≡ refuse no place ⌝ }
 {
     Answer::Refused(refusal_at(no, place))
+}
+
+// The answer that refuses with a number, a message, a place and a step.
+pub fn refuse_on(no: usize, message: usize, at: usize, step: usize) -> Answer
+    ensures { λ r. ⌜ outcomeOf r ≡ refuseOn no message at step ⌝ }
+{
+    Answer::Refused(refusal_on(no, message, at, step))
 }
 
 // The next field of a plan after its edition, with how many of each kind follow. The counts are those of the file, "less one":

@@ -11,11 +11,11 @@ use lib.Dec.{ltb, le→leb}
 use borrow.Author.Tests.{ltb-true, ltb-false}
 use Rattle.scope.proofs.Outcomes.{not-both}
 use Rattle.scope.specs.Outcome.{Outcome, gives, refuse}
-use Rattle.scope.specs.Plan.{Place, secondStart, secondCount, placeCount, planOf, pathOf}
+use Rattle.scope.specs.Plan.{Place, secondStart, secondCount, placeCount, planOf, pathOf, placeOf}
 use Rattle.scope.specs.SecondPath.{messageIndex, placeIndex}
 use Rattle.scope.specs.Good.{slotsRise}
 use Rattle.scope.specs.Cycle.{byNumber, orderOf}
-use Rattle.scope.specs.Spare.{hasSecondThrough, entries, lowerThrough, delay, placeOf, noSecond}
+use Rattle.scope.specs.Spare.{hasSecondThrough, entries, lowerThrough, delay, noSecond}
 use Rattle.scope.specs.Questions.{judge, maySpare, slack}
 use Rattle.laws.proofs.Good.{good-rises}
 use Rattle.laws.proofs.Rising.{rises}

@@ -9,7 +9,8 @@ use lib.Dec.{eqb, ltb}
 use borrow.Author.Tests.{ltb-true, ltb-false, eqb-true, eqb-false, lt-ltb, le-ltb, eq-eqb, ne-eqb}
 use Rattle.scope.specs.Outcome.{gives}
 use Rattle.scope.specs.Plan.{Plan, Place, pathOf}
-use Rattle.scope.specs.Good.{rules, slotsRise}
+use Rattle.scope.specs.Good.{slotsRise}
+use Rattle.scope.specs.Rules.{rules}
 use Rattle.scope.specs.Cycle.{tableOf}
 use Rattle.scope.specs.Spare.{entriesOf, entries}
 use Rattle.laws.specs.Links.{TableGives}

@@ -7,10 +7,10 @@ use mathlib.Core.List.{List, []}
 use lib.ListN.{length, getD, List·getD-eq-default}
 use lib.Dec.{ltb}
 use borrow.Author.Tests.{ltb-true, ltb-false}
-use Rattle.scope.specs.Plan.{Place, at, numbersAt, flagged, secondStart, secondCount, secondAt, placeAt, placeCount, messageAt, messageCount}
+use Rattle.scope.specs.Plan.{Place, at, numbersAt, flagged, secondStart, secondCount, secondAt, placeAt, placeCount, messageAt, messageCount, placeOf}
 use Rattle.scope.specs.Plan.{planOf, pathOf}
 use Rattle.scope.specs.SecondPath.{messageIndex, placeIndex}
-use Rattle.scope.specs.Spare.{placeOf, noSecond}
+use Rattle.scope.specs.Spare.{noSecond}
 use Rattle.rows.proofs.Parts.{places-length, places-at, message-count, path-at}
 
 -- there is such a message, such a place and a second path from it

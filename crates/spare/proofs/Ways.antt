@@ -11,10 +11,10 @@ use mir.Val.{toZ, ofZ}
 use Rattle.scope.specs.declared.Refusal.{Refusal}
 use Rattle.scope.proofs.Outcomes.{not-both}
 use Rattle.scope.specs.Outcome.{Outcome, gives, refused, refusalAt, refuse}
-use Rattle.scope.specs.Plan.{numbersAt, flagged, secondAt, afterPlaces, placeCount, messageCount, timeoutOf, planOf}
+use Rattle.scope.specs.Plan.{numbersAt, flagged, secondAt, afterPlaces, placeCount, messageCount, timeoutOf, planOf, placeOf}
 use Rattle.scope.specs.SecondPath.{messageIndex, placeIndex}
 use Rattle.scope.specs.Cycle.{orderOf}
-use Rattle.scope.specs.Spare.{delay, placeOf, noSecond}
+use Rattle.scope.specs.Spare.{delay, noSecond}
 use Rattle.scope.specs.Questions.{judge, maySpare, slack}
 use Rattle.rows.specs.View.{IsPlace}
 use Rattle.rows.specs.declared.RowPlace.{RowPlace}

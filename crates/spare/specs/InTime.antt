@@ -7,11 +7,10 @@ use mathlib.Core.List.{List}
 use lib.ListN.{length}
 use lib.IntN.{pos}
 use Rattle.scope.specs.Outcome.{gives}
-use Rattle.scope.specs.Plan.{Plan, planOf}
+use Rattle.scope.specs.Plan.{Plan, planOf, placeOf}
 use Rattle.scope.specs.Slot.{Position, atTarget}
 use Rattle.scope.specs.Cuts.{isCut, isCutList}
 use Rattle.scope.specs.Cycle.{orderOf, tableOf, start, positions, arrived}
-use Rattle.scope.specs.Spare.{placeOf}
 use Rattle.scope.specs.Questions.{maySpare, slack, replay}
 use Rattle.laws.specs.Message.{positionOf}
 use Rattle.laws.specs.Diverted.{Leaves, WholeUntilArrival}

@@ -11,7 +11,8 @@ use borrow.Author.Tests.{ltb-true, lt-ltb, le-ltb, not-false}
 use Rattle.scope.specs.Limits.{mostLinks}
 use Rattle.scope.specs.Outcome.{gives}
 use Rattle.scope.specs.Plan.{Plan, Place, at, flagged, secondAt, secondStart, secondCount, numbersAt, placeAt, pathOf, linkOf}
-use Rattle.scope.specs.Good.{rules, has, areLinks, joins, different, visited, isPathFrom, endOf, headOf, linksOf, goodPlace, goodSeconds}
+use Rattle.scope.specs.Good.{has, areLinks, joins, different, visited, isPathFrom, endOf, headOf, linksOf, goodPlace, goodSeconds}
+use Rattle.scope.specs.Rules.{rules}
 use Rattle.scope.specs.Cycle.{byNumber, orderOf}
 use Rattle.scope.specs.Spare.{hasSecondThrough, lowerThrough, delay, noSecond}
 use Rattle.laws.proofs.Good.{keeps-rules, there-or-not}

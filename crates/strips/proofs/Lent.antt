@@ -12,7 +12,7 @@ use Rattle.scope.specs.Limits.{mostSlots, mostLinks, mostMessages}
 use Rattle.scope.specs.Outcome.{gives}
 use Rattle.scope.specs.Verdict.{Fails}
 use Rattle.scope.specs.Plan.{Plan, pathOf}
-use Rattle.scope.specs.Good.{rules}
+use Rattle.scope.specs.Rules.{rules}
 use Rattle.scope.specs.Cycle.{tableOf}
 use Rattle.table.specs.Table.{Table, entryAt}
 use Rattle.sets.specs.Sums.{sumOf, oneIf}

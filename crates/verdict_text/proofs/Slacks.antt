@@ -15,10 +15,10 @@ use mir.ValLaws.{toZ-ofZ}
 use Rattle.scope.specs.declared.Refusal.{Refusal}
 use Rattle.scope.proofs.Outcomes.{not-both}
 use Rattle.scope.specs.Outcome.{gives}
-use Rattle.scope.specs.Plan.{Plan, Place, planOf, pathOf, placeCount, messageCount}
+use Rattle.scope.specs.Plan.{Plan, Place, planOf, pathOf, placeCount, messageCount, placeOf}
 use Rattle.scope.specs.SecondPath.{messageIndex}
 use Rattle.scope.specs.Cycle.{orderOf}
-use Rattle.scope.specs.Spare.{placeOf, noSecond, slackOf}
+use Rattle.scope.specs.Spare.{noSecond, slackOf}
 use Rattle.scope.specs.Questions.{maySpare, slack}
 use Rattle.scope.specs.Lines.{slackLine, slackLineOf, messageSlacks, slackLines}
 use Rattle.rows.proofs.Parts.{places-length, path-at, message-count}

@@ -6,8 +6,7 @@ use mathlib.Core.List.{List, [], _++_}
 use lib.ListN.{length, getD, take, drop}
 use lib.Dec.{eqb}
 use Rattle.scope.specs.declared.Answer.{Answer}
-use Rattle.scope.specs.Plan.{Plan}
-use Rattle.scope.specs.Spare.{placeOf}
+use Rattle.scope.specs.Plan.{Plan, placeOf}
 use Rattle.scope.specs.Lines.{resistantLine, failingLine, slackLineOf, UnderK, VerdictLines}
 use Rattle.all_verdicts.specs.Answers.{seven}
 use Rattle.text.specs.Text.{Puts}

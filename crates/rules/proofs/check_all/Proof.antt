@@ -4,7 +4,7 @@ use mathlib.Core.Path.{_≡_, _∙_}
 use native.Mathlib.Omega.{arith}
 use borrow.Author.Needs.{needs}
 use Rattle.scope.specs.Plan.{planOf}
-use Rattle.scope.specs.Good.{rules}
+use Rattle.scope.specs.Rules.{rules}
 use Rattle.rules.specs.Rules.{rulesFrom}
 use Rattle.rules.proofs.Laws as law
 use Rattle.rules.proofs.check_all.Statement.{statement}
