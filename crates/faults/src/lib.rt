@@ -1,5 +1,8 @@
-// Whether one link or one message breaks a rule of document 01: the tests of refusals 5 to 10, of refusal 6 the lowest link at once. Each is
-// its namesake in specs/ of `scope` (Good) on the plan of a row; a message is told by its index. It leans on `rows`, `paths` and `table`.
+// Whether one link or one message breaks a rule: the tests of refusals 5, 8 and 9, of refusal 6 the lowest link at once, and of the rules of
+// paths the earliest one that the first path, or a second path, of a message breaks, with the place and the step. Each is its namesake in
+// specs/ of `scope` (Good, PathRules) on the plan of a row; a message is told by its index. It leans on `rows`, `paths` and `table`.
+use paths::Fault;
+use paths::earlier;
 use scope::limits::PLACES;
 use scope::limits::VERTICES;
 ghost use mathlib.Core.Path.{_≡_};
@@ -52,15 +55,16 @@ pub fn lowest_repeat(row: &[u16]) -> usize
     e
 }
 
-// Refusal 7: the first path of the message at an index breaks a rule other than that of slots.
-pub fn bad_path(row: &[u16], i: usize) -> bool
+// The fault of the first path of the message at an index; "on a first path the step is the place".
+pub fn first_fault(row: &[u16], i: usize) -> Fault
     requires { ⌜ PlanLies (now row) × (i < 2 ^ 60) × (placeCount (now row) i ≤ mostPlaces) ⌝ }
-    ensures { λ r. ⌜ r ≡ brokenPath (planOf (now (row .entry))) (messageAt (now (row .entry)) i) ⌝ }
+    ensures { λ r. ⌜ FirstFault (planOf (now (row .entry))) (messageAt (now (row .entry)) i) r ⌝ }
 {
     let mut path = [0u16; PLACES];
     let n = paths::first_links(row, i, &mut path);
     let v = paths::link_from(row, rows::number(&path, 0));
-    !paths::is_path(row, v, &path[..n])
+    let found = paths::path_fault(row, v, &path[..n]);
+    Fault { rule: found.rule, message: 0, at: found.step, step: found.step }
 }
 
 // Refusal 8: the slots of the message at an index do not rise, or one is not below t.
@@ -108,60 +112,71 @@ pub fn held_below(row: &[u16], i: usize, m: usize, table: &[u8]) -> bool
     false
 }
 
-// A second path in place of a link, where the first path ends at a vertex.
-fn second_holds(row: &[u16], end: usize, link: usize, second: &[u16]) -> bool
-    requires { ⌜ PlanLies (now row) × (link < 65536) ⌝ }
-    ensures { λ r. ⌜ r ≡ secondHolds (planOf (now (row .entry))) end link (now (second .entry)) ⌝ }
+// The fault of a second path in place of a link, where the first path ends at a vertex. What the walk finds comes before a wrong end, but for a
+// vertex met twice.
+fn second_rule(row: &[u16], end: usize, link: usize, second: &[u16]) -> Fault
+    requires { ⌜ PlanLies (now row) × (link < 65536) × (0 < length (now second)) ⌝ }
+    ensures { λ r. ⌜ Earliest (secondRule (planOf (now (row .entry))) end link (now (second .entry))) 5 (length (now (second .entry))) (r .rule)
+        (r .step) ⌝ }
 {
     let v = paths::link_from(row, link);
-    if paths::is_path(row, v, second) {
-        if paths::path_end(row, second) == end {
-            return rows::number(second, 0) != link;
-        }
-        return false;
+    let found = paths::path_fault(row, v, second);
+    if found.rule < 2 {
+        return found;
     }
-    false
+    if paths::path_end(row, second) != end {
+        return Fault { rule: 2, message: 0, at: 0, step: second.len() - 1 };
+    }
+    if found.rule < 3 {
+        return Fault { rule: 3, message: 0, at: 0, step: found.step };
+    }
+    if rows::number(second, 0) == link {
+        return Fault { rule: 4, message: 0, at: 0, step: 0 };
+    }
+    Fault { rule: 5, message: 0, at: 0, step: 0 }
 }
 
-// The place at an index has no second path, or a good one.
-fn place_holds(row: &[u16], end: usize, at: usize) -> bool
+// The fault of the second path from the place at an index; none where there is no second path.
+fn place_fault(row: &[u16], end: usize, at: usize) -> Fault
     requires { ⌜ PlanLies (now row) × (at < 2 ^ 61) × (at + placeSize (now row) at ≤ length (now row)) ⌝ }
-    ensures { λ r. ⌜ r ≡ goodPlace (planOf (now (row .entry))) end (placeAt (now (row .entry)) at) (placeAt (now (row .entry)) at .second) ⌝ }
+    ensures { λ r. ⌜ PlaceFault (planOf (now (row .entry))) end (placeAt (now (row .entry)) at) r ⌝ }
 {
     let here = rows::place_at(row, at);
     if here.count == 0 {
-        return true;
+        return Fault { rule: 5, message: 0, at: 0, step: 0 };
     }
     let a = here.second;
     let b = here.next;
-    second_holds(row, end, here.link, &row[a..b])
+    second_rule(row, end, here.link, &row[a..b])
 }
 
-fn seconds_hold(row: &[u16], end: usize, i: usize) -> bool
+// The fault of the second paths of the message at an index, place by place.
+fn places_fault(row: &[u16], end: usize, i: usize) -> Fault
     requires { ⌜ PlanLies (now row) × (i < 2 ^ 60) × MessageLies (now row) i ⌝ }
-    ensures { λ r. ⌜ r ≡ goodSeconds (planOf (now (row .entry))) end (messageAt (now (row .entry)) i) ⌝ }
+    ensures { λ r. ⌜ SecondFault (planOf (now (row .entry))) end (messageAt (now (row .entry)) i) r ⌝ }
 {
     let n = rows::place_count(row, i);
     let mut at = i + 1;
+    let mut found = Fault { rule: 5, message: 0, at: 0, step: 0 };
     let mut k = 0;
     while k < n {
         let here = rows::place_at(row, at);
-        if !place_holds(row, end, at) {
-            return false;
-        }
+        let fault = place_fault(row, end, at);
+        found = earlier(found, Fault { rule: fault.rule, message: 0, at: k, step: fault.step });
         at = here.next;
         k += 1;
     }
-    true
+    found
 }
 
-// Refusal 10: a second path of the message at an index breaks a rule.
-pub fn bad_seconds(row: &[u16], i: usize) -> bool
+// The same, where the first path of the message ends.
+pub fn second_fault(row: &[u16], i: usize) -> Fault
     requires { ⌜ PlanLies (now row) × (i < 2 ^ 60) × MessageLies (now row) i ⌝ }
-    ensures { λ r. ⌜ r ≡ brokenSeconds (planOf (now (row .entry))) (messageAt (now (row .entry)) i) ⌝ }
+    ensures { λ r. ⌜ SecondFault (planOf (now (row .entry))) (endOf (planOf (now (row .entry))) (linksOf (messageAt (now (row .entry)) i)))
+        (messageAt (now (row .entry)) i) r ⌝ }
 {
     let mut path = [0u16; PLACES];
     let n = paths::first_links(row, i, &mut path);
     let end = paths::path_end(row, &path[..n]);
-    !seconds_hold(row, end, i)
+    places_fault(row, end, i)
 }

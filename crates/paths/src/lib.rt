@@ -1,5 +1,5 @@
-// Paths as lists of links: the first link of a path that breaks a rule, if any, and where the path ends, as specs/ of `scope` (Good)
-// says of the plan of a row; it leans on `rows`. A path is a slice of links, so that the second paths, which are parts of the row, and
+// Paths as lists of links: the earliest rule that a path breaks, at its first step, and where the path ends, as specs/ of `scope`
+// (PathRules, Good) says of the plan of a row; it leans on `rows`. A path is a slice of links, so that the second paths, which are parts of the row, and
 // the first paths, which are copied out of it, go by the same rule.
 use scope::limits::VERTICES;
 ghost use mathlib.Core.Path.{_≡_};
@@ -58,47 +58,60 @@ pub fn ends_of(row: &[u16], e: usize) -> Ends
     Ends { from, to }
 }
 
-// The first fault of a path: the rule that is broken, 0 where none is, and at which step.
+// A fault of a path: the rule that is broken, by its number in the order in which rules are asked, and where: message, place and step.
 pub struct Fault {
     pub rule: usize,
+    pub message: usize,
+    pub at: usize,
     pub step: usize,
 }
 
-// The first fault of links that begin at vertex v. The path is walked once, with a mark for each vertex that is met.
-pub fn first_fault(row: &[u16], v: usize, path: &[u16]) -> Fault
+// Of two faults that of the earlier rule; of one rule the one that was found first.
+pub fn earlier(found: Fault, here: Fault) -> Fault
+    ensures { λ r. ⌜ r ≡ cond (ltb (here .rule) (found .rule)) here found ⌝ }
+{
+    if here.rule < found.rule { here } else { found }
+}
+
+// The rule that a link below E breaks, of the rules of a path: 1 where it does not begin at a vertex, 2 where it leads to one that is marked,
+// 3 none.
+fn link_rule(from: usize, at: usize, mark: u8) -> usize
+    ensures { λ r. ⌜ r ≡ linkRule (not (eqb from at)) (not (eqb mark 0)) ⌝ }
+{
+    if from != at {
+        return 1;
+    }
+    if mark != 0 {
+        return 2;
+    }
+    3
+}
+
+// The fault of links that begin at vertex v: of the earliest rule that one of them breaks, the first step. The path is walked once, with
+// a mark for each vertex that is met.
+pub fn path_fault(row: &[u16], v: usize, path: &[u16]) -> Fault
     requires { ⌜ PlanLies (now row) × (v < mostVertices) ⌝ }
-    ensures { λ r. ⌜ r ≡ firstFault (planOf (now (row .entry))) (v ∷ []) v 0 (now (path .entry)) ⌝ }
+    ensures { λ r. ⌜ Earliest (pathRule (planOf (now (row .entry))) v (now (path .entry))) 3 (length (now (path .entry))) (r .rule) (r .step) ⌝ }
 {
     let links = rows::links(row);
     let mut met = [0u8; VERTICES];
     met[v] = 1;
     let mut at = v;
+    let mut found = Fault { rule: 3, message: 0, at: 0, step: 0 };
     let mut k = 0;
     while k < path.len() {
         let e = rows::number(path, k);
         if links <= e {
-            return Fault { rule: 1, step: k };
+            return Fault { rule: 0, message: 0, at: 0, step: k };
         }
         let ends = ends_of(row, e);
-        if ends.from != at {
-            return Fault { rule: 2, step: k };
-        }
+        let rule = link_rule(ends.from, at, met[ends.to]);
+        found = earlier(found, Fault { rule, message: 0, at: 0, step: k });
         at = ends.to;
-        if met[at] != 0 {
-            return Fault { rule: 3, step: k };
-        }
         met[at] = 1;
         k += 1;
     }
-    Fault { rule: 0, step: k }
-}
-
-pub fn is_path(row: &[u16], v: usize, path: &[u16]) -> bool
-    requires { ⌜ PlanLies (now row) × (v < mostVertices) ⌝ }
-    ensures { λ r. ⌜ r ≡ isPathFrom (planOf (now (row .entry))) v (now (path .entry)) ⌝ }
-{
-    let fault = first_fault(row, v, path);
-    fault.rule == 0
+    found
 }
 
 // The vertex where a path ends.

@@ -1,10 +1,16 @@
-// Refusals 5 to 10 of a row that has the form of a plan: `check` gives 0, or the lowest refusal that applies with its place, as `rules` of
-// document 01 says. The rules are numbered by their refusals: one loop looks for the lowest link or message that breaks rule n, and one goes
-// through the rules. It leans on `faults` for the test of one link or message, and on `rows` and `table`.
+// Refusals 5 to 10 and 14 to 19 of a row that has the form of a plan: `check` gives 0, or the first refusal that applies with its place, as
+// `rules` of specs/ of `scope` (Rules) says. They are asked in rounds, one after another: 5, 6, 8 and 9 are a rule each, with one loop that
+// looks for the lowest link or message that breaks it; in round 7 all first paths are walked, in round 10 all second paths, and of what breaks
+// a rule the earliest rule is kept, with its lowest message, place and step. It leans on `faults` for one link or message, and on `rows`,
+// `paths` and `table`.
+use paths::Fault;
+use paths::earlier;
 use scope::Answer;
+use scope::Refusal;
 use scope::limits::MESSAGES;
 use scope::limits::TABLE;
-use scope::refuse;
+use scope::refusal_at;
+use scope::refusal_on;
 ghost use mathlib.Core.Path.{_≡_};
 ghost use Prim.Native.Nat.{_<_, _≤_};
 ghost use lib.ListN.{length};
@@ -33,25 +39,19 @@ fn message_starts(row: &[u16]) -> [usize; MESSAGES]
     starts
 }
 
-// Whether link m, and from rule 7 on message m, breaks rule n, which is not that of links that repeat.
+// Whether link m, and from rule 8 on message m, breaks rule n, which is 5, 8 or 9.
 fn breaks(row: &[u16], starts: &[usize; MESSAGES], table: &[u8], n: usize, m: usize) -> bool
-    requires { ⌜ Judging (now row) (now starts) (now table) × (5 ≤ n) × (n ≡ 6 → ⊥) × (m < countFor (planOf (now row)) n) ⌝ }
+    requires { ⌜ Judging (now row) (now starts) (now table) × Single n × (n ≡ 6 → ⊥) × (m < countFor (planOf (now row)) n) ⌝ }
     ensures { λ r. ⌜ r ≡ breaks (planOf (now (row .entry))) n m ⌝ }
 {
-    if n <= 6 {
+    if n < 8 {
         return faults::bad_ends(row, m);
     }
     let i = starts[m];
     if n < 9 {
-        if n < 8 {
-            return faults::bad_path(row, i);
-        }
         return faults::bad_slots(row, i);
     }
-    if n < 10 {
-        return faults::held_below(row, i, m, table);
-    }
-    faults::bad_seconds(row, i)
+    faults::held_below(row, i, m, table)
 }
 
 // How many links or messages rule n is asked of.
@@ -73,7 +73,7 @@ fn lowest_breaking(
     n: usize,
     count: usize,
 ) -> usize
-    requires { ⌜ Judging (now row) (now starts) (now table) × (5 ≤ n) × (count ≡ countFor (planOf (now row)) n) ⌝ }
+    requires { ⌜ Judging (now row) (now starts) (now table) × Single n × (count ≡ countFor (planOf (now row)) n) ⌝ }
     ensures { λ r. ⌜ r ≡ lowest (breaks (planOf (now (row .entry))) n) count ⌝ }
 {
     if n == 6 {
@@ -89,17 +89,104 @@ fn lowest_breaking(
     m
 }
 
-// The rules in their order.
+// The round of a rule that is asked of links or of messages. A refusal with number 0 says that there is none, here and below.
+fn single_round(row: &[u16], starts: &[usize; MESSAGES], table: &[u8], n: usize) -> Refusal
+    requires { ⌜ Judging (now row) (now starts) (now table) × Single n ⌝ }
+    ensures { λ r. ⌜ Says (roundOf (planOf (now (row .entry))) n) r ⌝ }
+{
+    let count = count_for(row, n);
+    let m = lowest_breaking(row, starts, table, n, count);
+    if m < count {
+        return refusal_at(n, m);
+    }
+    refusal_at(0, 0)
+}
+
+// How many rules the round n of paths has: first paths are round 7, second paths round 10.
+fn rule_count(n: usize) -> usize
+    ensures { λ r. ⌜ r ≡ ruleCount n ⌝ }
+{
+    if n < 10 { 3 } else { 5 }
+}
+
+// The refusal of a rule of a round of paths.
+fn number_of(n: usize, rule: usize) -> usize
+    requires { ⌜ rule < ruleCount n ⌝ }
+    ensures { λ r. ⌜ r ≡ numberOf n rule ⌝ }
+{
+    if rule == 0 {
+        return n;
+    }
+    if n < 10 {
+        return 13 + rule;
+    }
+    15 + rule
+}
+
+// The fault of the message at an index in round n.
+fn message_fault(row: &[u16], i: usize, n: usize) -> Fault
+    requires { ⌜ PlanLies (now row) × (i < 2 ^ 60) × MessageLies (now row) i ⌝ }
+    ensures { λ r. ⌜ MessageFault (planOf (now (row .entry))) n (messageAt (now (row .entry)) i) r ⌝ }
+{
+    if n < 10 {
+        return faults::first_fault(row, i);
+    }
+    faults::second_fault(row, i)
+}
+
+// The fault of all messages in round n.
+fn messages_fault(row: &[u16], starts: &[usize; MESSAGES], n: usize) -> Fault
+    requires { ⌜ PlanLies (now row) × Starts (now row) (messageCount (now row)) (now starts) ⌝ }
+    ensures { λ r. ⌜ PlanFault (planOf (now (row .entry))) n r ⌝ }
+{
+    let count = rows::messages(row);
+    let mut found = Fault { rule: rule_count(n), message: 0, at: 0, step: 0 };
+    let mut m = 0;
+    while m < count {
+        let here = message_fault(row, starts[m], n);
+        found = earlier(found, Fault { rule: here.rule, message: m, at: here.at, step: here.step });
+        m += 1;
+    }
+    found
+}
+
+// The round of the rules of first paths, or of second paths.
+fn path_round(row: &[u16], starts: &[usize; MESSAGES], n: usize) -> Refusal
+    requires { ⌜ PlanLies (now row) × Starts (now row) (messageCount (now row)) (now starts) × OnPaths n ⌝ }
+    ensures { λ r. ⌜ Says (roundOf (planOf (now (row .entry))) n) r ⌝ }
+{
+    let found = messages_fault(row, starts, n);
+    if found.rule < rule_count(n) {
+        let no = number_of(n, found.rule);
+        return refusal_on(no, found.message, found.at, found.step);
+    }
+    refusal_at(0, 0)
+}
+
+// Round n.
+fn round(row: &[u16], starts: &[usize; MESSAGES], table: &[u8], n: usize) -> Refusal
+    requires { ⌜ Judging (now row) (now starts) (now table) × (5 ≤ n) × (n < 11) ⌝ }
+    ensures { λ r. ⌜ Says (roundOf (planOf (now (row .entry))) n) r ⌝ }
+{
+    if n == 7 {
+        return path_round(row, starts, n);
+    }
+    if n == 10 {
+        return path_round(row, starts, n);
+    }
+    single_round(row, starts, table, n)
+}
+
+// The rounds in their order.
 fn check_all(row: &[u16], starts: &[usize; MESSAGES], table: &[u8]) -> Answer
     requires { ⌜ Judging (now row) (now starts) (now table) ⌝ }
     ensures { λ r. ⌜ outcomeOf r ≡ rules (planOf (now (row .entry))) ⌝ }
 {
     let mut n = 5;
     while n < 11 {
-        let count = count_for(row, n);
-        let m = lowest_breaking(row, starts, table, n, count);
-        if m < count {
-            return refuse(n, m);
+        let refusal = round(row, starts, table, n);
+        if refusal.no != 0 {
+            return Answer::Refused(refusal);
         }
         n += 1;
     }
