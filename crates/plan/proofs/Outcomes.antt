@@ -1,19 +1,13 @@
 -- How outcomes are chained, one law for each way that an answer can come about, and what a good row is.
 use Prim.Native.Nat.{ℕ, _≤_, _<_}
 use mathlib.Core.Path.{_≡_, refl, sym, _∙_}
-use mathlib.Core.Bool.{Bool, true, false, cond}
 use mathlib.Core.List.{List, _++_}
 use lib.ListN.{length, drop}
-use lib.Dec.{ltb}
 use borrow.Author.Tests.{le-leb, lt-leb}
 use Rattle.scope.specs.declared.Answer.{Answer}
 use Rattle.scope.specs.declared.Refusal.{Refusal}
-use Rattle.scope.specs.Lowest.{lowest}
 use Rattle.scope.proofs.Outcomes.{not-both, same-answer}
-use Rattle.scope.specs.Outcome.{Outcome, outcomeOf, gives, refused, refuse, andThen, unlessSome, room}
-use Rattle.scope.specs.Plan.{Plan}
-use Rattle.scope.specs.Good.{badEnds, repeats, badFirstPath, badSlots, badTable, badSecondPath}
-use Rattle.scope.specs.Rules.{rules}
+use Rattle.scope.specs.Outcome.{Outcome, outcomeOf, gives, refused, refuse, andThen, room}
 use Rattle.scope.specs.Questions.{after}
 use Rattle.plan.specs.Answers.{Answers}
 
@@ -34,25 +28,6 @@ then-gives o next n e = rw e
 pub then-back : (o : Outcome) (next : ℕ → Outcome) (n : ℕ) → andThen o next ≡ gives n → (m : ℕ) × (o ≡ gives m) × (next m ≡ gives n)
 then-back (gives m) next n e = (m, refl, e)
 then-back (refused r) next n e = not-both e
-
-unless-back : (k : ℕ) (broken : ℕ → Bool) (n : ℕ) (rest : Outcome) (z : ℕ) → unlessSome k broken n rest ≡ gives z → rest ≡ gives z
-unless-back k broken n rest z e = by (ltb (lowest broken n) n) e
-  where
-    by : (t : Bool) → cond t (refuse k (lowest broken n)) rest ≡ gives z → rest ≡ gives z
-    by true e = not-both e
-    by false e = e
-
--- the rules give 0 or a refusal
-pub rules-give : (plan : Plan) (z : ℕ) → rules plan ≡ gives z → rules plan ≡ gives 0
-unfolding rules
-rules-give plan z e =
-    let e₅ = unless-back 5 (badEnds plan) (length (plan .links)) _ z e in
-    let e₆ = unless-back 6 (repeats plan) (length (plan .links)) _ z e₅ in
-    let e₇ = unless-back 7 (badFirstPath plan) (length (plan .messages)) _ z e₆ in
-    let e₈ = unless-back 8 (badSlots plan) (length (plan .messages)) _ z e₇ in
-    let e₉ = unless-back 9 (badTable plan) (length (plan .messages)) _ z e₈ in
-    let e₁₀ : gives 0 ≡ gives z = unless-back 10 (badSecondPath plan) (length (plan .messages)) _ z e₉ in
-    e ∙ sym e₁₀
 
 -- room enough, and too little
 pub room-there : (needed lent : ℕ) → needed ≤ lent → room needed lent ≡ gives needed

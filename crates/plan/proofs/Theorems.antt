@@ -16,7 +16,8 @@ use Rattle.scope.specs.Limits.{longestRow, longestFile}
 use Rattle.forms.proofs.Theorems.{file-row-file, file-row, row-file-row, row-file, file-most, row-most, row-file-most}
 use Rattle.plan.specs.Answers.{GoodRow, Reads, Writes}
 use Rattle.scope.proofs.Outcomes.{same-answer}
-use Rattle.plan.proofs.Outcomes.{then-back, rules-give, room-there, only-one}
+use Rattle.scope.proofs.Rules.{rules-give}
+use Rattle.plan.proofs.Outcomes.{then-back, room-there, only-one}
 use Rattle.plan.proofs.Ways.{good-row}
 
 -- what reading a file gives, taken apart: its form is right, and its row is good

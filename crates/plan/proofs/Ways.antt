@@ -16,10 +16,11 @@ use Rattle.scope.specs.Rules.{rules}
 use Rattle.scope.specs.SecondPath.{shown}
 use Rattle.scope.specs.Questions.{judge, readFile, writeFile, secondPath}
 use Rattle.rows.specs.View.{PartAt, secondPart, secondIndex}
+use Rattle.scope.proofs.Rules.{rules-give}
 use Rattle.forms.proofs.Theorems.{file-row, row-count}
 use Rattle.plan.specs.Answers.{Answers, Accepts, GoodRow, shownIndex}
 use Rattle.plan.proofs.Numbers.{judge-numbered}
-use Rattle.plan.proofs.Outcomes.{then-refused, then-gives, then-back, rules-give, room-there, room-short, refuses, after-gives}
+use Rattle.plan.proofs.Outcomes.{then-refused, then-gives, then-back, room-there, room-short, refuses, after-gives}
 
 -- the outcome of an answer that is known
 pub gave : {a : Answer} {o : Outcome} (n : ℕ) → a ≡ Gives n → outcomeOf a ≡ o → o ≡ gives n

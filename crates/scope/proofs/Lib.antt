@@ -8,3 +8,4 @@ pub mod Explained
 pub mod Cases
 pub mod Seek
 pub mod Some
+pub mod Rules
