@@ -9,3 +9,5 @@ pub mod Cases
 pub mod Seek
 pub mod Some
 pub mod Rules
+pub mod PathFaults
+pub mod GoodAsBefore
