@@ -1,4 +1,4 @@
--- The table of document 01's cases marked P holds, and so does our own, each row by computing.
+-- The table of document 01's cases marked P holds, and so do our own and request [1]'s, each row by computing.
 use mathlib.Core.Path.{refl}
 use mathlib.Core.List.{[], _∷_}
 use lib.Dec.{lit<, lit≤}
@@ -7,7 +7,7 @@ use Rattle.scope.specs.Bits.{bitsOf, bits, numberFrom, bytesOf}
 use Rattle.scope.specs.File.{walkBits, fieldsOf, zeros, endsAt, walkFile, rowOf, packed, fileOf}
 use Rattle.scope.specs.Row.{walkFrom, walkRow}
 use Rattle.scope.specs.Plan.{numbersAt, linksAt, placesAt, afterPlaces, messagesAt, afterMessages, planOf}
-use Rattle.scope.specs.Good.{has, different, areLinks, joins, visited, slotsRise, holds, taken, goodSeconds}
+use Rattle.scope.specs.Good.{has, visited, slotsRise, holds, taken}
 use Rattle.scope.specs.Rules.{rules}
 use Rattle.scope.specs.Cuts.{checkCuts, isCut}
 use Rattle.scope.specs.Cycle.{foremost, tableOf, moves, slot, numbers, positions, events, arrived, arrivals, eventRow}
@@ -15,7 +15,7 @@ use Rattle.scope.specs.Verdict.{FirstFailing, earlier}
 use Rattle.scope.specs.Spare.{entriesOf, entries, hasSecondThrough, lowerThrough, delay}
 use Rattle.scope.specs.Capture.{checkCapture}
 use Rattle.scope.specs.Questions.{judge, readFile, writeFile, replay, mayJudge, mayExplain, maySpare, slack}
-use Rattle.scope.specs.Cases.{table, ownTable, All, rowA, rowLate, rowOrder}
+use Rattle.scope.specs.Cases.{table, ownTable, pathTable, All, rowA, rowLate, rowOrder}
 use Rattle.scope.proofs.Explained.{first-of-B}
 use Rattle.scope.proofs.First.{every, spared, before-one, before-two}
 
@@ -55,9 +55,8 @@ first-of-order =
 
 pub cases : All table
 unfolding seek bitsOf bits numberFrom bytesOf walkBits fieldsOf zeros endsAt walkFile rowOf packed fileOf walkFrom walkRow numbersAt linksAt
-    placesAt afterPlaces messagesAt afterMessages planOf has different areLinks joins visited slotsRise holds taken goodSeconds rules checkCuts
-    isCut foremost tableOf moves slot numbers positions events arrived arrivals eventRow entriesOf entries hasSecondThrough lowerThrough delay
-    judge readFile writeFile replay mayJudge maySpare slack
+    placesAt afterPlaces messagesAt afterMessages planOf has visited slotsRise holds taken rules checkCuts isCut foremost tableOf moves slot
+    numbers positions events arrived arrivals eventRow entriesOf entries hasSecondThrough lowerThrough delay judge readFile writeFile replay mayJudge maySpare slack
 cases = (
   (refl, refl, refl, refl),
   (
@@ -107,9 +106,8 @@ cases = (
 
 pub own-cases : All ownTable
 unfolding seek bitsOf bits numberFrom bytesOf walkBits fieldsOf zeros endsAt walkFile rowOf packed fileOf walkFrom walkRow numbersAt linksAt
-    placesAt afterPlaces messagesAt afterMessages planOf has different areLinks joins visited slotsRise holds taken goodSeconds rules checkCuts
-    isCut foremost tableOf moves slot numbers positions events arrived arrivals eventRow entriesOf entries hasSecondThrough lowerThrough delay
-    judge readFile writeFile replay mayJudge checkCapture mayExplain maySpare slack
+    placesAt afterPlaces messagesAt afterMessages planOf has visited slotsRise holds taken rules checkCuts isCut foremost tableOf moves slot
+    numbers positions events arrived arrivals eventRow entriesOf entries hasSecondThrough lowerThrough delay judge readFile writeFile replay mayJudge checkCapture mayExplain maySpare slack
 own-cases = (
   (refl, first-of-late),
   (
@@ -120,3 +118,9 @@ own-cases = (
     ),
   ),
 )
+
+pub path-cases : All pathTable
+unfolding seek walkFrom walkRow numbersAt linksAt placesAt afterPlaces messagesAt afterMessages planOf has visited slotsRise holds taken rules
+    judge
+path-cases =
+    (refl, (refl, (refl, (refl, (refl, (refl, (refl, (refl, (refl, (refl, (refl, (refl, (refl, (refl, (refl, (refl, (refl, tt)))))))))))))))))

@@ -7,7 +7,7 @@ use mathlib.Core.List.{List, [], _∷_}
 use lib.ListN.{length, getD}
 use lib.IntN.{ℤ, pos, negsuc}
 use lib.Dec.{eqb}
-use Rattle.scope.specs.Outcome.{Outcome, gives, refuse}
+use Rattle.scope.specs.Outcome.{Outcome, gives, refuse, refuseOn}
 use Rattle.scope.specs.File.{rowOf, fileOf}
 use Rattle.scope.specs.Plan.{planOf}
 use Rattle.scope.specs.Cuts.{isCut}
@@ -15,7 +15,7 @@ use Rattle.scope.specs.Slot.{onSecond, atTarget}
 use Rattle.scope.specs.Cycle.{orderOf, tableOf, start, positions, events, eventRow}
 use Rattle.scope.specs.Verdict.{FirstFailing}
 use Rattle.scope.specs.Capture.{FirstExplaining}
-use Rattle.scope.specs.Questions.{readFile, writeFile, replay, mayJudge, mayExplain, slack, maySpare}
+use Rattle.scope.specs.Questions.{judge, readFile, writeFile, replay, mayJudge, mayExplain, slack, maySpare}
 
 -- Plan B: "links 0→1, 0→2, 2→1 and t = 4. Both messages have first path link 0, message 0 in slot 0 and message 1 in slot 1, and second path
 -- links 1, 2."
@@ -72,6 +72,10 @@ rowThree =
 abbrev pub seenB : List ℕ
 seenB = 0 ∷ 0 ∷ 0 ∷ 1 ∷ 1 ∷ 1 ∷ 2 ∷ 2 ∷ 1 ∷ []
 
+-- links 0→1, 1→2, 2→3, 1→0, 0→2, 2→1, t = 8, and these messages, so many and one
+abbrev pub onNet : ℕ → List ℕ → List ℕ
+onNet m messages = 1 ∷ 3 ∷ 5 ∷ m ∷ 7 ∷ 0 ∷ 1 ∷ 1 ∷ 2 ∷ 2 ∷ 3 ∷ 1 ∷ 0 ∷ 0 ∷ 2 ∷ 2 ∷ 1 ∷ messages
+
 -- link 0 is down in slot 0 and whole again from slot 1 on: no cut list does this, and a message once turned stays turned
 abbrev pub brief : ℕ → ℕ → Bool
 brief i e = eqb i 0 && eqb e 0
@@ -84,6 +88,8 @@ thereAt row cuts m time =
 
 -- a row of the table: a question with its answer
 pub data Case : Type 0 where
+  -- a row and the outcome of judging it
+  judges : List ℕ → Outcome → Case
   -- a file, the room lent, and the outcome of reading it
   reads : List ℕ → ℕ → Outcome → Case
   -- a file and a row that give each other, read and written with exactly the room needed
@@ -104,6 +110,7 @@ pub data Case : Type 0 where
   refuses : List ℕ → ℕ → List ℕ → ℕ → Outcome → Case
 
 abbrev pub Holds : Case → Type 0
+Holds (judges row says) = judge row ≡ says
 Holds (reads file lent says) = readFile file lent ≡ says
 Holds (same file row) =
     (rowOf file ≡ row) × (fileOf row ≡ file) × (readFile file (length row) ≡ gives (length row)) ×
@@ -163,6 +170,45 @@ ownTable =
     refuses rowB 2 (0 ∷ 0 ∷ 0 ∷ 1 ∷ 1 ∷ 2 ∷ []) 0 (refuse 23 1) ∷
     refuses rowB 2 (0 ∷ 0 ∷ 0 ∷ 1 ∷ 1 ∷ []) 0 (refuse 23 1) ∷
     refuses rowB 2 [] 3 (refuse 13 4) ∷
+    []
+
+-- request [1], on the net of onNet: each number of a rule of paths, and which of two that apply is given
+abbrev pub pathTable : List Case
+pathTable =
+    -- links 0, 1, 2; from place 0 links 4, 2, and from place 1 links 3, 4, 2, back over the vertex where the first path begins: all is well
+    judges (onNet 0 (2 ∷ 0 ∷ 0 ∷ 1 ∷ 1 ∷ 4 ∷ 2 ∷ 1 ∷ 1 ∷ 1 ∷ 2 ∷ 3 ∷ 4 ∷ 2 ∷ 2 ∷ 2 ∷ 0 ∷ [])) (gives 34) ∷
+    -- links 0, 9
+    judges (onNet 0 (1 ∷ 0 ∷ 0 ∷ 0 ∷ 9 ∷ 1 ∷ 0 ∷ [])) (refuseOn 7 0 1 1) ∷
+    -- links 0, 2, 0: neither of the last two begins where the one before ended
+    judges (onNet 0 (2 ∷ 0 ∷ 0 ∷ 0 ∷ 2 ∷ 1 ∷ 0 ∷ 0 ∷ 2 ∷ 0 ∷ [])) (refuseOn 14 0 1 1) ∷
+    -- links 0, 1, 5, 3: vertices 0, 1, 2, 1, 0
+    judges (onNet 0 (3 ∷ 0 ∷ 0 ∷ 0 ∷ 1 ∷ 1 ∷ 0 ∷ 5 ∷ 2 ∷ 0 ∷ 3 ∷ 3 ∷ 0 ∷ [])) (refuseOn 15 0 2 2) ∷
+    -- links 0, 3: back to where the path begins
+    judges (onNet 0 (1 ∷ 0 ∷ 0 ∷ 0 ∷ 3 ∷ 1 ∷ 0 ∷ [])) (refuseOn 15 0 1 1) ∷
+    -- 14 of message 0, 7 of message 1
+    judges (onNet 1 (1 ∷ 0 ∷ 0 ∷ 0 ∷ 2 ∷ 1 ∷ 0 ∷ 1 ∷ 0 ∷ 0 ∷ 0 ∷ 9 ∷ 1 ∷ 0 ∷ [])) (refuseOn 7 1 1 1) ∷
+    -- links 0, 3, 2: 15 in step 1, 14 in step 2
+    judges (onNet 0 (2 ∷ 0 ∷ 0 ∷ 0 ∷ 3 ∷ 1 ∷ 0 ∷ 2 ∷ 2 ∷ 0 ∷ [])) (refuseOn 14 0 2 2) ∷
+    -- 8 of message 0, 15 of message 1
+    judges (onNet 1 (1 ∷ 0 ∷ 1 ∷ 0 ∷ 1 ∷ 0 ∷ 0 ∷ 1 ∷ 0 ∷ 2 ∷ 0 ∷ 3 ∷ 3 ∷ 0 ∷ [])) (refuseOn 15 1 1 1) ∷
+    -- 10 of message 0, 9 of message 1
+    judges (onNet 1 (0 ∷ 0 ∷ 0 ∷ 1 ∷ 0 ∷ 9 ∷ 0 ∷ 0 ∷ 0 ∷ 0 ∷ [])) (refuse 9 1) ∷
+    -- 16 of message 0; 10 of message 1, whose links are 0, 1, from place 0 links 4, 9
+    judges (onNet 1 (0 ∷ 0 ∷ 0 ∷ 1 ∷ 0 ∷ 1 ∷ 1 ∷ 0 ∷ 1 ∷ 1 ∷ 1 ∷ 4 ∷ 9 ∷ 1 ∷ 2 ∷ 0 ∷ [])) (refuseOn 10 1 0 1) ∷
+    -- links 0, 1; from place 1, which stands at vertex 1, link 4
+    judges (onNet 0 (1 ∷ 0 ∷ 0 ∷ 0 ∷ 1 ∷ 1 ∷ 1 ∷ 0 ∷ 4 ∷ [])) (refuseOn 16 0 1 0) ∷
+    -- links 0, 1, 2; from place 0 links 4, 1, 2: 16 in step 1; from place 1 link 2: 16 in step 0
+    judges (onNet 0 (2 ∷ 0 ∷ 0 ∷ 1 ∷ 2 ∷ 4 ∷ 1 ∷ 2 ∷ 1 ∷ 1 ∷ 1 ∷ 0 ∷ 2 ∷ 2 ∷ 2 ∷ 0 ∷ [])) (refuseOn 16 0 0 1) ∷
+    -- links 0, 1; from place 0 links 4, 2
+    judges (onNet 0 (1 ∷ 0 ∷ 0 ∷ 1 ∷ 1 ∷ 4 ∷ 2 ∷ 1 ∷ 1 ∷ 0 ∷ [])) (refuseOn 17 0 0 1) ∷
+    -- links 0, 1; from place 0 links 4, 5, 3, 0, vertices 0, 2, 1, 0, 1: 18 in step 2, 17 in step 3
+    judges (onNet 0 (1 ∷ 0 ∷ 0 ∷ 1 ∷ 3 ∷ 4 ∷ 5 ∷ 3 ∷ 0 ∷ 1 ∷ 1 ∷ 0 ∷ [])) (refuseOn 17 0 0 3) ∷
+    -- links 0, 1, 2; from place 0 links 4, 5, 1, 2: vertices 0, 2, 1, 2, 3
+    judges (onNet 0 (2 ∷ 0 ∷ 0 ∷ 1 ∷ 3 ∷ 4 ∷ 5 ∷ 1 ∷ 2 ∷ 1 ∷ 1 ∷ 0 ∷ 2 ∷ 2 ∷ 0 ∷ [])) (refuseOn 18 0 0 2) ∷
+    -- 19 of message 0; 18 of message 1, whose link is 4, from place 0 links 0, 3, 4
+    judges (onNet 1 (0 ∷ 0 ∷ 0 ∷ 1 ∷ 0 ∷ 0 ∷ 0 ∷ 4 ∷ 0 ∷ 1 ∷ 2 ∷ 0 ∷ 3 ∷ 4 ∷ [])) (refuseOn 18 1 0 1) ∷
+    -- links 0, 1, 2; from place 1 links 1, 2
+    judges (onNet 0 (2 ∷ 0 ∷ 0 ∷ 0 ∷ 1 ∷ 1 ∷ 1 ∷ 1 ∷ 1 ∷ 2 ∷ 2 ∷ 2 ∷ 0 ∷ [])) (refuseOn 19 0 1 0) ∷
     []
 
 -- every row of a table holds
