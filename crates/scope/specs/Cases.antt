@@ -177,7 +177,7 @@ abbrev pub pathTable : List Case
 pathTable =
     -- links 0, 1, 2; from place 0 links 4, 2, and from place 1 links 3, 4, 2, back over the vertex where the first path begins: all is well
     judges (onNet 0 (2 ∷ 0 ∷ 0 ∷ 1 ∷ 1 ∷ 4 ∷ 2 ∷ 1 ∷ 1 ∷ 1 ∷ 2 ∷ 3 ∷ 4 ∷ 2 ∷ 2 ∷ 2 ∷ 0 ∷ [])) (gives 34) ∷
-    -- links 0, 9
+    -- links 0, 9, of six
     judges (onNet 0 (1 ∷ 0 ∷ 0 ∷ 0 ∷ 9 ∷ 1 ∷ 0 ∷ [])) (refuseOn 7 0 1 1) ∷
     -- links 0, 2, 0: neither of the last two begins where the one before ended
     judges (onNet 0 (2 ∷ 0 ∷ 0 ∷ 0 ∷ 2 ∷ 1 ∷ 0 ∷ 0 ∷ 2 ∷ 0 ∷ [])) (refuseOn 14 0 1 1) ∷
@@ -199,7 +199,7 @@ pathTable =
     judges (onNet 0 (1 ∷ 0 ∷ 0 ∷ 0 ∷ 1 ∷ 1 ∷ 1 ∷ 0 ∷ 4 ∷ [])) (refuseOn 16 0 1 0) ∷
     -- links 0, 1, 2; from place 0 links 4, 1, 2: 16 in step 1; from place 1 link 2: 16 in step 0
     judges (onNet 0 (2 ∷ 0 ∷ 0 ∷ 1 ∷ 2 ∷ 4 ∷ 1 ∷ 2 ∷ 1 ∷ 1 ∷ 1 ∷ 0 ∷ 2 ∷ 2 ∷ 2 ∷ 0 ∷ [])) (refuseOn 16 0 0 1) ∷
-    -- links 0, 1; from place 0 links 4, 2
+    -- links 0, 1; from place 0 links 4, 2, which end at vertex 3 and not at 2
     judges (onNet 0 (1 ∷ 0 ∷ 0 ∷ 1 ∷ 1 ∷ 4 ∷ 2 ∷ 1 ∷ 1 ∷ 0 ∷ [])) (refuseOn 17 0 0 1) ∷
     -- links 0, 1; from place 0 links 4, 5, 3, 0, vertices 0, 2, 1, 0, 1: 18 in step 2, 17 in step 3
     judges (onNet 0 (1 ∷ 0 ∷ 0 ∷ 1 ∷ 3 ∷ 4 ∷ 5 ∷ 3 ∷ 0 ∷ 1 ∷ 1 ∷ 0 ∷ [])) (refuseOn 17 0 0 3) ∷
@@ -207,7 +207,7 @@ pathTable =
     judges (onNet 0 (2 ∷ 0 ∷ 0 ∷ 1 ∷ 3 ∷ 4 ∷ 5 ∷ 1 ∷ 2 ∷ 1 ∷ 1 ∷ 0 ∷ 2 ∷ 2 ∷ 0 ∷ [])) (refuseOn 18 0 0 2) ∷
     -- 19 of message 0; 18 of message 1, whose link is 4, from place 0 links 0, 3, 4
     judges (onNet 1 (0 ∷ 0 ∷ 0 ∷ 1 ∷ 0 ∷ 0 ∷ 0 ∷ 4 ∷ 0 ∷ 1 ∷ 2 ∷ 0 ∷ 3 ∷ 4 ∷ [])) (refuseOn 18 1 0 1) ∷
-    -- links 0, 1, 2; from place 1 links 1, 2
+    -- links 0, 1, 2; from place 1, whose link is 1, links 1, 2
     judges (onNet 0 (2 ∷ 0 ∷ 0 ∷ 0 ∷ 1 ∷ 1 ∷ 1 ∷ 1 ∷ 1 ∷ 2 ∷ 2 ∷ 2 ∷ 0 ∷ [])) (refuseOn 19 0 1 0) ∷
     []
 
