@@ -1,25 +1,28 @@
 -- Laws of the tests of refusals 5 to 10: one for each way out of a test, and of a loop over the places of a message.
 use Prim.Native.Nat.{ℕ, suc, _+_, _-_, _*_, _≤_, _<_}
-use mathlib.Core.Path.{_≡_, refl, sym, _∙_, ap}
+use mathlib.Core.Path.{_≡_, refl, sym, _∙_, ap, subst}
 use mathlib.Core.Bool.{Bool, true, false, not, _&&_}
 use mathlib.Core.List.{List, [], _∷_}
 use native.Mathlib.Numerals.{add-one}
 use native.Mathlib.Omega.{arith}
 use borrow.Author.Tests.{lt-ltb, le-ltb, le-leb, lt-leb, eq-eqb, ne-eqb}
-use lib.ListN.{length, getD, take, drop}
+use lib.ListN.{length, length-map, getD, take, drop}
 use lib.Seq.{length-take-le, getD-take}
 use lib.Dec.{ltb, leb, eqb}
 use Rattle.scope.specs.Plan.{Plan, at, secondAt, secondCount, flagged, placeAt, placeSize, placesAt, afterPlaces, placeCount, messageAt, linkOf}
-use Rattle.scope.specs.Good.{isPathFrom, headOf, endOf, slotsRise, goodSecond, goodPlace, goodSeconds}
+use Rattle.scope.specs.Good.{linksOf, headOf, endOf, slotsRise}
+use Rattle.scope.specs.PathRules.{beginsAt}
 use Rattle.rows.specs.declared.RowPlace.{RowPlace}
 use Rattle.rows.specs.View.{IsPlace}
 use Rattle.rows.proofs.Index.{places-suc}
-use Rattle.rows.proofs.Parts.{numbers-length, numbers-part, places-all, places-more, places-none}
+use Rattle.rows.proofs.Parts.{numbers-length, numbers-part, places-length, places-at, places-all, places-more, places-none}
 use Rattle.rows.proofs.Second.{no-links, some-links, links-next}
 use Rattle.table.specs.Table.{entryAt}
-use Rattle.paths.specs.Path.{FirstLinks}
+use Rattle.paths.specs.Path.{FirstLinks, Earliest, pathRule}
 use Rattle.paths.proofs.Laws.{head-first}
-use Rattle.faults.specs.Broken.{brokenPath, brokenSeconds, heldBelow, secondHolds}
+use Rattle.paths.specs.declared.Fault.{Fault}
+use Rattle.faults.specs.Broken.{heldBelow, FirstFault, SecondFault, SecondsFault, PlaceFault, placeIn, secondOf}
+use Rattle.faults.proofs.Seconds.{first-fault}
 
 -- the ends of a link: the first is not below V, the second is not, both are
 module _ (w x y v a b : ℕ) (fv : v ≡ w) (fa : a ≡ x) (fb : b ≡ y) where
@@ -63,6 +66,19 @@ module _ (row : List ℕ) (i n : ℕ) where
 
   pub all-left : n ≡ placeCount row i → placesAt row (i + 1) (n - 0) ≡ messageAt row i
   all-left e = places-all row (i + 1) n ∙ ap (placesAt row (i + 1)) e
+
+  -- the place that it is at, and that it has passed all
+  module _ (j k : ℕ) (e : n ≡ placeCount row i) (p : Passing row i n j k) where
+    pub place-of : k < n → (plan : Plan) (end : ℕ) (r : Fault) → PlaceFault plan end (placeAt row j) r →
+        PlaceFault plan end (placeIn (messageAt row i) k) r
+    place-of h plan end r f =
+        let is : placeIn (messageAt row i) k ≡ placeAt row j =
+        places-at row (record { link = 0; slot = 0; second = [] }) (i + 1) (placeCount row i) k (omega (arith, e)) ∙
+        ap (placeAt row) (sym (p .index)) in
+        rw is f
+
+    pub all-passed : n ≤ k → k ≡ length (messageAt row i)
+    all-passed h = let z : k ≡ placeCount row i = omega (arith, e, p .most) in z ∙ sym (places-length row (i + 1) (placeCount row i))
 
 module _ (row : List ℕ) (n j k : ℕ) where
   module _ (here : RowPlace) (is : IsPlace row j here) (h : k < n) where
@@ -110,17 +126,6 @@ module _ (row : List ℕ) (n j k : ℕ) where
           (omega (arith, there)) in
           rw (more, s)
 
-    -- second paths: one breaks a rule, one does not
-    module _ (plan : Plan) (end : ℕ) (r : Bool) (f : r ≡ goodPlace plan end (placeAt row j) (placeAt row j .second)) where
-      pub seconds-bad : r ≡ false → goodSeconds plan end (placesAt row j (n - k)) ≡ false
-      unfolding goodSeconds
-      seconds-bad b = rw (more, ← f, b)
-
-      pub seconds-next : r ≡ true → goodSeconds plan end (placesAt row (here .next) (n - (k + 1))) ≡ goodSeconds plan end
-          (placesAt row j (n - k))
-      unfolding goodSeconds
-      seconds-next b = rw (more, ← f, b)
-
   -- none is left
   pub slots-done : (t least : ℕ) → n ≤ k → slotsRise t least (placesAt row j (n - k)) ≡ true
   unfolding slotsRise
@@ -130,80 +135,65 @@ module _ (row : List ℕ) (n j k : ℕ) where
   unfolding heldBelow
   held-done table m h = rw (places-none row j n k h)
 
-  pub seconds-done : (plan : Plan) (end : ℕ) → n ≤ k → goodSeconds plan end (placesAt row j (n - k)) ≡ true
-  unfolding goodSeconds
-  seconds-done plan end h = rw (places-none row j n k h)
+-- the second path of a place: there is none, or it is a part of the row
+module _ (row : List ℕ) (i : ℕ) (here : RowPlace) (is : IsPlace row i here) where
+  pub second-none : here .count ≡ 0 → secondAt row i ≡ []
+  second-none h = let t : flagged row i ≡ false = no-links row i here is h in rw t
 
--- the second path of a place: there is none, there is one
-module _ (row : List ℕ) (plan : Plan) (end i : ℕ) (here : RowPlace) (is : IsPlace row i here) where
-  pub place-none : here .count ≡ 0 → true ≡ goodPlace plan end (placeAt row i) (placeAt row i .second)
-  place-none h = let t : flagged row i ≡ false = no-links row i here is h in rw t
-
-  module _ (h : here .count ≡ 0 → ⊥) where
+  module _ (h : here .count ≡ 0 → ⊥) (b : i + placeSize row i ≤ length row) where
     set : flagged row i ≡ true
     set = some-links row i here is h
 
-    pub place-some : (l : List ℕ) → l ≡ secondAt row i → secondHolds plan end (here .link) l ≡ goodPlace plan end (placeAt row i)
-        (placeAt row i .second)
-    place-some l fs = rw (is .link, fs) (sym (same (secondAt row i) (at row (i + 3)) long))
-      where
-        long : length (secondAt row i) ≡ suc (at row (i + 3))
-        long = let t : flagged row i ≡ true = set in rw t (numbers-length row (i + 4) (at row (i + 3) + 1) ∙ add-one (at row (i + 3)))
+    pub second-within : here .next ≤ length row
+    second-within = omega (arith, is .next, b)
 
-        same : (s : List ℕ) (n : ℕ) → length s ≡ suc n → goodPlace plan end (placeAt row i) s ≡ goodSecond plan end (placeAt row i)
-        same [] n e = absurd (omega arith)
-        same (x ∷ xs) n e = refl
+    pub second-order : here .second < here .next
+    second-order = omega (arith, is .second, links-next row i here is set)
 
-    module _ (b : i + placeSize row i ≤ length row) where
-      pub second-within : here .next ≤ length row
-      second-within = omega (arith, is .next, b)
+    pub second-part : take (here .next - here .second) (drop (here .second) row) ≡ secondAt row i
+    second-part =
+        let t : flagged row i ≡ true = set in
+        let n : here .next - here .second ≡ secondCount row i = omega (arith, is .second, links-next row i here is set) in
+        let s : here .second ≡ i + 4 = is .second in
+        let w : i + 4 + secondCount row i ≤ length row = omega (arith, links-next row i here is set, second-within) in
+        rw (t, n, s) (sym (numbers-part row (i + 4) (secondCount row i) w))
 
-      pub second-order : here .second ≤ here .next
-      second-order = omega (arith, is .second, links-next row i here is set)
+    pub second-some : 0 < length (take (here .next - here .second) (drop (here .second) row))
+    second-some =
+        let t : flagged row i ≡ true = set in
+        let n : length (secondAt row i) ≡ secondCount row i = rw t (numbers-length row (i + 4) (secondCount row i)) in
+        omega (arith, ap length second-part, n)
 
-      pub second-part : take (here .next - here .second) (drop (here .second) row) ≡ secondAt row i
-      second-part =
-          let t : flagged row i ≡ true = set in
-          let n : here .next - here .second ≡ secondCount row i = omega (arith, is .second, links-next row i here is set) in
-          let s : here .second ≡ i + 4 = is .second in
-          let w : i + 4 + secondCount row i ≤ length row = omega (arith, links-next row i here is set, second-within) in
-          rw (t, n, s) (sym (numbers-part row (i + 4) (secondCount row i) w))
+    pub place-fault : (plan : Plan) (end : ℕ) (r : Fault) →
+        PlaceFault plan end (secondOf (here .link) (take (here .next - here .second) (drop (here .second) row))) r →
+        PlaceFault plan end (placeAt row i) r
+    place-fault plan end r g =
+        let f : PlaceFault plan end (secondOf (at row i) (secondAt row i)) r = rw (← is .link, ← second-part) g in
+        f
 
--- a second path: it is no path, it ends elsewhere, it does not
-module _ (plan : Plan) (end link v : ℕ) (second : List ℕ) (path : Bool) (fv : v ≡ linkOf plan link .from)
-    (fp : path ≡ isPathFrom plan v second) where
-  starts : path ≡ isPathFrom plan (linkOf plan link .from) second
-  starts = fp ∙ ap (λ w. isPathFrom plan w second) fv
-
-  pub second-no-path : path ≡ false → false ≡ secondHolds plan end link second
-  second-no-path h = let t : isPathFrom plan (linkOf plan link .from) second ≡ false = sym starts ∙ h in rw t
-
-  pub second-elsewhere : (last : ℕ) → last ≡ endOf plan second → path ≡ true → (last ≡ end → ⊥) → false ≡ secondHolds plan end link second
-  second-elsewhere last fl h g =
-      let s : isPathFrom plan (linkOf plan link .from) second ≡ true = sym starts ∙ h in
-      let t : eqb (endOf plan second) end ≡ false = ne-eqb (endOf plan second) end (λ e. g (fl ∙ e)) in
-      rw (s, t)
-
-  pub second-there : (last first : ℕ) → last ≡ endOf plan second → path ≡ true → last ≡ end → first ≡ getD second 0 0 → not
-      (eqb first link) ≡ secondHolds plan end link second
-  second-there last first fl h g ff =
-      let s : isPathFrom plan (linkOf plan link .from) second ≡ true = sym starts ∙ h in
-      let t : eqb (endOf plan second) end ≡ true = eq-eqb (endOf plan second) end (sym fl ∙ g) in
-      rw (s, t, ff, head-first second)
-
--- the links of a first path in a buffer decide of it, and say where it ends
+-- the links of a first path in a buffer: where it begins, and which they are
 module _ (row : List ℕ) (plan : Plan) (i n : ℕ) (entry buffer : List ℕ) (links : FirstLinks row i entry buffer n) where
   pub count-is : n ≤ length buffer → n ≡ length (take n buffer)
   count-is h = sym (length-take-le n buffer h)
 
-  pub path-broken : (v : ℕ) (r : Bool) → v ≡ linkOf plan (getD buffer 0 0) .from → r ≡ isPathFrom plan v (take n buffer) → not r ≡
-      brokenPath plan (messageAt row i)
-  path-broken v r fv fr = ap not (fr ∙ ap (λ w. isPathFrom plan w (take n buffer)) (fv ∙ ap (λ e. linkOf plan e .from) head) ∙ ap
-      (λ es. isPathFrom plan (linkOf plan (headOf es) .from) es) (links .are))
+  pub begins-is : linkOf plan (getD buffer 0 0) .from ≡ beginsAt plan (linksOf (messageAt row i))
+  begins-is = ap (λ e. linkOf plan e .from) (head ∙ ap headOf (links .are))
     where
       head : getD buffer 0 0 ≡ headOf (take n buffer)
       head = sym (getD-take n buffer 0 0 (omega (arith, links .count))) ∙ head-first (take n buffer)
 
-  pub seconds-broken : (end : ℕ) (r : Bool) → end ≡ endOf plan (take n buffer) → r ≡ goodSeconds plan end (messageAt row i) → not r ≡
-      brokenSeconds plan (messageAt row i)
-  seconds-broken end r fe fr = ap not (fr ∙ ap (λ e. goodSeconds plan e (messageAt row i)) (fe ∙ ap (endOf plan) (links .are)))
+  -- what the walk over them found is what the message's first path breaks
+  pub first-path : (v : ℕ) → v ≡ linkOf plan (getD buffer 0 0) .from → (found : Fault) →
+      Earliest (pathRule plan v (take n buffer)) 3 (length (take n buffer)) (found .rule) (found .step) →
+      FirstFault plan (messageAt row i) (record { rule = found .rule; message = 0; at = found .step; step = found .step })
+  first-path v fv found g =
+      let ps = messageAt row i in
+      let walk : Earliest (pathRule plan (beginsAt plan (linksOf ps)) (linksOf ps)) 3 (length ps) (found .rule) (found .step) =
+      rw (← begins-is, ← fv, ← length-map ps (λ p. p .link), ← links .are) g in
+      first-fault (pathRule plan (beginsAt plan (linksOf ps)) (linksOf ps)) 3 (length ps)
+      (record { rule = found .rule; message = 0; at = found .step; step = found .step }) walk refl
+
+  -- and they say where it ends
+  pub second-paths : (end : ℕ) → end ≡ endOf plan (take n buffer) → (r : Fault) → SecondsFault plan end (messageAt row i) r →
+      SecondFault plan (messageAt row i) r
+  second-paths end fe r g = subst (λ e. SecondsFault plan e (messageAt row i) r) (fe ∙ ap (endOf plan) (links .are)) g

@@ -1,2 +1,3 @@
 pub mod Repeats
+pub mod Seconds
 pub mod Laws

@@ -11,9 +11,9 @@ ghost use lib.ListN.{length};
 ghost use Rattle.scope.specs.Limits.{mostPlaces};
 ghost use Rattle.scope.specs.Lowest.{lowest};
 ghost use Rattle.scope.specs.Plan.{planOf, linkCount, placeAt, messageAt, placeSize, placeCount};
-ghost use Rattle.scope.specs.Good.{badEnds, repeats, goodPlace, goodSeconds};
+ghost use Rattle.scope.specs.Good.{badEnds, repeats};
 ghost use Rattle.rows.specs.Lies.{MessageLies, PlanLies};
-ghost use Rattle.faults.specs.Broken.{brokenPath, brokenSlots, brokenSeconds, heldBelow, secondHolds};
+ghost use Rattle.faults.specs.Broken.{brokenSlots, heldBelow, FirstFault, SecondFault, SecondsFault, PlaceFault, secondOf};
 
 // A number for each two vertices.
 const PAIRS: usize = VERTICES * VERTICES;
@@ -64,7 +64,12 @@ pub fn first_fault(row: &[u16], i: usize) -> Fault
     let n = paths::first_links(row, i, &mut path);
     let v = paths::link_from(row, rows::number(&path, 0));
     let found = paths::path_fault(row, v, &path[..n]);
-    Fault { rule: found.rule, message: 0, at: found.step, step: found.step }
+    Fault {
+        rule: found.rule,
+        message: 0,
+        at: found.step,
+        step: found.step,
+    }
 }
 
 // Refusal 8: the slots of the message at an index do not rise, or one is not below t.
@@ -112,12 +117,11 @@ pub fn held_below(row: &[u16], i: usize, m: usize, table: &[u8]) -> bool
     false
 }
 
-// The fault of a second path in place of a link, where the first path ends at a vertex. What the walk finds comes before a wrong end, but for a
-// vertex met twice.
-fn second_rule(row: &[u16], end: usize, link: usize, second: &[u16]) -> Fault
+// The fault of a second path in place of a link, where the first path ends at a vertex. A wrong end comes between what the walk finds of links
+// and joins and a vertex met twice.
+fn link_fault(row: &[u16], end: usize, link: usize, second: &[u16]) -> Fault
     requires { ⌜ PlanLies (now row) × (link < 65536) × (0 < length (now second)) ⌝ }
-    ensures { λ r. ⌜ Earliest (secondRule (planOf (now (row .entry))) end link (now (second .entry))) 5 (length (now (second .entry))) (r .rule)
-        (r .step) ⌝ }
+    ensures { λ r. ⌜ PlaceFault (planOf (now (row .entry))) end (secondOf link (now (second .entry))) r ⌝ }
 {
     let v = paths::link_from(row, link);
     let found = paths::path_fault(row, v, second);
@@ -125,15 +129,35 @@ fn second_rule(row: &[u16], end: usize, link: usize, second: &[u16]) -> Fault
         return found;
     }
     if paths::path_end(row, second) != end {
-        return Fault { rule: 2, message: 0, at: 0, step: second.len() - 1 };
+        return Fault {
+            rule: 2,
+            message: 0,
+            at: 0,
+            step: second.len() - 1,
+        };
     }
     if found.rule < 3 {
-        return Fault { rule: 3, message: 0, at: 0, step: found.step };
+        return Fault {
+            rule: 3,
+            message: 0,
+            at: 0,
+            step: found.step,
+        };
     }
     if rows::number(second, 0) == link {
-        return Fault { rule: 4, message: 0, at: 0, step: 0 };
+        return Fault {
+            rule: 4,
+            message: 0,
+            at: 0,
+            step: 0,
+        };
     }
-    Fault { rule: 5, message: 0, at: 0, step: 0 }
+    Fault {
+        rule: 5,
+        message: 0,
+        at: 0,
+        step: 0,
+    }
 }
 
 // The fault of the second path from the place at an index; none where there is no second path.
@@ -143,26 +167,44 @@ fn place_fault(row: &[u16], end: usize, at: usize) -> Fault
 {
     let here = rows::place_at(row, at);
     if here.count == 0 {
-        return Fault { rule: 5, message: 0, at: 0, step: 0 };
+        return Fault {
+            rule: 5,
+            message: 0,
+            at: 0,
+            step: 0,
+        };
     }
     let a = here.second;
     let b = here.next;
-    second_rule(row, end, here.link, &row[a..b])
+    link_fault(row, end, here.link, &row[a..b])
 }
 
 // The fault of the second paths of the message at an index, place by place.
 fn places_fault(row: &[u16], end: usize, i: usize) -> Fault
     requires { ⌜ PlanLies (now row) × (i < 2 ^ 60) × MessageLies (now row) i ⌝ }
-    ensures { λ r. ⌜ SecondFault (planOf (now (row .entry))) end (messageAt (now (row .entry)) i) r ⌝ }
+    ensures { λ r. ⌜ SecondsFault (planOf (now (row .entry))) end (messageAt (now (row .entry)) i) r ⌝ }
 {
     let n = rows::place_count(row, i);
     let mut at = i + 1;
-    let mut found = Fault { rule: 5, message: 0, at: 0, step: 0 };
+    let mut found = Fault {
+        rule: 5,
+        message: 0,
+        at: 0,
+        step: 0,
+    };
     let mut k = 0;
     while k < n {
         let here = rows::place_at(row, at);
         let fault = place_fault(row, end, at);
-        found = earlier(found, Fault { rule: fault.rule, message: 0, at: k, step: fault.step });
+        found = earlier(
+            found,
+            Fault {
+                rule: fault.rule,
+                message: 0,
+                at: k,
+                step: fault.step,
+            },
+        );
         at = here.next;
         k += 1;
     }
@@ -172,8 +214,7 @@ fn places_fault(row: &[u16], end: usize, i: usize) -> Fault
 // The same, where the first path of the message ends.
 pub fn second_fault(row: &[u16], i: usize) -> Fault
     requires { ⌜ PlanLies (now row) × (i < 2 ^ 60) × MessageLies (now row) i ⌝ }
-    ensures { λ r. ⌜ SecondFault (planOf (now (row .entry))) (endOf (planOf (now (row .entry))) (linksOf (messageAt (now (row .entry)) i)))
-        (messageAt (now (row .entry)) i) r ⌝ }
+    ensures { λ r. ⌜ SecondFault (planOf (now (row .entry))) (messageAt (now (row .entry)) i) r ⌝ }
 {
     let mut path = [0u16; PLACES];
     let n = paths::first_links(row, i, &mut path);

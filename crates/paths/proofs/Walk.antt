@@ -1,20 +1,24 @@
--- The walk over a path: what the marks say, how the first fault goes on from link to link, and that there is none exactly in a path.
-use Prim.Native.Nat.{ℕ, _+_, _≤_, _<_}
+-- The walk over a path: what the marks say, and how the earliest rule that is broken goes on from link to link.
+use Prim.Native.Nat.{ℕ, zero, suc, _+_, _≤_, _<_}
 use mathlib.Core.Path.{_≡_, refl, sym, _∙_, ap}
-use mathlib.Core.Bool.{Bool, true, false, not, cond, _&&_, _||_}
-use mathlib.Core.List.{List, [], _∷_}
+use mathlib.Core.Bool.{Bool, true, false, not, cond, _||_}
+use mathlib.Core.List.{List, [], _∷_, _++_}
 use native.Mathlib.Numerals.{add-one}
 use native.Mathlib.Omega.{arith}
 use borrow.Author.Tests.{lt-ltb, le-ltb, eq-eqb, ne-eqb, eqb-true, eqb-false}
-use lib.ListN.{length, length-set, replicate, length-replicate, getD-replicate, getD, set, drop, drop-of-length-le}
-use lib.Seq.{drop-cons, getD-set-same, getD-set-other}
+use lib.ListN.{length, length-set, replicate, length-replicate, getD-replicate, getD, set}
+use lib.Seq.{getD-set-same, getD-set-other}
 use lib.Dec.{ltb, eqb}
 use Rattle.scope.specs.Limits.{mostVertices}
+use Rattle.scope.specs.Lowest.{seek, lowest, some}
 use Rattle.scope.specs.Plan.{Plan, linkOf}
-use Rattle.scope.specs.Good.{areLinks, joins, visited, has, different, isPathFrom}
+use Rattle.scope.specs.Good.{visited, has, lastOf}
+use Rattle.scope.specs.PathRules.{linkIn, before, noLink, apart, again}
+use Rattle.scope.proofs.Some.{none, some-more}
 use Rattle.paths.specs.declared.Ends.{Ends}
 use Rattle.paths.specs.declared.Fault.{Fault}
-use Rattle.paths.specs.Path.{EndsOf, faultAt, firstFault}
+use Rattle.paths.specs.Path.{EndsOf, Earliest, pathRule, linkRule}
+use Rattle.paths.proofs.Earliest.{earliest-none, earliest-next, earliest-found}
 
 -- one mark for each of n things: 1 where it is met, 0 where it is not
 pub record Marks (n : ℕ) (met : ℕ → Bool) (marks : List ℕ) : Type 0 where
@@ -35,27 +39,57 @@ module _ (n : ℕ) where
             ap (λ x. getD (set marks v 1) x 0) same ∙ getD-set-same marks v 1 0 (omega (arith, m .long, h))
         by w l false e = getD-set-other marks v w 1 0 (eqb-false w v e) ∙ m .are w l
 
-    pub marks-met : (getD marks v 0 ≡ 0 → ⊥) → met v ≡ true
-    marks-met d = by (met v) refl
+    -- a mark says whether it is met
+    pub marks-say : not (eqb (getD marks v 0) 0) ≡ met v
+    marks-say = ap (λ x. not (eqb x 0)) (m .are v h) ∙ by (met v)
       where
-        by : (t : Bool) → met v ≡ t → t ≡ true
-        by true e = refl
-        by false e = absurd (d (m .are v h ∙ rw e))
+        by : (t : Bool) → not (eqb (cond t 1 0) 0) ≡ t
+        by true = refl
+        by false = refl
+
+    pub marks-met : (getD marks v 0 ≡ 0 → ⊥) → met v ≡ true
+    marks-met d = sym marks-say ∙ ap not (ne-eqb (getD marks v 0) 0 d)
 
     pub marks-new : getD marks v 0 ≡ 0 → met v ≡ false
-    marks-new d = by (met v) refl
-      where
-        by : (t : Bool) → met v ≡ t → t ≡ false
-        by true e =
-            let z : getD marks v 0 ≡ 1 = m .are v h ∙ rw e in
-            absurd (omega arith)
-        by false e = refl
+    marks-new d = sym marks-say ∙ ap not (eq-eqb (getD marks v 0) 0 d)
 
--- a loop over a path that began at vertex v, at step k and vertex u: what is left has the first fault of the whole
-pub record Walking (plan : Plan) (path : List ℕ) (v u k : ℕ) (marks : List ℕ) : Type 0 where
-  pub met : List ℕ
-  pub marked : Marks mostVertices (λ x. has x met) marks
-  pub same : firstFault plan met u k (drop k path) ≡ firstFault plan (v ∷ []) v 0 path
+-- the same things are met
+marks-same : (n : ℕ) (met others : ℕ → Bool) (marks : List ℕ) → Marks n met marks → ((w : ℕ) → met w ≡ others w) → Marks n others marks
+marks-same n met others marks m same = record { long = m .long; are = λ w l. m .are w l ∙ ap (λ t. cond t 1 0) (same w) }
+
+-- one number more at the end of a list
+last-more : (v : ℕ) (xs : List ℕ) (y : ℕ) → lastOf v (xs ++ (y ∷ [])) ≡ y
+last-more v [] y = refl
+last-more v (x ∷ xs) y = last-more x xs y
+
+has-more : (w : ℕ) (xs : List ℕ) (y : ℕ) → eqb w y || has w xs ≡ has w (xs ++ (y ∷ []))
+unfolding has
+has-more w [] y = refl
+has-more w (x ∷ xs) y = turned (eqb w y) (eqb w x) (has w xs) ∙ ap (λ t. eqb w x || t) (has-more w xs y)
+  where
+    turned : (a b c : Bool) → a || (b || c) ≡ b || (a || c)
+    turned true true c = refl
+    turned true false c = refl
+    turned false b c = refl
+
+-- and one vertex more that is visited
+visited-more : (plan : Plan) (es : List ℕ) (k : ℕ) → k < length es → before plan es (k + 1) ≡ before plan es k ++ (linkIn plan es k .to ∷ [])
+unfolding visited
+visited-more plan es k h = ap (before plan es) (add-one k) ∙ go es k h
+  where
+    go : (es : List ℕ) (k : ℕ) → k < length es → before plan es (suc k) ≡ before plan es k ++ (linkIn plan es k .to ∷ [])
+    go [] k h = absurd (omega arith)
+    go (e ∷ es) zero h = refl
+    go (e ∷ es) (suc k) h = ap (λ vs. linkOf plan e .to ∷ vs) (go es k (omega arith))
+
+-- a loop over a path that began at vertex v, at step k and vertex u: all links before it are below E, the vertices met are marked, and of what
+-- was broken the earliest rule is found
+pub record Walking (plan : Plan) (path : List ℕ) (v u k : ℕ) (marks : List ℕ) (found : Fault) : Type 0 where
+  pub stands : u ≡ lastOf v (before plan path k)
+  pub marked : Marks mostVertices (λ x. has x (v ∷ before plan path k)) marks
+  pub below : some (noLink plan path) k ≡ false
+  pub kept : Earliest (pathRule plan v path) 3 k (found .rule) (found .step)
+  pub most : k ≤ length path
 
 -- link e is that of step k, and the plan has it
 pub record OnLink (plan : Plan) (path : List ℕ) (k e : ℕ) : Type 0 where
@@ -63,145 +97,71 @@ pub record OnLink (plan : Plan) (path : List ℕ) (k e : ℕ) : Type 0 where
   pub is : e ≡ getD path k 0
   pub there : e < length (plan .links)
 
-left-more : (l : List ℕ) (k : ℕ) → k < length l → drop k l ≡ getD l k 0 ∷ drop (k + 1) l
-left-more l k h = drop-cons l k 0 h ∙ ap (λ n. getD l k 0 ∷ drop n l) (sym (add-one k))
-
 module _ (plan : Plan) (path : List ℕ) (v : ℕ) where
-  pub walking-first : v < mostVertices → Walking plan path v v 0 (set (replicate mostVertices 0) v 1)
-  unfolding has
-  walking-first h =
+  pub walking-first : v < mostVertices → (found : Fault) → found .rule ≡ 3 →
+      Walking plan path v v 0 (set (replicate mostVertices 0) v 1) found
+  unfolding has visited
+  walking-first h found none-yet =
       record {
-        met = v ∷ [];
+        stands = refl;
         marked = marks-more mostVertices (λ x. false) (replicate mostVertices 0) v (marks-none mostVertices) h;
-        same = refl;
+        below = none (noLink plan path) 0 (λ i l. absurd (omega arith));
+        kept = rw none-yet (earliest-none (pathRule plan v path) 3 (found .step));
+        most = omega arith;
       }
 
-  module _ (u k : ℕ) (marks : List ℕ) (w : Walking plan path v u k marks) where
-    -- nothing is left
-    pub walking-done : length path ≤ k → record { rule = 0; step = k } ≡ firstFault plan (v ∷ []) v 0 path
-    unfolding firstFault
-    walking-done h = sym (ap (firstFault plan (w .met) u k) (drop-of-length-le path h)) ∙ w .same
+  module _ (u k : ℕ) (marks : List ℕ) (found : Fault) (w : Walking plan path v u k marks found) where
+    pub walking-done : length path ≤ k → Earliest (pathRule plan v path) 3 (length path) (found .rule) (found .step)
+    walking-done h = let e : k ≡ length path = omega (arith, w .most) in rw (← e) (w .kept)
 
-    module _ (e : ℕ) (here : k < length path) (is : e ≡ getD path k 0) where
-      fault : (n : ℕ) → faultAt plan (w .met) u e ≡ n → eqb n 0 ≡ false → record { rule = n; step = k } ≡ firstFault plan (v ∷ []) v 0 path
-      unfolding firstFault
-      fault n f z =
-          let g : faultAt plan (w .met) u (getD path k 0) ≡ n = ap (faultAt plan (w .met) u) (sym is) ∙ f in
-          let found : firstFault plan (w .met) u k (drop k path) ≡ record { rule = n; step = k } = rw (left-more path k here, g, z) in
-          sym found ∙ w .same
-
-      -- the link is none, it does not join, it meets a vertex again, it does neither
-      pub walking-no-link : length (plan .links) ≤ e → record { rule = 1; step = k } ≡ firstFault plan (v ∷ []) v 0 path
-      walking-no-link b =
-          let t : ltb e (length (plan .links)) ≡ false = le-ltb e (length (plan .links)) b in
-          fault 1 (rw t) refl
+    -- the link is none: no rule comes before that
+    pub walking-no-link : (e : ℕ) → k < length path → e ≡ getD path k 0 → length (plan .links) ≤ e →
+        Earliest (pathRule plan v path) 3 (length path) 0 k
+    walking-no-link e here is b =
+        let t : ltb (getD path k 0) (length (plan .links)) ≡ false = le-ltb (getD path k 0) (length (plan .links)) (omega (arith, is)) in
+        earliest-found (pathRule plan v path) 3 (length path) k (omega arith) here (rw t) (w .below)
 
     module _ (e : ℕ) (on : OnLink plan path k e) (r : Ends) (ends : EndsOf plan e r) where
-      is-link : ltb e (length (plan .links)) ≡ true
-      is-link = lt-ltb e (length (plan .links)) (on .there)
+      is-link : noLink plan path k ≡ false
+      is-link =
+          let t : ltb (getD path k 0) (length (plan .links)) ≡ true = lt-ltb (getD path k 0) (length (plan .links))
+          (omega (arith, on .is, on .there)) in
+          rw t
 
-      pub walking-apart : (r .from ≡ u → ⊥) → record { rule = 2; step = k } ≡ firstFault plan (v ∷ []) v 0 path
-      walking-apart d =
-          let t : eqb (linkOf plan e .from) u ≡ false = ne-eqb _ _ (λ f. d (ends .from ∙ f)) in
-          fault e (on .here) (on .is) 2 (rw (is-link, t)) refl
+      from-is : r .from ≡ linkIn plan path k .from
+      from-is = ends .from ∙ ap (λ x. linkOf plan x .from) (on .is)
 
-      module _ (j : r .from ≡ u) where
-        joined : eqb (linkOf plan e .from) u ≡ true
-        joined = eq-eqb _ _ (sym (ends .from) ∙ j)
+      to-is : r .to ≡ linkIn plan path k .to
+      to-is = ends .to ∙ ap (λ x. linkOf plan x .to) (on .is)
 
-        pub walking-again : (getD marks (r .to) 0 ≡ 0 → ⊥) → record { rule = 3; step = k } ≡ firstFault plan (v ∷ []) v 0 path
-        walking-again d =
-            let t : has (linkOf plan e .to) (w .met) ≡ true =
-            ap (λ x. has x (w .met)) (sym (ends .to)) ∙ marks-met mostVertices (λ x. has x (w .met)) marks (r .to) (w .marked) (ends .to-small)
-            d in
-            fault e (on .here) (on .is) 3 (rw (is-link, joined, t)) refl
+      -- the rule that it breaks
+      pub link-breaks : (rule mark : ℕ) → mark ≡ getD marks (r .to) 0 → rule ≡ linkRule (not (eqb (r .from) u)) (not (eqb mark 0)) →
+          rule ≡ lowest (λ x. pathRule plan v path x k) 3
+      unfolding seek
+      link-breaks rule mark fm fr =
+          let parted : not (eqb (r .from) u) ≡ apart plan v path k =
+          ap (λ x. not (eqb x u)) from-is ∙ ap (λ x. not (eqb (linkIn plan path k .from) x)) (w .stands) in
+          let met : not (eqb mark 0) ≡ again plan v path k =
+          ap (λ x. not (eqb x 0)) fm ∙
+          marks-say mostVertices (λ x. has x (v ∷ before plan path k)) marks (r .to) (w .marked) (ends .to-small) ∙
+          ap (λ x. has x (v ∷ before plan path k)) to-is in
+          fr ∙ rw (parted, met, is-link)
 
-        pub walking-next : getD marks (r .to) 0 ≡ 0 → Walking plan path v (r .to) (k + 1) (set marks (r .to) 1)
-        unfolding firstFault has
-        walking-next d =
-            let t : has (linkOf plan e .to) (w .met) ≡ false =
-            ap (λ x. has x (w .met)) (sym (ends .to)) ∙ marks-new mostVertices (λ x. has x (w .met)) marks (r .to) (w .marked) (ends .to-small)
-            d in
-            let z : faultAt plan (w .met) u e ≡ 0 = rw (is-link, joined, t) in
-            let next : firstFault plan (w .met) u k (e ∷ drop (k + 1) path) ≡ firstFault plan (linkOf plan e .to ∷ w .met)
-            (linkOf plan e .to) (k + 1) (drop (k + 1) path) = rw z in
-            let at : drop k path ≡ e ∷ drop (k + 1) path = left-more path k (on .here) ∙ ap (λ x. x ∷ drop (k + 1) path) (sym (on .is)) in
-            record {
-              met = r .to ∷ w .met;
-              marked = marks-more mostVertices (λ x. has x (w .met)) marks (r .to) (w .marked) (ends .to-small);
-              same = ap (λ x. firstFault plan (x ∷ w .met) x (k + 1) (drop (k + 1) path)) (ends .to) ∙ sym next ∙ sym
-                  (ap (firstFault plan (w .met) u k) at) ∙ w .same;
-            }
-
--- no number of a list is among those met, nor stands twice in it
-unfoldable fresh : List ℕ → List ℕ → Bool
-fresh met [] = true
-fresh met (x ∷ xs) = not (has x met) && fresh (x ∷ met) xs
-
-same-way : (x y : ℕ) → eqb x y ≡ eqb y x
-same-way x y = by (eqb y x) refl
-  where
-    by : (t : Bool) → eqb y x ≡ t → eqb x y ≡ t
-    by true e = eq-eqb x y (sym (eqb-true y x e))
-    by false e = ne-eqb x y (λ h. eqb-false y x e (sym h))
-
--- one number more that is met
-fresh-more : (v : ℕ) (met xs : List ℕ) → fresh (v ∷ met) xs ≡ not (has v xs) && fresh met xs
-unfolding fresh has
-fresh-more v met [] = refl
-fresh-more v met (x ∷ xs) =
-    let e = same-way x v in
-    let more : fresh (x ∷ v ∷ met) xs ≡ not (has x xs) && (not (has v xs) && fresh met xs) =
-    fresh-more x (v ∷ met) xs ∙ ap (λ t. not (has x xs) && t) (fresh-more v met xs) in
-    let less : fresh (x ∷ met) xs ≡ not (has x xs) && fresh met xs = fresh-more x met xs in
-    rw (e, more, less) (by (eqb v x) (has x met) (has x xs) (has v xs) (fresh met xs))
-  where
-    by : (a b c d f : Bool) → not (a || b) && (not c && (not d && f)) ≡ not (a || d) && (not b && (not c && f))
-    by true b c d f = refl
-    by false true c true f = refl
-    by false true c false f = refl
-    by false false true true f = refl
-    by false false true false f = refl
-    by false false false true f = refl
-    by false false false false f = refl
-
-fresh-all : (xs : List ℕ) → fresh [] xs ≡ different xs
-unfolding fresh different has
-fresh-all [] = refl
-fresh-all (x ∷ xs) = fresh-more x [] xs ∙ ap (λ t. not (has x xs) && t) (fresh-all xs)
-
--- there is no fault exactly where all rules hold
-no-fault : (plan : Plan) (met : List ℕ) (v k : ℕ) (es : List ℕ) →
-    eqb (firstFault plan met v k es .rule) 0 ≡ areLinks plan es && joins plan v es && fresh met (visited plan es)
-unfolding firstFault areLinks joins visited fresh
-no-fault plan met v k [] = refl
-no-fault plan met v k (e ∷ es) =
-    by (ltb e (length (plan .links))) (eqb (linkOf plan e .from) v) (has (linkOf plan e .to) met)
-    (areLinks plan es) (joins plan (linkOf plan e .to) es) (fresh (linkOf plan e .to ∷ met) (visited plan es))
-    (no-fault plan (linkOf plan e .to ∷ met) (linkOf plan e .to) (k + 1) es)
-  where
-    rest : Fault
-    rest = firstFault plan (linkOf plan e .to ∷ met) (linkOf plan e .to) (k + 1) es
-
-    fault : Bool → Bool → Bool → ℕ
-    fault a b c = cond a (cond b (cond c 3 0) 2) 1
-
-    picked : Bool → ℕ → Fault
-    picked t n = cond t rest (record { rule = n; step = k })
-
-    by : (a b c x y z : Bool) → eqb (rest .rule) 0 ≡ x && y && z →
-        eqb (picked (eqb (fault a b c) 0) (fault a b c) .rule) 0 ≡ (a && x) && (b && y) && (not c && z)
-    by true true false x y z h = h
-    by true true true true true z h = refl
-    by true true true true false z h = refl
-    by true true true false y z h = refl
-    by true false c true y z h = refl
-    by true false c false y z h = refl
-    by false b c x y z h = refl
-
-pub is-path-walked : (plan : Plan) (v : ℕ) (es : List ℕ) → eqb (firstFault plan (v ∷ []) v 0 es .rule) 0 ≡ isPathFrom plan v es
-unfolding different
-is-path-walked plan v es =
-    no-fault plan (v ∷ []) v 0 es ∙
-    ap (λ t. areLinks plan es && joins plan v es && t) (fresh-more v [] (visited plan es) ∙ ap (λ t. not (has v (visited plan es)) && t)
-    (fresh-all (visited plan es)))
+      -- and then the next
+      pub walking-next : (here next : Fault) → here .step ≡ k → here .rule ≡ lowest (λ x. pathRule plan v path x k) 3 →
+          next ≡ cond (ltb (here .rule) (found .rule)) here found → Walking plan path v (r .to) (k + 1) (set marks (r .to) 1) next
+      unfolding has
+      walking-next here next at rule kept-or-here =
+          let more = visited-more plan path k (on .here) in
+          record {
+            stands = to-is ∙ sym (ap (lastOf v) more ∙ last-more v (before plan path k) (linkIn plan path k .to));
+            marked =
+                marks-same mostVertices (λ x. eqb x (r .to) || has x (v ∷ before plan path k)) (λ x. has x (v ∷ before plan path (k + 1)))
+                (set marks (r .to) 1)
+                (marks-more mostVertices (λ x. has x (v ∷ before plan path k)) marks (r .to) (w .marked) (ends .to-small))
+                (λ x. ap (λ y. eqb x y || has x (v ∷ before plan path k)) to-is ∙
+                has-more x (v ∷ before plan path k) (linkIn plan path k .to) ∙ ap (λ vs. has x (v ∷ vs)) (sym more));
+            below = some-more (noLink plan path) k ∙ rw (w .below, is-link);
+            kept = earliest-next (pathRule plan v path) 3 k (λ f. f .step) found here next (w .kept) at rule kept-or-here;
+            most = omega (arith, on .here);
+          }

@@ -1,15 +1,16 @@
--- A path walked link by link, and what the links of a first path are in a buffer.
-use Prim.Native.Nat.{ℕ, _+_, _<_}
+-- The rules of a path by their order, the earliest that is broken, and what the links of a first path are in a buffer.
+use Prim.Native.Nat.{ℕ, _<_}
 use mathlib.Core.Path.{_≡_}
-use mathlib.Core.Bool.{cond}
-use mathlib.Core.List.{List, [], _∷_}
-use lib.ListN.{length, take, drop}
-use lib.Dec.{ltb, eqb}
+use mathlib.Core.Bool.{Bool, cond}
+use mathlib.Core.List.{List}
+use lib.ListN.{take, drop}
+use lib.Dec.{eqb}
+use Rattle.scope.specs.Lowest.{lowest, some}
 use Rattle.scope.specs.Limits.{mostVertices}
 use Rattle.scope.specs.Plan.{Plan, linkOf, placeCount, messageAt}
-use Rattle.scope.specs.Good.{has, linksOf}
+use Rattle.scope.specs.Good.{linksOf}
+use Rattle.scope.specs.PathRules.{noLink, apart, again}
 use Rattle.paths.specs.declared.Ends.{Ends}
-use Rattle.paths.specs.declared.Fault.{Fault}
 
 -- r has the ends of link e, which are vertices that a plan may have
 pub record EndsOf (plan : Plan) (e : ℕ) (r : Ends) : Type 0 where
@@ -18,23 +19,21 @@ pub record EndsOf (plan : Plan) (e : ℕ) (r : Ends) : Type 0 where
   pub from-small : r .from < mostVertices
   pub to-small : r .to < mostVertices
 
--- the rule that link e breaks behind vertex v, where these vertices are met already: 1, it is not below E; 2, it does not begin at v; 3, it
--- ends at a vertex that is met already; 0, none of these
-abbrev pub faultAt : Plan → List ℕ → ℕ → ℕ → ℕ
-faultAt plan met v e =
-    cond (ltb e (length (plan .links)))
-    (cond (eqb (linkOf plan e .from) v)
-    (cond (has (linkOf plan e .to) met) 3 0)
-    2)
-    1
+-- the rules of a path that begins at vertex v, in the order in which they are asked: rule r is broken in step s
+abbrev pub pathRule : Plan → ℕ → List ℕ → ℕ → ℕ → Bool
+pathRule plan v es r s =
+    cond (eqb r 0) (noLink plan es s)
+    (cond (eqb r 1) (apart plan v es s)
+    (again plan v es s))
 
--- the first fault of the links from step k on, behind vertex v: the rule and the step; rule 0 and the step after the last where there is none
-unfoldable pub firstFault : Plan → List ℕ → ℕ → ℕ → List ℕ → Fault
-firstFault plan met v k [] = record { rule = 0; step = k }
-firstFault plan met v k (e ∷ es) =
-    cond (eqb (faultAt plan met v e) 0)
-    (firstFault plan (linkOf plan e .to ∷ met) (linkOf plan e .to) (k + 1) es)
-    (record { rule = faultAt plan met v e; step = k })
+-- the rule that a link below E breaks, by whether it does not join and whether it leads to a vertex met already; 3, none
+abbrev pub linkRule : Bool → Bool → ℕ
+linkRule parted met = cond parted 1 (cond met 2 3)
+
+-- of k rules and n things the earliest rule that some thing breaks, k where there is none, and the lowest thing that breaks it
+pub record Earliest (broken : ℕ → ℕ → Bool) (k n rule thing : ℕ) : Type 0 where
+  pub earliest : rule ≡ lowest (λ r. some (broken r) n) k
+  pub first : rule < k → thing ≡ lowest (broken rule) n
 
 -- the first r numbers of a buffer that held `entry` are the links of the message at index i, the others as they were
 pub record FirstLinks (row : List ℕ) (i : ℕ) (entry buffer : List ℕ) (r : ℕ) : Type 0 where

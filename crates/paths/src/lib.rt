@@ -3,14 +3,15 @@
 // the first paths, which are copied out of it, go by the same rule.
 use scope::limits::VERTICES;
 ghost use mathlib.Core.Path.{_≡_};
-ghost use mathlib.Core.List.{[], _∷_};
+ghost use mathlib.Core.Bool.{cond, not};
 ghost use Prim.Native.Nat.{_<_, _≤_, _^_};
 ghost use lib.ListN.{length};
+ghost use lib.Dec.{ltb, eqb};
 ghost use Rattle.scope.specs.Limits.{mostVertices};
 ghost use Rattle.scope.specs.Plan.{planOf, linkOf, linkCount, placeCount};
-ghost use Rattle.scope.specs.Good.{isPathFrom, endOf};
+ghost use Rattle.scope.specs.Good.{endOf};
 ghost use Rattle.rows.specs.Lies.{PlanLies};
-ghost use Rattle.paths.specs.Path.{EndsOf, FirstLinks, firstFault};
+ghost use Rattle.paths.specs.Path.{EndsOf, FirstLinks, Earliest, pathRule, linkRule};
 
 // Both ends of a link.
 pub struct Ends {
@@ -97,18 +98,38 @@ pub fn path_fault(row: &[u16], v: usize, path: &[u16]) -> Fault
     let mut met = [0u8; VERTICES];
     met[v] = 1;
     let mut at = v;
-    let mut found = Fault { rule: 3, message: 0, at: 0, step: 0 };
+    let mut found = Fault {
+        rule: 3,
+        message: 0,
+        at: 0,
+        step: 0,
+    };
     let mut k = 0;
     while k < path.len() {
         let e = rows::number(path, k);
         if links <= e {
-            return Fault { rule: 0, message: 0, at: 0, step: k };
+            return Fault {
+                rule: 0,
+                message: 0,
+                at: 0,
+                step: k,
+            };
         }
         let ends = ends_of(row, e);
-        let rule = link_rule(ends.from, at, met[ends.to]);
-        found = earlier(found, Fault { rule, message: 0, at: 0, step: k });
-        at = ends.to;
-        met[at] = 1;
+        let to = ends.to;
+        let mark = met[to];
+        let rule = link_rule(ends.from, at, mark);
+        found = earlier(
+            found,
+            Fault {
+                rule,
+                message: 0,
+                at: 0,
+                step: k,
+            },
+        );
+        met[to] = 1;
+        at = to;
         k += 1;
     }
     found

@@ -140,11 +140,24 @@ fn messages_fault(row: &[u16], starts: &[usize; MESSAGES], n: usize) -> Fault
     ensures { λ r. ⌜ PlanFault (planOf (now (row .entry))) n r ⌝ }
 {
     let count = rows::messages(row);
-    let mut found = Fault { rule: rule_count(n), message: 0, at: 0, step: 0 };
+    let mut found = Fault {
+        rule: rule_count(n),
+        message: 0,
+        at: 0,
+        step: 0,
+    };
     let mut m = 0;
     while m < count {
         let here = message_fault(row, starts[m], n);
-        found = earlier(found, Fault { rule: here.rule, message: m, at: here.at, step: here.step });
+        found = earlier(
+            found,
+            Fault {
+                rule: here.rule,
+                message: m,
+                at: here.at,
+                step: here.step,
+            },
+        );
         m += 1;
     }
     found

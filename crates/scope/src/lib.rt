@@ -25,7 +25,12 @@ pub enum Answer {
 pub fn refusal_on(no: usize, message: usize, at: usize, step: usize) -> Refusal
     ensures { λ r. ⌜ r ≡ refusalOn no message at step ⌝ }
 {
-    Refusal { no, place: message, at, step }
+    Refusal {
+        no,
+        place: message,
+        at,
+        step,
+    }
 }
 
 // The refusal with a number and a place.

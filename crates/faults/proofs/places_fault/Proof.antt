@@ -1,0 +1,98 @@
+-- `faults::places_fault` meets its contract. The invariant: of the places passed the earliest rule is kept. Assumes nothing.
+use Prim.Native.Nat.{_-_, _<_}
+use mathlib.Core.Path.{refl}
+use native.Mathlib.Omega.{arith}
+use borrow.Author.Needs.{needs}
+use Rattle.scope.specs.Plan.{planOf, messageAt, placeCount}
+use Rattle.rows.specs.Lies.{PlaceLies}
+use Rattle.faults.proofs.Laws as law
+use Rattle.faults.proofs.Laws.{Passing}
+use Rattle.faults.proofs.Seconds as rule
+use Rattle.faults.proofs.Seconds.{Placing}
+use Rattle.faults.proofs.places_fault.Statement.{statement}
+use Rattle.faults.proofs.places_fault.Tie as tie
+abbrev Inv-loop : tie.InvT-loop
+Inv-loop row end i n at₀ found₀ k₀ at found k = Passing row i n at k × Placing (planOf row) end (messageAt row i) k found
+
+abbrev μ-loop : tie.MeasureT-loop
+μ-loop row end i n at₀ found₀ k₀ at found k = n - k
+
+-- src/lib.rt:187:9
+place-count-requires : tie.Need-place-count-requires Inv-loop μ-loop
+place-count-requires c κs = search needs
+
+-- src/lib.rt:188:18
+add-at : tie.Need-add-at Inv-loop μ-loop
+add-at c = search needs
+
+-- src/lib.rt:196:5
+loop-holds : tie.Need-loop-holds Inv-loop μ-loop
+loop-holds c =
+    let a = c .before .before .args in
+    (law.passing-first (a .row .now) (a .i) (c .place-count .result), rule.placing-first (planOf (a .row .now)) (a .end) (messageAt (a .row .now) (a .i)) _ refl)
+
+-- src/lib.rt:197:13
+place-at-requires : tie.Need-place-at-requires Inv-loop μ-loop
+place-at-requires c κs =
+    omega (arith, c .before .loop .inv .0 .small, c .before .loop .inv .0 .most, c .before .before .place-count .ensures .small)
+
+-- src/lib.rt:198:13
+place-fault-requires : tie.Need-place-fault-requires Inv-loop μ-loop
+place-fault-requires c κs =
+    let a = c .before .before .before .before .before .args in
+    let l = c .before .before .loop in
+    let h : l .k < placeCount (a .row .now) (a .i) = omega (arith, c .before .before .before .place-count .ensures .is, c .before .loop-test .taken) in
+    let p : PlaceLies (a .row .now) (l .at) = rw (l .inv .0 .index) (c .before .before .before .before .before .pre .2 .place (l .k) h) in
+    (c .before .before .before .before .before .pre .0, omega (arith, l .inv .0 .small, l .inv .0 .most, c .before .before .before .place-count .ensures .small), p .lies)
+
+-- src/lib.rt:199:9
+earlier-requires : tie.Need-earlier-requires Inv-loop μ-loop
+earlier-requires c κs = search needs
+
+-- src/lib.rt:209:9
+add-k : tie.Need-add-k Inv-loop μ-loop
+add-k c = search needs
+
+-- src/lib.rt:196:5
+loop-less : tie.Need-loop-less Inv-loop μ-loop
+loop-less c = search needs
+
+-- src/lib.rt:196:5
+loop-again : tie.Need-loop-again Inv-loop μ-loop
+loop-again c =
+    let a = c .before .before .before .before .before .before .before .args in
+    let l = c .before .before .before .before .loop in
+    let n = c .before .before .before .before .before .place-count in
+    let here = c .before .before .place-at in
+    let fault = c .before .place-fault in (
+      law.passing-next (a .row .now) (a .i) (n .result) (l .at) (l .k) (here .result) (l .inv .0) (c .before .before .before .loop-test .taken) (here .ensures),
+      rule.placing-next (planOf (a .row .now)) (a .end) (messageAt (a .row .now) (a .i)) (l .k) (l .found) _ (c .earlier .result) (fault .result)
+      (l .inv .1)
+      (law.place-of (a .row .now) (a .i) (n .result) (l .at) (l .k) (n .ensures .is) (l .inv .0) (c .before .before .before .loop-test .taken) (planOf (a .row .now))
+      (a .end) (fault .result) (fault .ensures)) refl refl refl (c .earlier .ensures),
+    )
+
+-- src/lib.rt:183:1
+returns : tie.Need-returns Inv-loop μ-loop
+returns c =
+    let a = c .before .before .before .before .args in
+    let l = c .before .loop in
+    rule.placing-done (planOf (a .row .now)) (a .end) (messageAt (a .row .now) (a .i)) (l .k) (l .found) (l .inv .1)
+    (law.all-passed (a .row .now) (a .i) _ (l .at) (l .k) (c .before .before .place-count .ensures .is) (l .inv .0) (c .loop-test .left))
+
+pub places-fault-spec : {M : Type 1} → statement M
+places-fault-spec =
+    tie.close
+    (tie.spec
+    Inv-loop
+    μ-loop
+    place-count-requires
+    add-at
+    loop-holds
+    place-at-requires
+    place-fault-requires
+    earlier-requires
+    add-k
+    loop-less
+    loop-again
+    returns)

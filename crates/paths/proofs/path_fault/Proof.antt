@@ -1,0 +1,51 @@
+-- `paths::path_fault` meets its contract. The invariant `Walking`: the marks are those of the vertices met, and of the rules that were broken
+-- the earliest is kept. Assumes nothing.
+use Prim.Native.Nat.{_-_}
+use native.Mathlib.Omega.{arith}
+use mathlib.Core.Path.{refl}
+use borrow.Author.Needs.{needs}
+use lib.ListN.{length}
+use Rattle.scope.specs.Plan.{planOf}
+use Rattle.rows.proofs.Parts.{link-count}
+use Rattle.paths.proofs.Walk as law
+use Rattle.paths.proofs.Walk.{Walking, OnLink}
+use Rattle.paths.proofs.path_fault.Statement.{statement}
+use Rattle.paths.proofs.path_fault.Tie as tie
+
+abbrev Inv-loop : tie.InvT-loop
+Inv-loop row v path links met₀ at₀ found₀ k₀ met at found k = Walking (planOf row) path v at k met found
+
+abbrev μ-loop : tie.MeasureT-loop
+μ-loop row v path links met₀ at₀ found₀ k₀ met at found k = length path - k
+
+loop-holds : tie.Need-loop-holds Inv-loop μ-loop
+loop-holds c = law.walking-first _ _ _ (c .before .before .before .pre .1) _ refl
+
+returns : tie.Need-returns Inv-loop μ-loop
+returns c =
+    let row = c .before .before .before .before .before .before .before .args .row .now in
+    law.walking-no-link _ _ _ _ _ _ _ (c .before .before .before .loop .inv) _ (c .before .before .loop-test .taken) (c .before .number .ensures .is)
+    (omega (arith, c .if1 .taken, c .before .before .before .before .links .ensures .is, link-count row))
+
+loop-again : tie.Need-loop-again Inv-loop μ-loop
+loop-again c =
+    let row = c .before .before .before .before .before .before .before .before .before .before .args .row .now in
+    let w = c .before .before .before .before .before .before .loop .inv in
+    let on : OnLink (planOf row) _ (c .before .before .before .before .before .before .loop .k) _ =
+    record {
+      here = c .before .before .before .before .before .loop-test .taken;
+      is = c .before .before .before .before .number .ensures .is;
+      there = omega (arith, c .before .before .before .if1 .left, c .before .before .before .before .before .before .before .links .ensures .is, link-count row);
+    } in
+    law.walking-next _ _ _ _ _ _ _ w _ on _ (c .before .before .ends-of .ensures) _ _ refl
+    (law.link-breaks _ _ _ _ _ _ _ w _ on _ (c .before .before .ends-of .ensures) _ _ refl (c .before .link-rule .ensures)) (c .earlier .ensures)
+
+returns-2 : tie.Need-returns-2 Inv-loop μ-loop
+returns-2 c = law.walking-done _ _ _ _ _ _ _ (c .before .loop .inv) (c .loop-test .left)
+
+pub path-fault-spec : {M : Type 1} → statement M
+path-fault-spec =
+    tie.close
+    (tie.spec Inv-loop μ-loop (λ c κs. search needs) (λ c. search needs) loop-holds (λ c κs. search needs) returns (λ c κs. search needs)
+    (λ c. search needs) (λ c κs. search needs) (λ c κs. search needs) (λ c. search needs) (λ c. search needs) (λ c. search needs) loop-again
+    returns-2)
