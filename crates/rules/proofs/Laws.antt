@@ -1,25 +1,31 @@
 -- Laws of the loops that find where messages stand and the lowest thing that breaks a rule, and of the order of the rules.
 use Prim.Native.Nat.{ℕ, zero, suc, _+_, _-_, _*_, _^_, _≤_, _<_}
-use mathlib.Core.Path.{_≡_, refl, sym, _∙_, ap}
-use mathlib.Core.Bool.{Bool, true, false, cond}
+use mathlib.Core.Path.{_≡_, refl, sym, _∙_, ap, subst}
+use mathlib.Core.Bool.{Bool, true, false, cond, _||_, true≢false}
 use mathlib.Core.List.{List}
 use native.Mathlib.Omega.{arith}
-use borrow.Author.Tests.{lt-ltb, le-ltb, ltb-true, ltb-false, eqb-true, eqb-false, ne-eqb}
+use borrow.Author.Tests.{lt-ltb, le-ltb, ltb-true, ltb-false, eqb-true, eqb-false, eq-eqb, ne-eqb}
 use lib.ListN.{length, getD, set, length-set, replicate, length-replicate, getD-replicate}
 use lib.Seq.{getD-set-same, getD-set-other}
 use lib.Dec.{ltb, eqb}
-use Rattle.scope.specs.Lowest.{lowest}
-use Rattle.scope.specs.Outcome.{gives, refuse}
+use Rattle.scope.specs.declared.Refusal.{Refusal}
+use Rattle.scope.specs.Lowest.{seek, lowest, some}
+use Rattle.scope.specs.Outcome.{Outcome, gives, refused, refuseOn, refusalAt, refusalOn}
 use Rattle.scope.specs.Limits.{mostMessages}
-use Rattle.scope.specs.Plan.{linkCount, Plan, messageAt, afterMessage, firstMessage, messageCount, planOf, pathOf}
-use Rattle.scope.specs.Good.{badEnds, repeats, badFirstPath, badSlots, badTable, badSecondPath}
+use Rattle.scope.specs.Plan.{linkCount, Plan, Place, messageAt, afterMessage, firstMessage, messageCount, planOf, pathOf}
+use Rattle.scope.specs.Good.{badEnds, repeats, badSlots, badTable}
+use Rattle.scope.specs.PathRules.{breaksIt, placeBroken, stepBroken}
 use Rattle.scope.specs.Rules.{rules}
 use Rattle.scope.specs.SecondPath.{messageIndex}
 use Rattle.rows.specs.View.{Is}
-use Rattle.rows.specs.Lies.{MessageLies}
+use Rattle.rows.specs.Lies.{MessageLies, PlanLies}
 use Rattle.rows.proofs.Index.{messages-suc}
 use Rattle.rows.proofs.Parts.{path-at, message-count, link-count}
-use Rattle.rules.specs.Rules.{Starts, Judging, breaks, countFor, rulesFrom}
+use Rattle.paths.specs.declared.Fault.{Fault}
+use Rattle.faults.specs.Broken.{FaultOf, FirstFault, SecondFault, firstRule, secondRule, placeIn}
+use Rattle.paths.proofs.Earliest.{earliest-none, earliest-next, either}
+use Rattle.rules.specs.Rules.{Starts, Judging, Single, breaks, countFor, ruleCount, numberOf, roundRule, MessageFault, PlanFault, pathRules}
+use Rattle.rules.specs.Rules.{roundOf, rulesFrom, Says}
 
 -- a loop over messages that notes where they stand, at message m, which stands at index j
 pub record Noting (row : List ℕ) (m j : ℕ) (starts : List ℕ) : Type 0 where
@@ -101,23 +107,21 @@ pub record Here (row : List ℕ) (m i : ℕ) : Type 0 where
   pub lies : MessageLies row i
   pub near : i < 2 ^ 60
 
-module _ (row starts table : List ℕ) (g : Judging row starts table) where
-  pub links-few : length (planOf row .links) ≤ 64
-  links-few = omega (arith, link-count row, g .lies .links)
-
+module _ (row : List ℕ) (lies : PlanLies row) where
   pub messages-few : length (planOf row .messages) ≤ 32
-  messages-few = omega (arith, message-count row, g .lies .messages)
+  messages-few = omega (arith, message-count row, lies .messages)
 
+module _ (row starts : List ℕ) (lies : PlanLies row) (noted : Starts row (messageCount row) starts) where
   pub here : (m : ℕ) → m < length (planOf row .messages) → Here row m (getD starts m 0)
   here m h =
       let l : m < messageCount row = omega (arith, message-count row, h) in
-      let few : m < 32 = omega (arith, messages-few) in
+      let few : m < 32 = omega (arith, messages-few row lies) in
       let t : ltb m (messageCount row) ≡ true = lt-ltb m (messageCount row) l in
-      let e : getD starts m 0 ≡ messageIndex row m = g .starts-are .are m few ∙ rw t in
+      let e : getD starts m 0 ≡ messageIndex row m = noted .are m few ∙ rw t in
       record {
         is = path-at row m l ∙ ap (messageAt row) (sym e);
-        lies = rw e (g .lies .message m l);
-        near = omega (arith, g .starts-are .small m few);
+        lies = rw e (lies .message m l);
+        near = omega (arith, noted .small m few);
       }
 
 -- of what rule n asks
@@ -136,16 +140,16 @@ module _ (plan : Plan) (m n : ℕ) where
   of-messages l h = omega (arith, count-messages plan n l, h)
 
 module _ (row starts table : List ℕ) (g : Judging row starts table) where
+  pub links-few : length (planOf row .links) ≤ 64
+  links-few = omega (arith, link-count row, g .lies .links)
+
   pub few : (m n : ℕ) → 7 ≤ n → m < countFor (planOf row) n → m < mostMessages
-  few m n l h = omega (arith, of-messages (planOf row) m n l h, messages-few row starts table g)
+  few m n l h = omega (arith, of-messages (planOf row) m n l h, messages-few row (g .lies))
 
 -- and what it asks
 module _ (plan : Plan) (m : ℕ) where
   pub rule-five : (n : ℕ) → n ≡ 5 → badEnds plan m ≡ breaks plan n m
   rule-five n e = rw e
-
-  pub rule-seven : (n : ℕ) → n ≡ 7 → badFirstPath plan m ≡ breaks plan n m
-  rule-seven n e = rw e
 
   pub rule-eight : (n : ℕ) → n ≡ 8 → badSlots plan m ≡ breaks plan n m
   rule-eight n e = rw e
@@ -153,42 +157,159 @@ module _ (plan : Plan) (m : ℕ) where
   pub rule-nine : (n : ℕ) → n ≡ 9 → badTable plan m ≡ breaks plan n m
   rule-nine n e = rw e
 
-  pub rule-ten : (n : ℕ) → 10 ≤ n → badSecondPath plan m ≡ breaks plan n m
-  rule-ten n h =
-      let s : eqb n 5 ≡ false = ne-eqb n 5 (λ e. omega (arith, e, h)) in
-      let t : eqb n 6 ≡ false = ne-eqb n 6 (λ e. omega (arith, e, h)) in
-      let u : eqb n 7 ≡ false = ne-eqb n 7 (λ e. omega (arith, e, h)) in
-      let v : eqb n 8 ≡ false = ne-eqb n 8 (λ e. omega (arith, e, h)) in
-      let w : eqb n 9 ≡ false = ne-eqb n 9 (λ e. omega (arith, e, h)) in
-      rw (s, t, u, v, w)
-
 -- the rule of links that repeat
 pub six : (row : List ℕ) (n count r : ℕ) → n ≡ 6 → count ≡ countFor (planOf row) n → r ≡ lowest (repeats (planOf row)) (linkCount row) →
     r ≡ lowest (breaks (planOf row) n) count
 six row n count r is counted e = rw (counted, is) (e ∙ ap (lowest (repeats (planOf row))) (sym (link-count row)))
 
--- a loop over the rules, at rule n: it begins, it goes on, it gives a refusal, it is done
+-- a round of one rule: it refuses, it refuses nothing
+module _ (plan : Plan) (n : ℕ) (one : Single n) (count m : ℕ) (fc : count ≡ countFor plan n) (fm : m ≡ lowest (breaks plan n) count) where
+  no-paths : (eqb n 7 || eqb n 10) ≡ false
+  no-paths = rw (ne-eqb n 7 (one .other), ne-eqb n 10 (λ e. omega (arith, e, one .below)))
+
+  pub single-broken : m < count → (r : Refusal) → r ≡ refusalAt n m → Says (roundOf plan n) r
+  single-broken b r e after =
+      let t : ltb (lowest (breaks plan n) (countFor plan n)) (countFor plan n) ≡ true = rw (← fc, ← fm) (lt-ltb m count b) in
+      let f : lowest (breaks plan n) (countFor plan n) ≡ m = sym (fm ∙ ap (lowest (breaks plan n)) fc) in
+      let z : eqb n 0 ≡ false = ne-eqb n 0 (λ x. omega (arith, x, one .from)) in
+      rw (no-paths, t, f, e, z)
+
+  pub single-kept : count ≤ m → (r : Refusal) → r ≡ refusalAt 0 0 → Says (roundOf plan n) r
+  single-kept b r e after =
+      let t : ltb (lowest (breaks plan n) (countFor plan n)) (countFor plan n) ≡ false = rw (← fc, ← fm) (le-ltb m count b) in
+      rw (no-paths, t, e)
+
+-- what is found of a message in the round of first paths, and in that of second paths
+module _ (plan : Plan) (n : ℕ) (ps : List Place) (r : Fault) where
+  abbrev ByRound : Bool → Type 0
+  ByRound b =
+      FaultOf (λ x p s. cond b (firstRule plan ps x p s) (secondRule plan ps x p s)) (λ p. cond b (length ps) (length (placeIn ps p .second)))
+      (cond b 3 5) (length ps) r
+
+  pub message-first : n < 10 → FirstFault plan ps r → MessageFault plan n ps r
+  message-first h g = subst ByRound (sym (lt-ltb n 10 h)) g
+
+  pub message-second : 10 ≤ n → SecondFault plan ps r → MessageFault plan n ps r
+  message-second h g = subst ByRound (sym (le-ltb n 10 h)) g
+
+-- a round of paths has few rules
+pub few-rules : (n x : ℕ) → x < ruleCount n → x < 5
+few-rules n x h = by (ltb n 10) h
+  where
+    by : (t : Bool) → x < cond t 3 5 → x < 5
+    by true h = omega arith
+    by false h = h
+
+-- a round of paths, by its earliest rule that is broken
+module _ (plan : Plan) (n : ℕ) where
+  abbrev M : ℕ
+  M = length (plan .messages)
+
+  refusal : ℕ → Outcome
+  refusal x =
+      let m = lowest (breaksIt plan (roundRule plan n x)) M in
+      refuseOn (numberOf n x) m (placeBroken plan (roundRule plan n x) m) (stepBroken plan (roundRule plan n x) m)
+
+  in-order : (k x top : ℕ) → x + k ≡ top → (after : Outcome) → pathRules plan n k x after ≡
+      (let y = seek (λ z. some (breaksIt plan (roundRule plan n z)) M) k x in cond (ltb y top) (refusal y) after)
+  unfolding seek pathRules refusal
+  in-order zero x top h after = let t : ltb x top ≡ false = le-ltb x top (omega arith) in rw t
+  in-order (suc k) x top h after = by (some (breaksIt plan (roundRule plan n x)) M) (in-order k (x + 1) top (omega arith) after)
+    where
+      next : ℕ
+      next = seek (λ z. some (breaksIt plan (roundRule plan n z)) M) k (x + 1)
+
+      by : (t : Bool) → pathRules plan n k (x + 1) after ≡ cond (ltb next top) (refusal next) after →
+          cond t (refusal x) (pathRules plan n k (x + 1) after) ≡ cond (ltb (cond t x next) top) (refusal (cond t x next)) after
+      by true e = let t : ltb x top ≡ true = lt-ltb x top (omega arith) in rw t
+      by false e = e
+
+  module _ (paths : (eqb n 7 || eqb n 10) ≡ true) (f : Fault) (g : PlanFault plan n M f) where
+    whole : (after : Outcome) → roundOf plan n after ≡ cond (ltb (f .rule) (ruleCount n)) (refusal (f .rule)) after
+    whole after =
+        rw paths (in-order (ruleCount n) 0 (ruleCount n) (omega arith) after ∙ ap (λ x. cond (ltb x (ruleCount n)) (refusal x) after) (sym (g .found .earliest)))
+
+    numbered : eqb (numberOf n (f .rule)) 0 ≡ false
+    numbered = ne-eqb (numberOf n (f .rule)) 0 (by (eqb (f .rule) 0) (ltb n 10) (eqb n 7) (eqb n 10) refl refl paths)
+      where
+        by : (a b c d : Bool) → eqb n 7 ≡ c → eqb n 10 ≡ d → (c || d) ≡ true → cond a n (cond b (13 + f .rule) (15 + f .rule)) ≡ 0 → ⊥
+        by true b true d e h k z = omega (arith, eqb-true n 7 e, z)
+        by true b false true e h k z = omega (arith, eqb-true n 10 h, z)
+        by true b false false e h k z = true≢false (sym k)
+        by false true c d e h k z = omega (arith, z)
+        by false false c d e h k z = omega (arith, z)
+
+    pub paths-broken : f .rule < ruleCount n → (number : ℕ) → number ≡ numberOf n (f .rule) → (r : Refusal) →
+        r ≡ refusalOn number (f .message) (f .at) (f .step) → Says (roundOf plan n) r
+    unfolding refusal
+    paths-broken h number fn r e after =
+        let x = f .rule in
+        let rule = roundRule plan n x in
+        let t : ltb x (ruleCount n) ≡ true = lt-ltb x (ruleCount n) h in
+        let named : refusal x ≡ refused r =
+        ap (λ m. refuseOn (numberOf n x) m (placeBroken plan rule m) (stepBroken plan rule m)) (sym (g .found .first h)) ∙
+        ap (λ p. refuseOn (numberOf n x) (f .message) p (stepBroken plan rule (f .message))) (sym (g .at h)) ∙
+        ap (refuseOn (numberOf n x) (f .message) (f .at)) (sym (g .step h)) ∙
+        ap (λ k. refuseOn k (f .message) (f .at) (f .step)) (sym fn) ∙ ap refused (sym e) in
+        let z : eqb (r .no) 0 ≡ false = ap (λ y. eqb (y .no) 0) e ∙ ap (λ k. eqb k 0) fn ∙ numbered in
+        whole after ∙ ap (λ b. cond b (refusal x) after) t ∙ named ∙ sym (ap (λ b. cond b after (refused r)) z)
+
+    pub paths-kept : ruleCount n ≤ f .rule → (r : Refusal) → r ≡ refusalAt 0 0 → Says (roundOf plan n) r
+    paths-kept h r e after =
+        let t : ltb (f .rule) (ruleCount n) ≡ false = le-ltb (f .rule) (ruleCount n) h in
+        whole after ∙ rw (t, e)
+
+  -- a loop over the messages, at message m
+  pub messages-first : (f : Fault) → f .rule ≡ ruleCount n → PlanFault plan n 0 f
+  messages-first f e =
+      record {
+        found = rw e (earliest-none _ (ruleCount n) (f .message));
+        at = λ h. absurd (omega (arith, e));
+        step = λ h. absurd (omega (arith, e));
+      }
+
+  pub messages-next : (m : ℕ) (kept here next fault : Fault) → PlanFault plan n m kept → MessageFault plan n (pathOf plan m) fault →
+      here .rule ≡ fault .rule → here .message ≡ m → here .at ≡ fault .at → here .step ≡ fault .step →
+      next ≡ cond (ltb (here .rule) (kept .rule)) here kept → PlanFault plan n (m + 1) next
+  messages-next m kept here next fault g f fr fm fa fs e =
+      record {
+        found = earliest-next _ (ruleCount n) m (λ r. r .message) kept here next (g .found) fm (fr ∙ f .found .earliest) e;
+        at = one (λ r. r .rule < ruleCount n → r .at ≡ placeBroken plan (roundRule plan n (r .rule)) (r .message)) (g .at) (λ h. place (inside h));
+        step =
+            one (λ r. r .rule < ruleCount n → r .step ≡ stepBroken plan (roundRule plan n (r .rule)) (r .message)) (g .step) (λ h. way (inside h));
+      }
+    where
+      one : (P : Fault → Type 0) → P kept → P here → P next
+      one = either _ (ruleCount n) m (λ r. r .message) kept here next (g .found) fm (fr ∙ f .found .earliest) e
+
+      inside : here .rule < ruleCount n → fault .rule < ruleCount n
+      inside h = rw (← fr) h
+
+      place : fault .rule < ruleCount n → here .at ≡ placeBroken plan (roundRule plan n (here .rule)) (here .message)
+      place h = rw (fa, fr, fm) (f .found .first h)
+
+      way : fault .rule < ruleCount n → here .step ≡ stepBroken plan (roundRule plan n (here .rule)) (here .message)
+      way h = rw (fs, fr, fm, ← f .found .first h) (f .step h)
+
+-- a loop over the rounds, at round n: it begins, it goes on, it gives a refusal, it is done
 module _ (plan : Plan) where
   pub rules-first : rulesFrom plan (11 - 5) 5 ≡ rules plan
-  unfolding rulesFrom rules
+  unfolding rulesFrom pathRules rules
   rules-first = refl
 
   left : (n : ℕ) → n < 11 → 11 - n ≡ suc (11 - (n + 1))
   left n h = omega arith
 
-  module _ (n count m : ℕ) (h : n < 11) (fc : count ≡ countFor plan n) (fm : m ≡ lowest (breaks plan n) count) where
-    pub rules-next : count ≤ m → rulesFrom plan (11 - (n + 1)) (n + 1) ≡ rulesFrom plan (11 - n) n
+  module _ (n : ℕ) (r : Refusal) (h : n < 11) (says : Says (roundOf plan n) r) where
+    one-more : rulesFrom plan (11 - n) n ≡ cond (eqb (r .no) 0) (rulesFrom plan (11 - (n + 1)) (n + 1)) (refused r)
     unfolding rulesFrom
-    rules-next b =
-        let t : ltb (lowest (breaks plan n) (countFor plan n)) (countFor plan n) ≡ false = rw (← fc, ← fm) (le-ltb m count b) in
-        rw (left n h, t)
+    one-more = ap (λ k. rulesFrom plan k n) (left n h) ∙ says (rulesFrom plan (11 - (n + 1)) (n + 1))
 
-    pub rules-broken : m < count → refuse n m ≡ rulesFrom plan (11 - n) n
-    unfolding rulesFrom
-    rules-broken b =
-        let t : ltb (lowest (breaks plan n) (countFor plan n)) (countFor plan n) ≡ true = rw (← fc, ← fm) (lt-ltb m count b) in
-        let f : m ≡ lowest (breaks plan n) (countFor plan n) = fm ∙ ap (lowest (breaks plan n)) fc in
-        rw (left n h, t, f)
+    pub rules-next : r .no ≡ 0 → rulesFrom plan (11 - (n + 1)) (n + 1) ≡ rulesFrom plan (11 - n) n
+    rules-next e = let t : eqb (r .no) 0 ≡ true = eq-eqb (r .no) 0 e in sym (one-more ∙ rw t)
+
+    pub rules-broken : (r .no ≡ 0 → ⊥) → refused r ≡ rulesFrom plan (11 - n) n
+    rules-broken e = let t : eqb (r .no) 0 ≡ false = ne-eqb (r .no) 0 e in sym (one-more ∙ rw t)
 
   pub rules-done : (n : ℕ) → 11 ≤ n → gives 0 ≡ rulesFrom plan (11 - n) n
   unfolding rulesFrom

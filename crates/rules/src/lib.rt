@@ -12,15 +12,18 @@ use scope::limits::TABLE;
 use scope::refusal_at;
 use scope::refusal_on;
 ghost use mathlib.Core.Path.{_≡_};
-ghost use Prim.Native.Nat.{_<_, _≤_};
+ghost use mathlib.Core.Bool.{true, _||_};
+ghost use Prim.Native.Nat.{_<_, _≤_, _^_};
 ghost use lib.ListN.{length};
+ghost use lib.Dec.{eqb};
 ghost use Rattle.scope.specs.Limits.{mostMessages};
 ghost use Rattle.scope.specs.Lowest.{lowest};
 ghost use Rattle.scope.specs.Outcome.{gives, outcomeOf};
 ghost use Rattle.scope.specs.Row.{walkRow};
-ghost use Rattle.scope.specs.Plan.{planOf, messageCount};
+ghost use Rattle.scope.specs.Plan.{planOf, messageCount, messageAt};
 ghost use Rattle.scope.specs.Rules.{rules};
-ghost use Rattle.rules.specs.Rules.{Starts, Judging, breaks, countFor};
+ghost use Rattle.rows.specs.Lies.{MessageLies, PlanLies};
+ghost use Rattle.rules.specs.Rules.{Starts, Judging, Single, breaks, countFor, ruleCount, numberOf, MessageFault, PlanFault, Says, roundOf};
 
 // Where each message stands, 0 for those that the row does not have.
 fn message_starts(row: &[u16]) -> [usize; MESSAGES]
@@ -137,7 +140,7 @@ fn message_fault(row: &[u16], i: usize, n: usize) -> Fault
 // The fault of all messages in round n.
 fn messages_fault(row: &[u16], starts: &[usize; MESSAGES], n: usize) -> Fault
     requires { ⌜ PlanLies (now row) × Starts (now row) (messageCount (now row)) (now starts) ⌝ }
-    ensures { λ r. ⌜ PlanFault (planOf (now (row .entry))) n r ⌝ }
+    ensures { λ r. ⌜ PlanFault (planOf (now (row .entry))) n (messageCount (now (row .entry))) r ⌝ }
 {
     let count = rows::messages(row);
     let mut found = Fault {
@@ -165,7 +168,7 @@ fn messages_fault(row: &[u16], starts: &[usize; MESSAGES], n: usize) -> Fault
 
 // The round of the rules of first paths, or of second paths.
 fn path_round(row: &[u16], starts: &[usize; MESSAGES], n: usize) -> Refusal
-    requires { ⌜ PlanLies (now row) × Starts (now row) (messageCount (now row)) (now starts) × OnPaths n ⌝ }
+    requires { ⌜ PlanLies (now row) × Starts (now row) (messageCount (now row)) (now starts) × (eqb n 7 || eqb n 10 ≡ true) ⌝ }
     ensures { λ r. ⌜ Says (roundOf (planOf (now (row .entry))) n) r ⌝ }
 {
     let found = messages_fault(row, starts, n);

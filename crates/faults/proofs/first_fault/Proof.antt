@@ -9,31 +9,6 @@ use Rattle.faults.proofs.Seconds as rule
 use borrow.Author.Needs.{needs}
 use Rattle.faults.proofs.first_fault.Statement.{statement}
 use Rattle.faults.proofs.first_fault.Tie as tie
--- src/lib.rt:64:40
-slice-aggregate-first-links : tie.Need-slice-aggregate-first-links
-slice-aggregate-first-links c = search needs
-
--- src/lib.rt:64:9
-first-links-requires : tie.Need-first-links-requires
-first-links-requires c κs = search needs
-
--- src/lib.rt:65:48
-slice-aggregate-number : tie.Need-slice-aggregate-number
-slice-aggregate-number c = search needs
-
--- src/lib.rt:65:35
-number-requires : tie.Need-number-requires
-number-requires c κs = search needs
-
--- src/lib.rt:65:9
-link-from-requires : tie.Need-link-from-requires
-link-from-requires c κs = search needs
-
--- src/lib.rt:66:43
-array-share-prefix-path : tie.Need-array-share-prefix-path
-array-share-prefix-path c = search needs
-
--- src/lib.rt:66:43
 slice-aggregate-path-fault : tie.Need-slice-aggregate-path-fault
 slice-aggregate-path-fault c =
     let f = c .before .before .before .before .before .first-links in
@@ -41,13 +16,11 @@ slice-aggregate-path-fault c =
     law.count-is (a .args .row .now) (planOf (a .args .row .now)) (a .args .i) (f .result) _ (f .last .1 .1 .0) (f .ensures)
     (omega (arith, f .ensures .count, f .kept .1 .1 .0, a .pre .2))
 
--- src/lib.rt:66:9
 path-fault-requires : tie.Need-path-fault-requires
 path-fault-requires c κs =
     let a = c .before .before .before .before .before .before .before .before in
     (a .pre .0, omega (arith, c .before .link-from .ensures, from-small (a .args .row .now) (a .pre .0) (c .before .before .number .result)))
 
--- src/lib.rt:59:1
 returns : tie.Need-returns
 returns c =
     let f = c .before .before .before .before .before .before .first-links in
@@ -59,13 +32,5 @@ returns c =
 pub first-fault-spec : {M : Type 1} → statement M
 first-fault-spec =
     tie.close
-    (tie.spec
-    slice-aggregate-first-links
-    first-links-requires
-    slice-aggregate-number
-    number-requires
-    link-from-requires
-    array-share-prefix-path
-    slice-aggregate-path-fault
-    path-fault-requires
-    returns)
+    (tie.spec (λ c. search needs) (λ c κs. search needs) (λ c. search needs) (λ c κs. search needs) (λ c κs. search needs) (λ c. search needs)
+    slice-aggregate-path-fault path-fault-requires returns)

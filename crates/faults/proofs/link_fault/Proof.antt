@@ -8,17 +8,11 @@ use Rattle.faults.proofs.Seconds as rule
 use borrow.Author.Needs.{needs}
 use Rattle.faults.proofs.link_fault.Statement.{statement}
 use Rattle.faults.proofs.link_fault.Tie as tie
--- src/lib.rt:126:9
-link-from-requires : tie.Need-link-from-requires
-link-from-requires c κs = search needs
-
--- src/lib.rt:127:9
 path-fault-requires : tie.Need-path-fault-requires
 path-fault-requires c κs =
     let a = c .before .before .before .args in
     (c .before .before .before .pre .0, omega (arith, c .link-from .ensures, from-small (a .row .now) (c .before .before .before .pre .0) (a .link)))
 
--- src/lib.rt:129:9
 returns : tie.Need-returns
 returns c =
     let a = c .before .before .before .before .before .before .args in
@@ -26,15 +20,6 @@ returns c =
     rule.fault-early (planOf (a .row .now)) (a .end) (secondOf (a .link) (a .second .now)) _ (c .before .before .before .link-from .ensures) (walk .result)
     (walk .ensures) (c .if1 .taken)
 
--- src/lib.rt:131:8
-path-end-requires : tie.Need-path-end-requires
-path-end-requires c κs = search needs
-
--- src/lib.rt:136:19
-sub-t10 : tie.Need-sub-t10
-sub-t10 c = search needs
-
--- src/lib.rt:132:9
 returns-2 : tie.Need-returns-2
 returns-2 c =
     let a = c .before .before .before .before .before .before .before .before .args in
@@ -42,7 +27,6 @@ returns-2 c =
     rule.fault-end (planOf (a .row .now)) (a .end) (secondOf (a .link) (a .second .now)) _ (c .before .before .before .before .before .link-from .ensures) (walk .result)
     (walk .ensures) (c .before .before .if1 .left) _ (c .before .path-end .ensures) (c .before .before .before .before .before .before .before .before .pre .2) (c .if2 .taken)
 
--- src/lib.rt:140:9
 returns-3 : tie.Need-returns-3
 returns-3 c =
     let a = c .before .before .before .before .before .before .before .before .before .before .args in
@@ -50,11 +34,6 @@ returns-3 c =
     rule.fault-again (planOf (a .row .now)) (a .end) (secondOf (a .link) (a .second .now)) _ (c .before .before .before .before .before .before .before .link-from .ensures) (walk .result)
     (walk .ensures) (c .before .before .before .before .if1 .left) _ (c .before .before .before .path-end .ensures) (c .before .before .if2 .left) (c .if3 .taken)
 
--- src/lib.rt:147:8
-number-requires : tie.Need-number-requires
-number-requires c κs = search needs
-
--- src/lib.rt:148:9
 returns-4 : tie.Need-returns-4
 returns-4 c =
     let a = c .before .before .before .before .before .before .before .before .before .before .before .before .args in
@@ -63,7 +42,6 @@ returns-4 c =
     (walk .ensures) (c .before .before .before .before .before .before .if1 .left) _ (c .before .before .before .before .before .path-end .ensures) (c .before .before .before .before .if2 .left) (c .before .before .if3 .left) _
     (c .before .number .ensures .is) (c .before .before .before .before .before .before .before .before .before .before .before .before .pre .2) (c .if4 .taken)
 
--- src/lib.rt:122:1
 returns-5 : tie.Need-returns-5
 returns-5 c =
     let a = c .before .before .before .before .before .before .before .before .before .before .before .before .args in
@@ -75,14 +53,5 @@ returns-5 c =
 pub link-fault-spec : {M : Type 1} → statement M
 link-fault-spec =
     tie.close
-    (tie.spec
-    link-from-requires
-    path-fault-requires
-    returns
-    path-end-requires
-    sub-t10
-    returns-2
-    returns-3
-    number-requires
-    returns-4
-    returns-5)
+    (tie.spec (λ c κs. search needs) path-fault-requires returns (λ c κs. search needs) (λ c. search needs) returns-2 returns-3
+    (λ c κs. search needs) returns-4 returns-5)

@@ -9,39 +9,25 @@ use Rattle.faults.proofs.Laws as law
 use borrow.Author.Needs.{needs}
 use Rattle.faults.proofs.place_fault.Statement.{statement}
 use Rattle.faults.proofs.place_fault.Tie as tie
--- src/lib.rt:168:9
-place-at-requires : tie.Need-place-at-requires
-place-at-requires c κs = search needs
-
--- src/lib.rt:170:9
 returns : tie.Need-returns
 returns c =
     let a = c .before .before .before .before .args in
     rw (law.second-none (a .row .now) (a .at) _ (c .before .before .place-at .ensures) (c .if1 .taken)) (earliest-none _ 5 0)
 
--- src/lib.rt:179:37
-mul-link-fault : tie.Need-mul-link-fault
-mul-link-fault c = search needs
-
--- src/lib.rt:179:37
 sub-link-fault : tie.Need-sub-link-fault
 sub-link-fault c = omega (arith, law.second-order _ _ _ (c .before .before .place-at .ensures) (c .if1 .left) (c .before .before .before .before .pre .2))
 
--- src/lib.rt:179:37
 part-link-fault-start : tie.Need-part-link-fault-start
 part-link-fault-start c = omega (arith, law.second-order _ _ _ (c .before .before .place-at .ensures) (c .if1 .left) (c .before .before .before .before .pre .2), law.second-within _ _ _ (c .before .before .place-at .ensures) (c .if1 .left) (c .before .before .before .before .pre .2))
 
--- src/lib.rt:179:37
 part-link-fault-end : tie.Need-part-link-fault-end
 part-link-fault-end c = omega (arith, law.second-within _ _ _ (c .before .before .place-at .ensures) (c .if1 .left) (c .before .before .before .before .pre .2))
 
--- src/lib.rt:179:5
 link-fault-requires : tie.Need-link-fault-requires
 link-fault-requires c κs =
     let p = c .before .before .before .place-at in
     (c .before .before .before .before .before .pre .0, p .ensures .link-small, law.second-some _ _ _ (p .ensures) (c .before .if1 .left) (c .before .before .before .before .before .pre .2))
 
--- src/lib.rt:164:1
 returns-2 : tie.Need-returns-2
 returns-2 c =
     let p = c .before .before .before .before .place-at in
@@ -51,12 +37,5 @@ returns-2 c =
 pub place-fault-spec : {M : Type 1} → statement M
 place-fault-spec =
     tie.close
-    (tie.spec
-    place-at-requires
-    returns
-    mul-link-fault
-    sub-link-fault
-    part-link-fault-start
-    part-link-fault-end
-    link-fault-requires
+    (tie.spec (λ c κs. search needs) returns (λ c. search needs) sub-link-fault part-link-fault-start part-link-fault-end link-fault-requires
     returns-2)

@@ -17,26 +17,15 @@ Inv-loop row end i n at₀ found₀ k₀ at found k = Passing row i n at k × Pl
 abbrev μ-loop : tie.MeasureT-loop
 μ-loop row end i n at₀ found₀ k₀ at found k = n - k
 
--- src/lib.rt:187:9
-place-count-requires : tie.Need-place-count-requires Inv-loop μ-loop
-place-count-requires c κs = search needs
-
--- src/lib.rt:188:18
-add-at : tie.Need-add-at Inv-loop μ-loop
-add-at c = search needs
-
--- src/lib.rt:196:5
 loop-holds : tie.Need-loop-holds Inv-loop μ-loop
 loop-holds c =
     let a = c .before .before .args in
     (law.passing-first (a .row .now) (a .i) (c .place-count .result), rule.placing-first (planOf (a .row .now)) (a .end) (messageAt (a .row .now) (a .i)) _ refl)
 
--- src/lib.rt:197:13
 place-at-requires : tie.Need-place-at-requires Inv-loop μ-loop
 place-at-requires c κs =
     omega (arith, c .before .loop .inv .0 .small, c .before .loop .inv .0 .most, c .before .before .place-count .ensures .small)
 
--- src/lib.rt:198:13
 place-fault-requires : tie.Need-place-fault-requires Inv-loop μ-loop
 place-fault-requires c κs =
     let a = c .before .before .before .before .before .args in
@@ -45,19 +34,6 @@ place-fault-requires c κs =
     let p : PlaceLies (a .row .now) (l .at) = rw (l .inv .0 .index) (c .before .before .before .before .before .pre .2 .place (l .k) h) in
     (c .before .before .before .before .before .pre .0, omega (arith, l .inv .0 .small, l .inv .0 .most, c .before .before .before .place-count .ensures .small), p .lies)
 
--- src/lib.rt:199:9
-earlier-requires : tie.Need-earlier-requires Inv-loop μ-loop
-earlier-requires c κs = search needs
-
--- src/lib.rt:209:9
-add-k : tie.Need-add-k Inv-loop μ-loop
-add-k c = search needs
-
--- src/lib.rt:196:5
-loop-less : tie.Need-loop-less Inv-loop μ-loop
-loop-less c = search needs
-
--- src/lib.rt:196:5
 loop-again : tie.Need-loop-again Inv-loop μ-loop
 loop-again c =
     let a = c .before .before .before .before .before .before .before .args in
@@ -72,7 +48,6 @@ loop-again c =
       (a .end) (fault .result) (fault .ensures)) refl refl refl (c .earlier .ensures),
     )
 
--- src/lib.rt:183:1
 returns : tie.Need-returns Inv-loop μ-loop
 returns c =
     let a = c .before .before .before .before .args in
@@ -83,16 +58,5 @@ returns c =
 pub places-fault-spec : {M : Type 1} → statement M
 places-fault-spec =
     tie.close
-    (tie.spec
-    Inv-loop
-    μ-loop
-    place-count-requires
-    add-at
-    loop-holds
-    place-at-requires
-    place-fault-requires
-    earlier-requires
-    add-k
-    loop-less
-    loop-again
-    returns)
+    (tie.spec Inv-loop μ-loop (λ c κs. search needs) (λ c. search needs) loop-holds place-at-requires place-fault-requires
+    (λ c κs. search needs) (λ c. search needs) (λ c. search needs) loop-again returns)

@@ -6,19 +6,6 @@ use Rattle.faults.proofs.Laws as law
 use borrow.Author.Needs.{needs}
 use Rattle.faults.proofs.second_fault.Statement.{statement}
 use Rattle.faults.proofs.second_fault.Tie as tie
--- src/lib.rt:220:40
-slice-aggregate-first-links : tie.Need-slice-aggregate-first-links
-slice-aggregate-first-links c = search needs
-
--- src/lib.rt:220:9
-first-links-requires : tie.Need-first-links-requires
-first-links-requires c κs = search needs
-
--- src/lib.rt:221:36
-array-share-prefix-path : tie.Need-array-share-prefix-path
-array-share-prefix-path c = search needs
-
--- src/lib.rt:221:36
 slice-aggregate-path-end : tie.Need-slice-aggregate-path-end
 slice-aggregate-path-end c =
     let f = c .before .before .first-links in
@@ -26,15 +13,6 @@ slice-aggregate-path-end c =
     law.count-is (a .args .row .now) (planOf (a .args .row .now)) (a .args .i) (f .result) _ (f .last .1 .1 .0) (f .ensures)
     (omega (arith, f .ensures .count, f .kept .1 .1 .0, a .pre .2 .few))
 
--- src/lib.rt:221:9
-path-end-requires : tie.Need-path-end-requires
-path-end-requires c κs = search needs
-
--- src/lib.rt:222:5
-places-fault-requires : tie.Need-places-fault-requires
-places-fault-requires c κs = search needs
-
--- src/lib.rt:215:1
 returns : tie.Need-returns
 returns c =
     let f = c .before .before .before .before .first-links in
@@ -45,11 +23,5 @@ returns c =
 pub second-fault-spec : {M : Type 1} → statement M
 second-fault-spec =
     tie.close
-    (tie.spec
-    slice-aggregate-first-links
-    first-links-requires
-    array-share-prefix-path
-    slice-aggregate-path-end
-    path-end-requires
-    places-fault-requires
-    returns)
+    (tie.spec (λ c. search needs) (λ c κs. search needs) (λ c. search needs) slice-aggregate-path-end (λ c κs. search needs)
+    (λ c κs. search needs) returns)

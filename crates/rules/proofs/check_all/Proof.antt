@@ -19,32 +19,28 @@ abbrev μ-loop : tie.MeasureT-loop
 loop-holds : tie.Need-loop-holds Inv-loop μ-loop
 loop-holds c = (law.rules-first (planOf (c .before .before .args .row .now)), omega arith, omega arith)
 
-lowest-breaking-requires : tie.Need-lowest-breaking-requires Inv-loop μ-loop
-lowest-breaking-requires c κs = (c .before .before .before .before .before .pre, c .before .before .loop .inv .1, c .count-for .ensures)
+round-requires : tie.Need-round-requires Inv-loop μ-loop
+round-requires c κs = (c .before .before .before .before .pre, c .before .loop .inv .1, c .loop-test .taken)
 
 returns : tie.Need-returns Inv-loop μ-loop
-returns c = let plan = planOf (c .before .before .before .before .before .before .before .before .args .row .now) in
-    c .refuse .ensures ∙ law.rules-broken plan (c .before .before .before .before .before .loop .n)
-    (c .before .before .before .count-for .result) (c .before .before .lowest-breaking .result)
-    (c .before .before .before .before .loop-test .taken) (c .before .before .before .count-for .ensures)
-    (c .before .before .lowest-breaking .ensures) (c .before .if1 .taken) ∙ c .before .before .before .before .before .loop .inv .0
+returns c =
+    let plan = planOf (c .before .before .before .before .before .before .before .args .row .now) in
+    let l = c .before .before .before .before .loop in
+    law.rules-broken plan (l .n) _ (c .before .before .before .loop-test .taken) (c .before .before .round .ensures) (c .if1 .taken) ∙ l .inv .0
 
 loop-again : tie.Need-loop-again Inv-loop μ-loop
-loop-again c = let plan = planOf (c .before .before .before .before .before .before .before .args .row .now) in (
-  law.rules-next plan (c .before .before .before .before .loop .n) (c .before .before .count-for .result)
-      (c .before .lowest-breaking .result) (c .before .before .before .loop-test .taken) (c .before .before .count-for .ensures)
-      (c .before .lowest-breaking .ensures) (c .if1 .left) ∙ c .before .before .before .before .loop .inv .0,
-  omega
-      (arith, c .before .before .before .before .loop .inv .1),
-  omega (arith, c .before .before .before .loop-test .taken),
-)
+loop-again c =
+    let plan = planOf (c .before .before .before .before .before .before .before .args .row .now) in
+    let l = c .before .before .before .before .loop in (
+      law.rules-next plan (l .n) _ (c .before .before .before .loop-test .taken) (c .before .before .round .ensures) (c .if1 .left) ∙ l .inv .0,
+      omega (arith, l .inv .1),
+      omega (arith, c .before .before .before .loop-test .taken),
+    )
 
 returns-2 : tie.Need-returns-2 Inv-loop μ-loop
-returns-2 c = law.rules-done (planOf (c .before .before .before .before .args .row .now)) (c .before .loop .n) (c .loop-test .left) ∙ c
-    .before .loop .inv .0
+returns-2 c = law.rules-done (planOf (c .before .before .before .before .args .row .now)) (c .before .loop .n) (c .loop-test .left) ∙ c .before .loop .inv .0
 
 pub check-all-spec : {M : Type 1} → statement M
 check-all-spec =
     tie.close
-    (tie.spec Inv-loop μ-loop loop-holds (λ c κs. search needs) lowest-breaking-requires (λ c κs. search needs) returns (λ c. search needs)
-    (λ c. search needs) loop-again returns-2)
+    (tie.spec Inv-loop μ-loop loop-holds round-requires returns (λ c. search needs) (λ c. search needs) loop-again returns-2)
