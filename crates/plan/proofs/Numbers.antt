@@ -13,7 +13,9 @@ use Rattle.scope.specs.Outcome.{Outcome, gives, refused, refuse, andThen, unles
 use Rattle.scope.specs.Fields.{width, step, opening, edition}
 use Rattle.scope.specs.Row.{walkFrom, walkRow}
 use Rattle.scope.specs.Plan.{Plan, planOf}
-use Rattle.scope.specs.Good.{badEnds, repeats, badFirstPath, badSlots, badTable, badSecondPath}
+use Rattle.scope.specs.Good.{badEnds, repeats, badSlots, badTable}
+use Rattle.scope.specs.PathRules.{PathRule, breaksIt, unlessOn, firstNoLink, firstApart, firstAgain}
+use Rattle.scope.specs.PathRules.{secondNoLink, secondApart, secondAstray, secondAgain, secondReplaced}
 use Rattle.scope.specs.Rules.{rules}
 use Rattle.scope.specs.Questions.{judge}
 
@@ -46,15 +48,25 @@ unless : (k : ℕ) (broken : ℕ → Bool) (n : ℕ) (rest : Outcome) → (k ≡
 unfolding Numbered
 unless k broken n rest h g = pick (ltb (lowest broken n) n) (refuse k (lowest broken n)) rest h g
 
+unless-path : (plan : Plan) (k : ℕ) (rule : PathRule) (rest : Outcome) → (k ≡ 0 → ⊥) → Numbered rest → Numbered (unlessOn plan k rule rest)
+unfolding Numbered
+unless-path plan k rule rest h g = pick (ltb (lowest (breaksIt plan rule) (length (plan .messages))) (length (plan .messages))) _ rest h g
+
 rules-numbered : (plan : Plan) → Numbered (rules plan)
 unfolding rules Numbered
 rules-numbered plan =
     unless 5 (badEnds plan) (length (plan .links)) _ (λ e. omega arith)
     (unless 6 (repeats plan) (length (plan .links)) _ (λ e. omega arith)
-    (unless 7 (badFirstPath plan) (length (plan .messages)) _ (λ e. omega arith)
+    (unless-path plan 7 (firstNoLink plan) _ (λ e. omega arith)
+    (unless-path plan 14 (firstApart plan) _ (λ e. omega arith)
+    (unless-path plan 15 (firstAgain plan) _ (λ e. omega arith)
     (unless 8 (badSlots plan) (length (plan .messages)) _ (λ e. omega arith)
     (unless 9 (badTable plan) (length (plan .messages)) _ (λ e. omega arith)
-    (unless 10 (badSecondPath plan) (length (plan .messages)) (gives 0) (λ e. omega arith) tt)))))
+    (unless-path plan 10 (secondNoLink plan) _ (λ e. omega arith)
+    (unless-path plan 16 (secondApart plan) _ (λ e. omega arith)
+    (unless-path plan 17 (secondAstray plan) _ (λ e. omega arith)
+    (unless-path plan 18 (secondAgain plan) _ (λ e. omega arith)
+    (unless-path plan 19 (secondReplaced plan) (gives 0) (λ e. omega arith) tt)))))))))))
 
 pub judge-numbered : (row : List ℕ) (r : Refusal) → judge row ≡ refused r → r .no ≡ 0 → ⊥
 unfolding judge Numbered
