@@ -14,13 +14,17 @@ extern int printf(const char *, ...);
 extern int atoi(const char *);
 
 static u8 file[8192];
-static int size, at, count, place;
+static int size, at, count, place, on, step; /* of a refusal the place; of one of a path the message, the place and the step */
 static u16 row[10405];
 
-static int refuse(int no, int where) { /* every refusal is made here */
-    place = where;
+static int refuse_on(int no, int m, int p, int s) { /* every refusal is made here */
+    place = m;
+    on = p;
+    step = s;
     return no;
 }
+
+static int refuse(int no, int where) { return refuse_on(no, where, 0, 0); }
 
 static int field(int w) { /* most significant bit first; -1 where the file ends */
     if (at + w > 8 * size) return -1;
@@ -109,19 +113,57 @@ static int walk_row(void) { /* refusals 1 to 4 of the row */
 
 static int place_size(int i) { return row[i + 2] ? 5 + row[i + 3] : 3; }
 
-/* Links below E that join up from a vertex, no vertex twice: where they end, or -1. */
-static int joins(int v, const u16 *es, int n) {
+/* The earliest rule that links from a vertex break, and its first step: 0, a link not below E; 1, links that do not join; 2, a vertex met twice;
+   3, none. */
+static int broken(int v, const u16 *es, int n, int *s) {
     usize seen = 1ul << v;
+    int rule = 3;
     for (int i = 0; i < n; i++) {
         int e = es[i];
-        if (e >= E || from[e] != v || seen >> to[e] & 1) return -1;
+        if (e >= E) return *s = i, 0;
+        int here = from[e] != v ? 1 : seen >> to[e] & 1 ? 2 : 3;
+        if (here < rule) rule = here, *s = i;
         v = to[e];
         seen |= 1ul << v;
     }
-    return v;
+    return rule;
 }
 
-static int rules(void) { /* refusals 5 to 10: one loop a rule */
+static int end[32]; /* where the first path of each message ends */
+
+static int first_paths(void) { /* refusals 7, 14 and 15: each path is walked once */
+    static const int numbers[] = {7, 14, 15};
+    u16 links[16];
+    int best = 3, no = 0;
+    for (int m = 0; m < M; m++) {
+        int n = row[first[m]] + 1, i = first[m] + 1, s = 0;
+        for (int p = 0; p < n; p++, i += place_size(i)) links[p] = row[i];
+        int rule = broken(from[links[0]], links, n, &s);
+        end[m] = to[links[n - 1]];
+        if (rule < best) best = rule, no = refuse_on(numbers[rule], m, s, s);
+    }
+    return no;
+}
+
+static int second_paths(void) { /* refusals 10 and 16 to 19, likewise */
+    static const int numbers[] = {10, 16, 17, 18, 19};
+    int best = 5, no = 0;
+    for (int m = 0; m < M; m++) {
+        int n = row[first[m]] + 1, i = first[m] + 1;
+        for (int p = 0; p < n; p++, i += place_size(i)) {
+            if (!row[i + 2]) continue;
+            const u16 *es = row + i + 4;
+            int k = row[i + 3] + 1, s = 0, rule = broken(from[row[i]], es, k, &s);
+            if (rule > 1) rule = rule == 2 ? 3 : 5;
+            if (rule > 2 && to[es[k - 1]] != end[m]) rule = 2, s = k - 1;
+            if (rule > 4 && es[0] == row[i]) rule = 4, s = 0;
+            if (rule < best) best = rule, no = refuse_on(numbers[rule], m, p, s);
+        }
+    }
+    return no;
+}
+
+static int rules(void) { /* refusals 5 to 10 and 14 to 19: one loop a rule, and one over the first paths, and over the second paths */
     for (int i = 0; i < E; i++)
         if (from[i] >= V || to[i] >= V || from[i] == to[i]) return refuse(5, i);
     usize there[64] = {0}; /* for each vertex those that a link leads to from it */
@@ -129,13 +171,8 @@ static int rules(void) { /* refusals 5 to 10: one loop a rule */
         if (there[from[i]] >> to[i] & 1) return refuse(6, i);
         there[from[i]] |= 1ul << to[i];
     }
-    int end[32];
-    u16 links[16];
-    for (int m = 0; m < M; m++) {
-        int n = row[first[m]] + 1, i = first[m] + 1;
-        for (int p = 0; p < n; p++, i += place_size(i)) links[p] = row[i];
-        if (links[0] >= E || (end[m] = joins(from[links[0]], links, n)) < 0) return refuse(7, m);
-    }
+    int no = first_paths();
+    if (no) return no;
     for (int m = 0; m < M; m++) {
         int n = row[first[m]] + 1, i = first[m] + 1, last = -1;
         for (int p = 0; p < n; p++, i += place_size(i)) {
@@ -151,20 +188,17 @@ static int rules(void) { /* refusals 5 to 10: one loop a rule */
             table[row[i + 1] * 64 + row[i]] = m + 1;
         }
     }
-    for (int m = 0; m < M; m++) {
-        int n = row[first[m]] + 1, i = first[m] + 1;
-        for (int p = 0; p < n; p++, i += place_size(i))
-            if (row[i + 2] && (row[i + 4] == row[i] || joins(from[row[i]], row + i + 4, row[i + 3] + 1) != end[m])) return refuse(10, m);
-    }
-    return 0;
+    return second_paths();
 }
 
-static int judge(void) { /* refusals 1 to 10 of the row */
+static int judge(void) { /* refusals 1 to 10 and 14 to 19 of the row */
     int r = walk_row();
     return r ? r : rules();
 }
 
-static int small(int no, int answer) { return no ? no % 16 * 4096 + place % 4096 : answer; } /* a refusal or an answer as a small number */
+static int small(int no, int answer) { /* a refusal or an answer as a small number */
+    return no ? ((no % 32 * 1024 + place % 1024) * 31 + on % 16 * 16 + step % 16) % 65536 : answer;
+}
 
 static int read_plan(void) {
     int r = read_fields();

@@ -4,6 +4,7 @@
 // (bench/bench.c) prints too.
 ghost use Prim.Native.Nat.{_≤_, _<_};
 ghost use lib.ListN.{length};
+ghost use Rattle.scope.specs.Limits.{longestRow};
 use explanations::Explanation;
 use scope::Answer;
 use scope::Refusal;
@@ -25,7 +26,7 @@ struct Question {
 fn refused(r: Refusal) -> usize
     ensures { λ r. ⌜ r < 65536 ⌝ }
 {
-    r.no % 16 * 4096 + r.place % 4096
+    ((r.no % 32 * 1024 + r.place % 1024) * 31 + r.at % 16 * 16 + r.step % 16) % 65536
 }
 
 // An answer as a small number.
@@ -115,6 +116,14 @@ fn ask(
     ask_row(q, &row[0..n], capture, out)
 }
 
+// The row of a file, by its form alone: how many numbers it has. A row that breaks a rule can be judged too.
+fn unpacked(file: &[u8], row: &mut [u16]) -> usize
+    requires { ⌜ longestRow ≤ length (now row) ⌝ }
+{
+    let unpacked = forms::unpack(file, row);
+    unpacked.count
+}
+
 // The same question so many times, and the checksum.
 fn ask_all(
     q: Question,
@@ -123,8 +132,10 @@ fn ask_all(
     row: &mut [u16],
     capture: &[u16],
     out: &mut [u16],
-) -> usize {
-    let n = small(plan::read_file(file, row));
+) -> usize
+    requires { ⌜ longestRow ≤ length (now row) ⌝ }
+{
+    let n = unpacked(file, row);
     if row.len() < n {
         return 0;
     }
