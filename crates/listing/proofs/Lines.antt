@@ -5,12 +5,13 @@ use mathlib.Core.List.{List, [], _∷_, _++_, append-assoc}
 use native.Mathlib.Omega.{arith}
 use native.Mathlib.Nat.{mul-le-mul}
 use lib.ListN.{length, getD, length-append}
-use Rattle.scope.specs.Lines.{decimal, header, eventLine, eventLines, arrivedLine, refusedLine, listing}
+use Rattle.scope.specs.Lines.{decimal, lineFeed, header, eventLine, eventLines, arrivedLine, refusedText, refusedLine, listing}
 use Rattle.scope.specs.declared.Refusal.{Refusal}
 use Rattle.scope.specs.Outcome.{gives}
 use Rattle.scope.specs.Plan.{planOf, messageCount, timeoutOf, firstMessage, messagesAt, afterMessage}
 use Rattle.text.specs.Text.{Told}
 use Rattle.text.proofs.Decimal.{decimal-all}
+use Rattle.text.proofs.Refused.{refused-text-size}
 
 -- a number and the byte after it
 abbrev pub part : ℕ → ℕ → List ℕ
@@ -64,11 +65,11 @@ arrived-size n m =
     let b = decimal-all m in
     simp length-append (omega arith)
 
-pub refused-size : (r : Refusal) → length (refusedLine r) ≤ 56
+pub refused-size : (r : Refusal) → length (refusedLine r) ≤ 98
 refused-size r =
-    let a = decimal-all (r .no) in
-    let b = decimal-all (r .place) in
-    simp length-append (omega arith)
+    let a = refused-text-size r in
+    let b = length-append (refusedText r) lineFeed in
+    omega arith
 
 pub refused-told : (r : Refusal) → Told 0 (refusedLine r)
 refused-told r = record { fits = omega (arith, refused-size r) }

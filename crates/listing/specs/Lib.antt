@@ -1,3 +1,2 @@
-pub mod Phrase
 pub mod Prints
 pub mod Room

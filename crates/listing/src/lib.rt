@@ -1,8 +1,7 @@
 // The lines that the programs print, laid into lent bytes: document 01, "Programs". `listing` is the whole text of a replay, `refusal_text`
 // that of a refusal; they ask nothing of what they print, and refuse with 13 where the buffer is too short. It leans on specs/Lines of
-// `scope`, on `rows::number` (the total read of a row) and on `text` (a byte, a word, a number).
+// `scope`, on `rows::number` (the total read of a row) and on `text` (a byte, a word, a number, a refusal).
 ghost use Prim.Native.Nat.{_*_, _<_, _^_};
-ghost use Rattle.listing.specs.Phrase.{phrase};
 ghost use Rattle.listing.specs.Prints.{Prints};
 ghost use Rattle.text.specs.Text.{Puts, Told};
 ghost use Rattle.scope.specs.Lines.{eventLine, eventLines, arrivedLine, refusedLine};
@@ -13,8 +12,10 @@ use rows::number;
 use scope::Answer;
 use scope::Refusal;
 use scope::refuse;
+use text::put_byte;
 use text::put_decimal;
 use text::put_number;
+use text::put_refusal;
 use text::put_word;
 
 // One event: slot, message, kind and number.
@@ -51,30 +52,23 @@ fn event_lines(out: &mut [u8], at: usize, messages: usize, events: &[u16], lines
     next
 }
 
-// Two words with a number after each, and a line feed.
-fn phrase_line(out: &mut [u8], at: usize, v: &[u8], a: usize, w: &[u8], b: usize) -> usize
-    requires { ⌜ Told at (phrase (now v) a (now w) b) ⌝ }
-    ensures { λ r. ⌜ Puts (phrase (now (v .entry)) a (now (w .entry)) b) (now (out .entry)) (now (out .exit)) at r ⌝ }
-{
-    let i = put_word(out, at, v);
-    let j = put_decimal(out, i, a);
-    let k = put_word(out, j, w);
-    put_number(out, k, b, b'\n')
-}
-
 // How many messages arrived, of how many.
 fn arrived_line(out: &mut [u8], at: usize, n: usize, messages: usize) -> usize
     requires { ⌜ Told at (arrivedLine n messages) ⌝ }
     ensures { λ r. ⌜ Puts (arrivedLine n messages) (now (out .entry)) (now (out .exit)) at r ⌝ }
 {
-    phrase_line(out, at, b"arrived ", n, b" of ", messages)
+    let first = put_word(out, at, b"arrived ");
+    let word = put_decimal(out, first, n);
+    let last = put_word(out, word, b" of ");
+    put_number(out, last, messages, b'\n')
 }
 
-// A refusal: its number and its place.
+// A refusal.
 fn refused_line(out: &mut [u8], refusal: Refusal) -> usize
     ensures { λ r. ⌜ Puts (refusedLine refusal) (now (out .entry)) (now (out .exit)) 0 r ⌝ }
 {
-    phrase_line(out, 0, b"refused ", refusal.no, b" place ", refusal.place)
+    let last = put_refusal(out, 0, refusal);
+    put_byte(out, last, b'\n')
 }
 
 // The listing of a replay with n arrivals: the header, its events and the arrivals.
@@ -92,6 +86,9 @@ fn replayed(out: &mut [u8], n: usize, row: &[u16], events: &[u16]) -> usize
 // Bytes enough for every listing of a plan of at most 32 messages and timeout of at most 64 (proofs/Room).
 pub const ROOM: usize = 36942;
 
+// Bytes enough for the line of every refusal (proofs/Lines, `refused-size`).
+pub const REFUSAL_ROOM: usize = 98;
+
 // The listing of a replay of a plan's row with n arrivals and these events: how many bytes, or refusal 13 with the bytes needed.
 pub fn listing(n: usize, row: &[u16], events: &[u16], out: &mut [u8]) -> Answer
     ensures { λ r. ⌜ Prints (Lines·listing (gives n) (planOf (now (row .entry))) (now (events .entry))) (now (out .entry))
@@ -105,7 +102,8 @@ pub fn listing(n: usize, row: &[u16], events: &[u16], out: &mut [u8]) -> Answer
     Answer::Gives(needed)
 }
 
-// The line of a refusal, `refused N place P`: how many bytes, or refusal 13 with the bytes needed.
+// The line of a refusal, `refused N place P` or, of a rule of paths, `refused N place MESSAGE PLACE STEP`: how many bytes, or refusal 13
+// with the bytes needed.
 pub fn refusal_text(refusal: Refusal, out: &mut [u8]) -> Answer
     ensures { λ r. ⌜ Prints (refusedLine refusal) (now (out .entry)) (now (out .exit)) r ⌝ }
 {

@@ -20,7 +20,7 @@ fn packed(text: &[u8], n: usize, plan: &mut [u8]) -> Answer
 
 // The line of a refusal.
 fn refuse(refusal: Refusal) {
-    let mut out = [0u8; 64];
+    let mut out = [0u8; listing::REFUSAL_ROOM];
     let said = listing::refusal_text(refusal, &mut out);
     program_io::print(b"pack", said, &out);
 }

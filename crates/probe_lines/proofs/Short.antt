@@ -5,14 +5,15 @@ use mathlib.Core.List.{List, [], _∷_, _++_}
 use native.Mathlib.Omega.{arith}
 use lib.ListN.{length, take, drop, length-append, length-take}
 use lib.IntN.{ℤ, pos, negsuc}
-use Rattle.scope.specs.Lines.{decimal, signed, space, lineFeed, spaced}
+use Rattle.scope.specs.Lines.{decimal, signed, space, lineFeed, spaced, refusedText, refusedLine}
 use Rattle.scope.specs.declared.Refusal.{Refusal}
 use Rattle.scope.specs.Outcome.{Outcome, gives, refused}
 use Rattle.text.specs.Text.{Told}
 use Rattle.text.proofs.Decimal.{decimal-all}
+use Rattle.text.proofs.Refused.{refused-text-size}
 use Rattle.probe_words.specs.Words.{hexWord, pairsOf, filler, filler16, allAre}
-use Rattle.probe_lines.specs.Answers.{ending, okText, refusedText, numbersEnd, bytesEnd, told, toldBytes, Near}
-use Rattle.probe_lines.specs.Answers.{slackLine, refusedLine, noListLine, listLine, numbersOf, partLine, placeLine, Worded}
+use Rattle.probe_lines.specs.Answers.{ending, okText, numbersEnd, bytesEnd, told, toldBytes, Near}
+use Rattle.probe_lines.specs.Answers.{slackLine, noListLine, listLine, numbersOf, partLine, placeLine, Worded}
 
 spaced-short : (s : List ℕ) → length (spaced s) ≤ 21 * length s
 unfolding spaced
@@ -43,13 +44,6 @@ signed-short : (z : ℤ) → length (signed z) ≤ 21
 signed-short (pos n) = let d = decimal-all n in omega arith
 signed-short (negsuc n) = let d = decimal-all (suc n) in omega arith
 
-refused-short : (r : Refusal) → length (refusedText r) ≤ 55
-refused-short r =
-    let a = length-append (decimal (r .no)) ((32 ∷ 112 ∷ 108 ∷ 97 ∷ 99 ∷ 101 ∷ 32 ∷ []) ++ decimal (r .place)) in
-    let d = decimal-all (r .no) in
-    let e = decimal-all (r .place) in
-    omega arith
-
 numbers-short : (n : ℕ) (s : List ℕ) → length (numbersEnd n s) ≤ 21 * length s + 8
 numbers-short n s =
     let a = length-append (spaced (take n s)) (ending (allAre filler16 (drop n s))) in
@@ -71,7 +65,7 @@ module _ (at : ℕ) where
       short-told (told (gives m) n s) (near .from) (omega arith)
   told-told (refused r) n s near =
       let a = length-append (refusedText r) (ending (allAre filler16 s)) in
-      let d = refused-short r in
+      let d = refused-text-size r in
       let e = ending-short (allAre filler16 s) in
       short-told (told (refused r) n s) (near .from) (omega arith)
 
@@ -87,7 +81,7 @@ module _ (at : ℕ) where
       short-told (toldBytes (gives m) s) (near .from) (omega arith)
   bytes-told (refused r) s near =
       let a = length-append (refusedText r) (ending (allAre filler s)) in
-      let d = refused-short r in
+      let d = refused-text-size r in
       let e = ending-short (allAre filler s) in
       short-told (toldBytes (refused r) s) (near .from) (omega arith)
 
@@ -100,7 +94,7 @@ module _ (at : ℕ) where
   pub refusal-told : (r : Refusal) → at ≤ 2 ^ 63 → Told at (refusedLine r)
   refusal-told r h =
       let a = length-append (refusedText r) lineFeed in
-      let d = refused-short r in
+      let d = refused-text-size r in
       short-told (refusedLine r) h (omega arith)
 
   module _ (word s : List ℕ) (w : Worded at word s) where

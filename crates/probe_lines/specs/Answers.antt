@@ -5,9 +5,8 @@ use mathlib.Core.List.{List, [], _∷_, _++_}
 use lib.ListN.{length, take, drop}
 use lib.IntN.{ℤ}
 use lib.Dec.{ltb}
-use Rattle.scope.specs.declared.Refusal.{Refusal}
 use Rattle.scope.specs.Outcome.{Outcome, gives, refused}
-use Rattle.scope.specs.Lines.{decimal, signed, space, lineFeed, spaced}
+use Rattle.scope.specs.Lines.{decimal, signed, space, lineFeed, spaced, refusedText}
 use Rattle.probe_words.specs.Words.{hexWord, filler, filler16, allAre}
 
 -- "A line that is no question is answered `?`"
@@ -19,14 +18,9 @@ abbrev pub ending : Bool → List ℕ
 ending true = lineFeed
 ending false = 32 ∷ 115 ∷ 112 ∷ 111 ∷ 105 ∷ 108 ∷ 116 ∷ 10 ∷ []
 
--- `ok N` and `refused N place P`, without the end of the line
+-- `ok N`, without the end of the line
 abbrev pub okText : ℕ → List ℕ
 okText n = (111 ∷ 107 ∷ 32 ∷ []) ++ decimal n
-
-abbrev pub refusedText : Refusal → List ℕ
-refusedText r =
-    (114 ∷ 101 ∷ 102 ∷ 117 ∷ 115 ∷ 101 ∷ 100 ∷ 32 ∷ []) ++
-    (decimal (r .no) ++ ((32 ∷ 112 ∷ 108 ∷ 97 ∷ 99 ∷ 101 ∷ 32 ∷ []) ++ decimal (r .place)))
 
 -- so many numbers, or bytes, that were written to the front of a lent buffer, and the end of the line
 abbrev pub numbersEnd : ℕ → List ℕ → List ℕ
@@ -45,12 +39,9 @@ abbrev pub toldBytes : Outcome → List ℕ → List ℕ
 toldBytes (gives n) lent = okText n ++ bytesEnd n lent
 toldBytes (refused r) lent = refusedText r ++ ending (allAre filler lent)
 
--- a slack, and a refusal that lent nothing
+-- a slack
 abbrev pub slackLine : ℤ → List ℕ
 slackLine z = (111 ∷ 107 ∷ 32 ∷ []) ++ (signed z ++ lineFeed)
-
-abbrev pub refusedLine : Refusal → List ℕ
-refusedLine r = refusedText r ++ lineFeed
 
 -- how many numbers so many pairs are; no list has more than three
 abbrev pub numbersOf : ℕ → ℕ

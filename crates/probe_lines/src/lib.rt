@@ -3,10 +3,11 @@
 // index after its line, and asks that it begins in the lower half of what can be told. It leans on `text`, `verdict_lines` and `probe_words`.
 ghost use Prim.Native.Nat.{_≤_, _^_};
 ghost use mathlib.Core.Path.{_≡_};
+ghost use Rattle.scope.specs.Lines.{refusedLine};
 ghost use Rattle.scope.specs.Outcome.{outcomeOf};
 ghost use Rattle.text.specs.Text.{Puts, Told};
-ghost use Rattle.probe_lines.specs.Answers.{unknownLine, ending, okText, refusedText, toldBytes, slackLine, refusedLine};
-ghost use Rattle.probe_lines.specs.Answers.{noListLine, listLine, partLine, placeLine, numbersEnd, bytesEnd, Near, Worded};
+ghost use Rattle.probe_lines.specs.Answers.{unknownLine, ending, okText, toldBytes, slackLine, noListLine, listLine};
+ghost use Rattle.probe_lines.specs.Answers.{partLine, placeLine, numbersEnd, bytesEnd, Near, Worded};
 ghost use Rattle.probe_lines.specs.Answers.{told as Answers·told, numbersOf as Answers·numbersOf};
 use probe_words::kept;
 use probe_words::kept_16;
@@ -17,6 +18,7 @@ use scope::Refusal;
 use text::put_byte;
 use text::put_decimal;
 use text::put_number;
+use text::put_refusal;
 use text::put_word;
 
 // A line that is no question.
@@ -45,17 +47,6 @@ fn ok(out: &mut [u8], at: usize, n: usize) -> usize
 {
     let first = put_word(out, at, b"ok ");
     put_decimal(out, first, n)
-}
-
-// A refusal, without the end of its line.
-fn refused(out: &mut [u8], at: usize, refusal: Refusal) -> usize
-    requires { ⌜ Told at (refusedText refusal) ⌝ }
-    ensures { λ r. ⌜ Puts (refusedText refusal) (now (out .entry)) (now (out .exit)) at r ⌝ }
-{
-    let first = put_word(out, at, b"refused ");
-    let word = put_decimal(out, first, refusal.no);
-    let last = put_word(out, word, b" place ");
-    put_decimal(out, last, refusal.place)
 }
 
 // Numbers that were written to the front of a lent row, and its end.
@@ -88,7 +79,7 @@ pub fn told(answer: Answer, written: usize, lent: &[u16], out: &mut [u8], at: us
             numbers_end(out, next, lent, written)
         }
         Answer::Refused(r) => {
-            let last = refused(out, at, r);
+            let last = put_refusal(out, at, r);
             end(out, last, kept_16(lent, 0))
         }
     }
@@ -105,7 +96,7 @@ pub fn told_bytes(answer: Answer, lent: &[u8], out: &mut [u8], at: usize) -> usi
             bytes_end(out, next, lent, n)
         }
         Answer::Refused(r) => {
-            let last = refused(out, at, r);
+            let last = put_refusal(out, at, r);
             end(out, last, kept(lent, 0))
         }
     }
@@ -126,7 +117,7 @@ pub fn told_refusal(refusal: Refusal, out: &mut [u8], at: usize) -> usize
     requires { ⌜ at ≤ 2 ^ 63 ⌝ }
     ensures { λ r. ⌜ Puts (refusedLine refusal) (now (out .entry)) (now (out .exit)) at r ⌝ }
 {
-    let last = refused(out, at, refusal);
+    let last = put_refusal(out, at, refusal);
     put_byte(out, last, b'\n')
 }
 

@@ -16,11 +16,12 @@ use Rattle.spare.proofs.Bounds.{answer-lies}
 use borrow.Author.Tests.{lt-ltb, le-ltb, eq-eqb, ne-eqb}
 use Rattle.scope.specs.Outcome.{Outcome, gives, refused}
 use Rattle.scope.specs.Plan.{at}
+use Rattle.scope.specs.Lines.{refusedLine}
 use Rattle.scope.specs.Questions.{maySpare, slack}
 use Rattle.text.specs.Text.{Puts}
 use Rattle.spare.specs.declared.Spare.{Spare}
 use Rattle.spare.specs.Slack.{said, value, unlessRefused, Slacks, Between}
-use Rattle.probe_lines.specs.Answers.{unknownLine, partLine, placeLine, slackLine, refusedLine}
+use Rattle.probe_lines.specs.Answers.{unknownLine, partLine, placeLine, slackLine}
 use Rattle.probe_questions.specs.Asked.{Lays, partOrNone, slackOr, spareLine, ofPlace, placeAnswer, rulingLine, explanationLine}
 use Rattle.probe_questions.specs.Asked.{spoiltRow, spoiltBytes, spoilAnswer}
 use Rattle.probe_questions.specs.declared.OfPlace.{OfPlace}

@@ -9,6 +9,7 @@ use lib.Dec.{ltb, eqb}
 use Rattle.scope.specs.Outcome.{Outcome, gives, refused, result}
 use Rattle.scope.specs.Questions.{after, readFile, writeFile, replay, maySpare, slack, secondPath}
 use Rattle.scope.specs.File.{rowOf, fileOf}
+use Rattle.scope.specs.Lines.{refusedLine}
 use Rattle.scope.specs.Plan.{at, planOf, timeoutOf, messageCount}
 use Rattle.scope.specs.Cycle.{eventRow}
 use Rattle.text.specs.Text.{Puts}
@@ -21,7 +22,7 @@ use Rattle.explanations.specs.declared.Explanation.the-variants.{Unexplained, L
 use Rattle.explanations.specs.declared.Explanation.the-variants as Explanation·
 use Rattle.explanations.specs.Explained as Explained·
 use Rattle.probe_words.specs.Words.{filler, filler16}
-use Rattle.probe_lines.specs.Answers.{unknownLine, partLine, placeLine, slackLine, refusedLine, resistantLine, failingLine, told, toldBytes}
+use Rattle.probe_lines.specs.Answers.{unknownLine, partLine, placeLine, slackLine, resistantLine, failingLine, told, toldBytes}
 use Rattle.probe_lines.specs.Answers.{unexplainedLine, explainedLine}
 use Rattle.probe_questions.specs.declared.OfPlace.{OfPlace}
 use Rattle.probe_questions.specs.declared.OfPlace.the-variants.{Slack, Second, Where}

@@ -39,6 +39,10 @@ pub laid-nil : (b : List ℕ) (i : ℕ) → laid b i [] ≡ b
 unfolding laid
 laid-nil b i = refl
 
+-- no text at all
+pub puts-none : (b : List ℕ) (i : ℕ) → Puts [] b b i i
+puts-none b i = record { buffer = sym (laid-nil b i); ends = omega arith }
+
 pub laid-one : (b : List ℕ) (i x : ℕ) → laid b i (x ∷ []) ≡ set b i x
 unfolding laid
 laid-one b i x = refl

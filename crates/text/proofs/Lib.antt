@@ -3,3 +3,4 @@ pub mod Decimal
 pub mod Word
 pub mod Going
 pub mod Read
+pub mod Refused

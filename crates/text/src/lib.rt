@@ -1,7 +1,7 @@
-// Text into lent bytes and out of them. What writes, a byte, a word and a number in decimal, lays its text over the buffer from an index
-// on, as far as the buffer goes, and gives the index after the text, so a caller learns how many bytes a text has even where there is no
-// room for it; each asks that this index can be told in 64 bits (`Told`). What reads finds a word and a number in decimal at an index. That
-// a number printed is read back, and that what is read was printed so, is in proofs/Read. It leans on specs/Lines of `scope`, and on
+// Text into lent bytes and out of them. What writes, a byte, a word, a number in decimal and a refusal, lays its text over the buffer from
+// an index on, as far as the buffer goes, and gives the index after the text, so a caller learns how many bytes a text has even where there
+// is no room for it; each asks that this index can be told in 64 bits (`Told`). What reads finds a word and a number in decimal at an index.
+// That a number printed is read back, and that what is read was printed so, is in proofs/Read. It leans on specs/Lines of `scope`, and on
 // `bits` for the byte at an index.
 ghost use mathlib.Core.Path.{_≡_};
 ghost use Prim.Native.Nat.{_+_, _≤_, _<_, _^_};
@@ -10,8 +10,10 @@ ghost use mathlib.Core.List.{[], _∷_, _++_};
 ghost use Rattle.text.specs.Text.{Puts, Told};
 ghost use Rattle.text.specs.Reading.{goesOn, Reads};
 ghost use Rattle.text.specs.Reading.{stands as Reading·stands};
-ghost use Rattle.scope.specs.Lines.{decimal};
+ghost use Rattle.scope.specs.Lines.{decimal, pathText, refusedText};
+ghost use Rattle.scope.specs.Outcome.{namesLink};
 use bits::byte;
+use scope::Refusal;
 
 // One byte.
 pub fn put_byte(out: &mut [u8], at: usize, b: u8) -> usize
@@ -58,6 +60,39 @@ pub fn put_number(out: &mut [u8], at: usize, n: usize, mark: u8) -> usize
 {
     let next = put_decimal(out, at, n);
     put_byte(out, next, mark)
+}
+
+// The refusals of this number come with a place and a step.
+fn names_link(no: usize) -> bool
+    ensures { λ r. ⌜ r ≡ namesLink no ⌝ }
+{
+    no == 7 || (no == 10 || (13 < no && no < 20))
+}
+
+// The place and the step of a refusal, where it has them.
+fn put_path(out: &mut [u8], at: usize, refusal: Refusal) -> usize
+    requires { ⌜ Told at (pathText refusal) ⌝ }
+    ensures { λ r. ⌜ Puts (pathText refusal) (now (out .entry)) (now (out .exit)) at r ⌝ }
+{
+    if !names_link(refusal.no) {
+        return at;
+    }
+    let place = put_byte(out, at, b' ');
+    let space = put_decimal(out, place, refusal.at);
+    let step = put_byte(out, space, b' ');
+    put_decimal(out, step, refusal.step)
+}
+
+// A refusal, without the end of its line.
+pub fn put_refusal(out: &mut [u8], at: usize, refusal: Refusal) -> usize
+    requires { ⌜ Told at (refusedText refusal) ⌝ }
+    ensures { λ r. ⌜ Puts (refusedText refusal) (now (out .entry)) (now (out .exit)) at r ⌝ }
+{
+    let number = put_word(out, at, b"refused ");
+    let word = put_decimal(out, number, refusal.no);
+    let place = put_word(out, word, b" place ");
+    let path = put_decimal(out, place, refusal.place);
+    put_path(out, path, refusal)
 }
 
 // A word stands at an index.

@@ -5,18 +5,18 @@ use Rattle.probe_lines.proofs.Short.{refusal-told}
 use Rattle.probe_lines.proofs.told_refusal.Statement.{statement}
 use Rattle.probe_lines.proofs.told_refusal.Tie as tie
 
-refused-requires : tie.Need-refused-requires
-refused-requires c κs = told-first _ _ (refusal-told _ (c .before .before .args .refusal) (c .before .before .pre))
+put-refusal-requires : tie.Need-put-refusal-requires
+put-refusal-requires c κs = told-first _ _ (refusal-told _ (c .before .before .args .refusal) (c .before .before .pre))
 
 put-byte-requires : tie.Need-put-byte-requires
 put-byte-requires c κs =
     let s3 = c .before .before .before in
     let s6 = s3 .before .before .before in
-    told-rest (s3 .refused .ensures) _ (refusal-told _ (s6 .args .refusal) (s6 .pre))
+    told-rest (s3 .put-refusal .ensures) _ (refusal-told _ (s6 .args .refusal) (s6 .pre))
 
 returns : tie.Need-returns
-returns c = then (c .before .before .before .before .before .before .refused .ensures) (c .before .before .put-byte .ensures)
+returns c = then (c .before .before .before .before .before .before .put-refusal .ensures) (c .before .before .put-byte .ensures)
 
 pub told-refusal-spec : {M : Type 1} → statement M
 told-refusal-spec =
-    tie.close (tie.spec refused-requires put-byte-requires (λ c. search needs) returns)
+    tie.close (tie.spec put-refusal-requires put-byte-requires (λ c. search needs) returns)
