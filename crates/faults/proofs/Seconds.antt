@@ -2,35 +2,22 @@
 use Prim.Native.Nat.{ℕ, _+_, _-_, _≤_, _<_}
 use mathlib.Core.Path.{_≡_, refl, sym, _∙_, ap}
 use mathlib.Core.Bool.{Bool, true, false, cond, not, _&&_}
-use mathlib.Core.List.{List, [], _∷_}
+use mathlib.Core.List.{List}
 use native.Mathlib.Omega.{arith}
 use borrow.Author.Tests.{eq-eqb, ne-eqb, eqb-true, eqb-false, ltb-true}
-use lib.ListN.{length, length-map, getD}
+use lib.ListN.{length, getD}
 use lib.Dec.{ltb, eqb}
 use Rattle.scope.specs.Lowest.{seek, lowest, some}
-use Rattle.scope.specs.Plan.{Plan, Place, linkOf}
-use Rattle.scope.specs.Good.{linksOf, headOf, endOf}
-use Rattle.scope.specs.PathRules.{linkIn, noLink, apart, astray, again, replaced, beginsAt, standsAt}
+use Rattle.scope.specs.Plan.{Plan, Place}
+use Rattle.scope.specs.Good.{endOf}
+use Rattle.scope.specs.PathRules.{linkIn, astray, again, replaced, standsAt}
 use Rattle.scope.proofs.Lowest.{seek-is, seek-same}
-use Rattle.scope.proofs.Some.{none, some-one, some-same}
+use Rattle.scope.proofs.Some.{some-at, some-same}
 use Rattle.paths.specs.declared.Fault.{Fault}
 use Rattle.paths.specs.Path.{Earliest, pathRule}
 use Rattle.paths.proofs.Earliest.{lowest-is, earliest-none, earliest-next, either}
-use Rattle.paths.proofs.Laws.{end-last, head-first}
+use Rattle.paths.proofs.Laws.{end-last}
 use Rattle.faults.specs.Broken.{FaultOf, PlaceFault, SecondsFault, placeIn, placeRule}
-
--- a test that is asked at each place of the step that is the place alone
-module _ (test : ℕ → Bool) (n : ℕ) where
-  pub on-step : (p : ℕ) → p < n → some (λ s. eqb s p && test s) n ≡ test p
-  on-step p h = by (test p) refl
-    where
-      by : (t : Bool) → test p ≡ t → some (λ s. eqb s p && test s) n ≡ t
-      by true e = some-one (λ s. eqb s p && test s) n p h (rw (eq-eqb p p refl, e))
-      by false e = none (λ s. eqb s p && test s) n (λ s l. off s (eqb s p) refl)
-        where
-          off : (s : ℕ) (b : Bool) → eqb s p ≡ b → b && test s ≡ false
-          off s true f = ap test (eqb-true s p f) ∙ e
-          off s false f = refl
 
 -- the earliest rule of a first path is that of its message
 module _ (broken : ℕ → ℕ → Bool) (k n : ℕ) (r : Fault) (g : Earliest broken k n (r .rule) (r .step)) (same : r .at ≡ r .step) where
@@ -39,12 +26,16 @@ module _ (broken : ℕ → ℕ → Bool) (k n : ℕ) (r : Fault) (g : Earliest b
       record {
         found =
             record {
-              earliest = g .earliest ∙ sym (seek-same _ _ k 0 (λ x a b. some-same _ (broken x) n (on-step (broken x) n)));
-              first = λ h. same ∙ g .first h ∙ sym (seek-same _ _ n 0 (λ p a b. on-step (broken (r .rule)) n p (omega arith)));
+              earliest = g .earliest ∙ sym (seek-same _ _ k 0 (λ x a b. some-same _ (broken x) n (on-step x)));
+              first = λ h. same ∙ g .first h ∙ sym (seek-same _ _ n 0 (λ p a b. on-step (r .rule) p (omega arith)));
             };
         step = λ h. lowest-is (λ s. eqb s (r .at) && broken (r .rule) s) n (r .step) (inside h) (here h) (λ j l. before j l);
       }
     where
+      -- at each place the step that is the place is asked alone
+      on-step : (x p : ℕ) → p < n → some (λ s. eqb s p && broken x s) n ≡ broken x p
+      on-step x p h = some-at (λ s. eqb s p) (broken x) n p h (eq-eqb p p refl) (λ s l e. eqb-true s p e)
+
       breaks : r .rule < k → some (broken (r .rule)) n ≡ true
       breaks h = rw (g .earliest) (seek-is (λ x. some (broken x) n) k 0 (omega (arith, g .earliest)))
 
@@ -113,71 +104,66 @@ module _ (plan : Plan) (end : ℕ) (p : Place) (v : ℕ) (fv : v ≡ standsAt pl
         by false true d e = absurd (omega arith)
         by false false d e = (refl, refl)
 
-    -- a wrong end, at the last link
-    pub fault-end : (last : ℕ) → last ≡ endOf plan (p .second) → 0 < n → (last ≡ end → ⊥) → Earliest (placeRule plan end p) 5 n 2 (n - 1)
-    fault-end last fl long wrong =
-        let t : astray plan end (p .second) (n - 1) ≡ true =
-        rw (eq-eqb (n - 1 + 1) n (omega arith), ne-eqb (linkIn plan (p .second) (n - 1) .to) end (λ e. wrong (fl ∙ sym ends ∙ e))) in
-        let w : breaks 2 ≡ true = some-one (astray plan end (p .second)) n (n - 1) (omega arith) t in
-        is 2 (n - 1) (rw (joined .0, joined .1, w)) (λ _. lowest-is (astray plan end (p .second)) n (n - 1) (omega arith) t early)
-      where
-        ends : linkIn plan (p .second) (n - 1) .to ≡ endOf plan (p .second)
-        ends = end-last plan (p .second) n refl (λ e. omega (arith, e, long))
+    module _ (long : 0 < n) (last : ℕ) (fl : last ≡ endOf plan (p .second)) where
+      leads : linkIn plan (p .second) (n - 1) .to ≡ last
+      leads = end-last plan (p .second) n refl (λ e. omega (arith, e, long)) ∙ sym fl
 
-        early : (j : ℕ) → j < n - 1 → astray plan end (p .second) j ≡ false
-        early j l = rw (ne-eqb (j + 1) n (λ e. omega (arith, e, l)))
+      -- a wrong end is one of the last link
+      ends : breaks 2 ≡ not (eqb last end)
+      ends =
+          some-at (λ s. eqb (s + 1) n) (λ s. not (eqb (linkIn plan (p .second) s .to) end)) n (n - 1) (omega arith)
+          (eq-eqb (n - 1 + 1) n (omega arith)) (λ s l h. omega (arith, eqb-true (s + 1) n h)) ∙ ap (λ w. not (eqb w end)) leads
 
-    module _ (last : ℕ) (fl : last ≡ endOf plan (p .second)) (right : last ≡ end) where
-      at-end : breaks 2 ≡ false
-      at-end = none (astray plan end (p .second)) n (λ s l. by s l (eqb (s + 1) n) refl)
+      pub fault-end : (last ≡ end → ⊥) → Earliest (placeRule plan end p) 5 n 2 (n - 1)
+      fault-end wrong =
+          let w : not (eqb last end) ≡ true = rw (ne-eqb last end wrong) in
+          let t : astray plan end (p .second) (n - 1) ≡ true = rw (eq-eqb (n - 1 + 1) n (omega arith), leads, w) in
+          is 2 (n - 1) (rw (joined .0, joined .1, ends ∙ w)) (λ _. lowest-is (astray plan end (p .second)) n (n - 1) (omega arith) t early)
         where
-          by : (s : ℕ) → s < n → (b : Bool) → eqb (s + 1) n ≡ b → b && not (eqb (linkIn plan (p .second) s .to) end) ≡ false
-          by s l true e =
-              let z : s ≡ n - 1 = omega (arith, eqb-true (s + 1) n e) in
-              let f : linkIn plan (p .second) s .to ≡ end =
-              ap (λ x. linkIn plan (p .second) x .to) z ∙ end-last plan (p .second) n refl (λ h. omega (arith, h, l)) ∙ sym fl ∙ right in
-              rw (eq-eqb (linkIn plan (p .second) s .to) end f)
-          by s l false e = refl
+          early : (j : ℕ) → j < n - 1 → astray plan end (p .second) j ≡ false
+          early j l = rw (ne-eqb (j + 1) n (λ e. omega (arith, e, l)))
 
-      -- a vertex met twice
-      pub fault-again : found .rule < 3 → Earliest (placeRule plan end p) 5 n 3 (found .step)
-      fault-again h =
-          let two : found .rule ≡ 2 = omega arith in
-          is 3 (found .step) (rw (joined .0, joined .1, at-end, met (breaks 0) (breaks 1) (breaks 3) walked (joined .0) (joined .1)))
-          (λ _. g .first h ∙ ap (λ x. lowest (pathRule plan v (p .second) x) n) two ∙ ap (λ u. lowest (again plan u (p .second)) n) fv)
-        where
-          met : (a b d : Bool) → found .rule ≡ walkOrder a b d → a ≡ false → b ≡ false → d ≡ true
-          met a b true e f f′ = refl
-          met a b false e f f′ = let z : found .rule ≡ 3 = e ∙ rw (f, f′) in absurd (omega arith)
+      module _ (right : last ≡ end) where
+        at-end : breaks 2 ≡ false
+        at-end = ends ∙ rw (eq-eqb last end right)
 
-      module _ (clear : 3 ≤ found .rule) where
-        once : breaks 3 ≡ false
-        once = by (breaks 0) (breaks 1) (breaks 3) walked (joined .0) (joined .1)
+        -- a vertex met twice
+        pub fault-again : found .rule < 3 → Earliest (placeRule plan end p) 5 n 3 (found .step)
+        fault-again h =
+            let two : found .rule ≡ 2 = omega arith in
+            is 3 (found .step) (rw (joined .0, joined .1, at-end, met (breaks 0) (breaks 1) (breaks 3) walked (joined .0) (joined .1)))
+            (λ _. g .first h ∙ ap (λ x. lowest (pathRule plan v (p .second) x) n) two ∙ ap (λ u. lowest (again plan u (p .second)) n) fv)
           where
-            by : (a b d : Bool) → found .rule ≡ walkOrder a b d → a ≡ false → b ≡ false → d ≡ false
-            by a b true e f f′ = let z : found .rule ≡ 2 = e ∙ rw (f, f′) in absurd (omega arith)
-            by a b false e f f′ = refl
+            met : (a b d : Bool) → found .rule ≡ walkOrder a b d → a ≡ false → b ≡ false → d ≡ true
+            met a b true e f f′ = refl
+            met a b false e f f′ = let z : found .rule ≡ 3 = e ∙ rw (f, f′) in absurd (omega arith)
 
-        -- the first link is the one that is replaced
-        pub fault-replaced : (first : ℕ) → first ≡ getD (p .second) 0 0 → 0 < n → first ≡ p .link → Earliest (placeRule plan end p) 5 n 4 0
-        fault-replaced first ff long same =
-            let t : replaced (p .link) (p .second) 0 ≡ true = eq-eqb (getD (p .second) 0 0) (p .link) (sym ff ∙ same) in
-            let w : breaks 4 ≡ true = some-one (replaced (p .link) (p .second)) n 0 long t in
-            is 4 0 (rw (joined .0, joined .1, at-end, once, w))
-            (λ _. lowest-is (replaced (p .link) (p .second)) n 0 long t (λ j l. absurd (omega arith)))
+        module _ (clear : 3 ≤ found .rule) where
+          once : breaks 3 ≡ false
+          once = by (breaks 0) (breaks 1) (breaks 3) walked (joined .0) (joined .1)
+            where
+              by : (a b d : Bool) → found .rule ≡ walkOrder a b d → a ≡ false → b ≡ false → d ≡ false
+              by a b true e f f′ = let z : found .rule ≡ 2 = e ∙ rw (f, f′) in absurd (omega arith)
+              by a b false e f f′ = refl
 
-        -- nothing
-        pub fault-none : (first : ℕ) → first ≡ getD (p .second) 0 0 → (first ≡ p .link → ⊥) → Earliest (placeRule plan end p) 5 n 5 0
-        fault-none first ff other = is 5 0 (rw (joined .0, joined .1, at-end, once, new)) (λ h. absurd (omega arith))
-          where
-            by : (s : ℕ) (b : Bool) → eqb s 0 ≡ b → b && eqb (getD (p .second) s 0) (p .link) ≡ false
-            by s true e =
-                let z : s ≡ 0 = eqb-true s 0 e in
-                ap (λ x. eqb (getD (p .second) x 0) (p .link)) z ∙ ne-eqb (getD (p .second) 0 0) (p .link) (λ f. other (ff ∙ f))
-            by s false e = refl
+          module _ (first : ℕ) (ff : first ≡ getD (p .second) 0 0) where
+            begins : breaks 4 ≡ eqb first (p .link)
+            begins =
+                some-at (λ s. eqb s 0) (λ s. eqb (getD (p .second) s 0) (p .link)) n 0 long refl (λ s l h. eqb-true s 0 h) ∙
+                ap (λ e. eqb e (p .link)) (sym ff)
 
-            new : breaks 4 ≡ false
-            new = none (replaced (p .link) (p .second)) n (λ s l. by s (eqb s 0) refl)
+            -- the first link is the one that is replaced
+            pub fault-replaced : first ≡ p .link → Earliest (placeRule plan end p) 5 n 4 0
+            fault-replaced same =
+                let w : eqb first (p .link) ≡ true = eq-eqb first (p .link) same in
+                let t : replaced (p .link) (p .second) 0 ≡ true = ap (λ e. eqb e (p .link)) (sym ff) ∙ w in
+                is 4 0 (rw (joined .0, joined .1, at-end, once, begins ∙ w))
+                (λ _. lowest-is (replaced (p .link) (p .second)) n 0 long t (λ j l. absurd (omega arith)))
+
+            -- nothing
+            pub fault-none : (first ≡ p .link → ⊥) → Earliest (placeRule plan end p) 5 n 5 0
+            fault-none other =
+                is 5 0 (rw (joined .0, joined .1, at-end, once, begins ∙ ne-eqb first (p .link) other)) (λ h. absurd (omega arith))
 
 -- a loop over the places of a message whose first path ends at vertex `end`, at place k
 pub record Placing (plan : Plan) (end : ℕ) (ps : List Place) (k : ℕ) (found : Fault) : Type 0 where

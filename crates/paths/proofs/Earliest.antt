@@ -1,13 +1,13 @@
 -- Laws of the earliest rule that is broken, for loops that go through things and keep it: it begins, it goes on, it is known at once.
 use Prim.Native.Nat.{ℕ, zero, suc, _+_, _≤_, _<_}
-use mathlib.Core.Path.{_≡_, refl, sym, _∙_, ap}
+use mathlib.Core.Path.{_≡_, refl, sym, _∙_}
 use mathlib.Core.Bool.{Bool, true, false, cond, _||_, true≢false}
 use native.Mathlib.Omega.{arith}
 use borrow.Author.Tests.{lt-ltb, le-ltb, ltb-true, ltb-false}
 use lib.Dec.{ltb}
 use Rattle.scope.specs.Lowest.{seek, lowest, some}
 use Rattle.scope.proofs.Lowest.{seek-is, seek-low, seek-from, seek-most, seek-same}
-use Rattle.scope.proofs.Some.{none, none-below, some-one, some-more}
+use Rattle.scope.proofs.Some.{none-below, some-one, some-more}
 use Rattle.paths.specs.declared.Fault.{Fault}
 use Rattle.paths.specs.Path.{Earliest}
 

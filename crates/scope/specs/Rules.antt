@@ -1,6 +1,5 @@
 -- Refusals 5 to 10 and 14 to 19 in their order: "the order is 7, 14, 15, 8, 9, 10, 16 to 19, then 11 on". Each is a round of its own over all
 -- links, messages or paths.
-use Prim.Native.Nat.{ℕ}
 use mathlib.Core.Path.{_≡_}
 use mathlib.Core.Bool.{true}
 use lib.ListN.{length}
@@ -29,8 +28,8 @@ rules plan =
     (unlessOn plan 19 (secondReplaced plan)
     (gives 0))))))))))))
 
--- nothing is refused exactly of the plans that document 01 calls good: no rule of document 02 refuses one of them, and none of the others is let
--- through
+-- nothing is refused exactly of the plans that document 01 calls good: no rule of document 02 refuses one of them, and none of the others is
+-- let through
 pub record GoodAsBefore (plan : Plan) : Type 0 where
   pub kept : isGood plan ≡ true → rules plan ≡ gives 0
   pub only : rules plan ≡ gives 0 → isGood plan ≡ true

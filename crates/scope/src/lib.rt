@@ -2,7 +2,7 @@
 // one place that makes a refusal. The rules themselves are in specs/, one file for each section of the document; docs/TRACE.md leads
 // from each sentence to its name.
 ghost use mathlib.Core.Path.{_≡_};
-ghost use Rattle.scope.specs.Outcome.{outcomeOf, refusalAt, refusalOn, refuse, refuseOn};
+ghost use Rattle.scope.specs.Outcome.{outcomeOf, refusalAt, refusalOn, refuse};
 
 pub mod limits;
 
@@ -45,13 +45,6 @@ pub fn refuse(no: usize, place: usize) -> Answer
     ensures { λ r. ⌜ outcomeOf r ≡ refuse no place ⌝ }
 {
     Answer::Refused(refusal_at(no, place))
-}
-
-// The answer that refuses with a number, a message, a place and a step.
-pub fn refuse_on(no: usize, message: usize, at: usize, step: usize) -> Answer
-    ensures { λ r. ⌜ outcomeOf r ≡ refuseOn no message at step ⌝ }
-{
-    Answer::Refused(refusal_on(no, message, at, step))
 }
 
 // The next field of a plan after its edition, with how many of each kind follow. The counts are those of the file, "less one":

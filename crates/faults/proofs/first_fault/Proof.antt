@@ -1,14 +1,14 @@
 -- `faults::first_fault` meets its contract: the links copied are those of the first path. Assumes nothing.
-use mathlib.Core.Path.{refl, _∙_, ap}
+use mathlib.Core.Path.{_∙_, ap}
 use native.Mathlib.Omega.{arith}
 use borrow.Author.Needs.{needs}
 use Rattle.scope.specs.Plan.{planOf, linkOf}
 use Rattle.paths.proofs.Laws.{from-small}
 use Rattle.faults.proofs.Laws as law
-use Rattle.faults.proofs.Seconds as rule
 use borrow.Author.Needs.{needs}
 use Rattle.faults.proofs.first_fault.Statement.{statement}
 use Rattle.faults.proofs.first_fault.Tie as tie
+
 slice-aggregate-path-fault : tie.Need-slice-aggregate-path-fault
 slice-aggregate-path-fault c =
     let f = c .before .before .before .before .before .first-links in

@@ -8,6 +8,7 @@ use Rattle.faults.proofs.Seconds as rule
 use borrow.Author.Needs.{needs}
 use Rattle.faults.proofs.link_fault.Statement.{statement}
 use Rattle.faults.proofs.link_fault.Tie as tie
+
 path-fault-requires : tie.Need-path-fault-requires
 path-fault-requires c κs =
     let a = c .before .before .before .args in
@@ -15,40 +16,41 @@ path-fault-requires c κs =
 
 returns : tie.Need-returns
 returns c =
-    let a = c .before .before .before .before .before .before .args in
-    let walk = c .before .before .path-fault in
-    rule.fault-early (planOf (a .row .now)) (a .end) (secondOf (a .link) (a .second .now)) _ (c .before .before .before .link-from .ensures) (walk .result)
-    (walk .ensures) (c .if1 .taken)
+    let w = c .before .before in
+    let s = w .before .before .before .before in
+    rule.fault-early (planOf (s .args .row .now)) (s .args .end) (secondOf (s .args .link) (s .args .second .now)) _ (w .before .link-from .ensures)
+    (w .path-fault .result) (w .path-fault .ensures) (c .if1 .taken)
 
 returns-2 : tie.Need-returns-2
 returns-2 c =
-    let a = c .before .before .before .before .before .before .before .before .args in
-    let walk = c .before .before .before .before .path-fault in
-    rule.fault-end (planOf (a .row .now)) (a .end) (secondOf (a .link) (a .second .now)) _ (c .before .before .before .before .before .link-from .ensures) (walk .result)
-    (walk .ensures) (c .before .before .if1 .left) _ (c .before .path-end .ensures) (c .before .before .before .before .before .before .before .before .pre .2) (c .if2 .taken)
+    let w = c .before .before .before .before in
+    let s = w .before .before .before .before in
+    rule.fault-end (planOf (s .args .row .now)) (s .args .end) (secondOf (s .args .link) (s .args .second .now)) _ (w .before .link-from .ensures)
+    (w .path-fault .result) (w .path-fault .ensures) (c .before .before .if1 .left) (s .pre .2) _ (c .before .path-end .ensures) (c .if2 .taken)
 
 returns-3 : tie.Need-returns-3
 returns-3 c =
-    let a = c .before .before .before .before .before .before .before .before .before .before .args in
-    let walk = c .before .before .before .before .before .before .path-fault in
-    rule.fault-again (planOf (a .row .now)) (a .end) (secondOf (a .link) (a .second .now)) _ (c .before .before .before .before .before .before .before .link-from .ensures) (walk .result)
-    (walk .ensures) (c .before .before .before .before .if1 .left) _ (c .before .before .before .path-end .ensures) (c .before .before .if2 .left) (c .if3 .taken)
+    let w = c .before .before .before .before .before .before in
+    let s = w .before .before .before .before in
+    rule.fault-again (planOf (s .args .row .now)) (s .args .end) (secondOf (s .args .link) (s .args .second .now)) _ (w .before .link-from .ensures)
+    (w .path-fault .result) (w .path-fault .ensures) (c .before .before .before .before .if1 .left) (s .pre .2) _ (c .before .before .before .path-end .ensures) (c .before .before .if2 .left)
+    (c .if3 .taken)
 
 returns-4 : tie.Need-returns-4
 returns-4 c =
-    let a = c .before .before .before .before .before .before .before .before .before .before .before .before .args in
-    let walk = c .before .before .before .before .before .before .before .before .path-fault in
-    rule.fault-replaced (planOf (a .row .now)) (a .end) (secondOf (a .link) (a .second .now)) _ (c .before .before .before .before .before .before .before .before .before .link-from .ensures) (walk .result)
-    (walk .ensures) (c .before .before .before .before .before .before .if1 .left) _ (c .before .before .before .before .before .path-end .ensures) (c .before .before .before .before .if2 .left) (c .before .before .if3 .left) _
-    (c .before .number .ensures .is) (c .before .before .before .before .before .before .before .before .before .before .before .before .pre .2) (c .if4 .taken)
+    let w = c .before .before .before .before .before .before .before .before in
+    let s = w .before .before .before .before in
+    rule.fault-replaced (planOf (s .args .row .now)) (s .args .end) (secondOf (s .args .link) (s .args .second .now)) _ (w .before .link-from .ensures)
+    (w .path-fault .result) (w .path-fault .ensures) (c .before .before .before .before .before .before .if1 .left) (s .pre .2) _
+    (c .before .before .before .before .before .path-end .ensures) (c .before .before .before .before .if2 .left) (c .before .before .if3 .left) _ (c .before .number .ensures .is) (c .if4 .taken)
 
 returns-5 : tie.Need-returns-5
 returns-5 c =
-    let a = c .before .before .before .before .before .before .before .before .before .before .before .before .args in
-    let walk = c .before .before .before .before .before .before .before .before .path-fault in
-    rule.fault-none (planOf (a .row .now)) (a .end) (secondOf (a .link) (a .second .now)) _ (c .before .before .before .before .before .before .before .before .before .link-from .ensures) (walk .result)
-    (walk .ensures) (c .before .before .before .before .before .before .if1 .left) _ (c .before .before .before .before .before .path-end .ensures) (c .before .before .before .before .if2 .left) (c .before .before .if3 .left) _
-    (c .before .number .ensures .is) (c .if4 .left)
+    let w = c .before .before .before .before .before .before .before .before in
+    let s = w .before .before .before .before in
+    rule.fault-none (planOf (s .args .row .now)) (s .args .end) (secondOf (s .args .link) (s .args .second .now)) _ (w .before .link-from .ensures)
+    (w .path-fault .result) (w .path-fault .ensures) (c .before .before .before .before .before .before .if1 .left) (s .pre .2) _
+    (c .before .before .before .before .before .path-end .ensures) (c .before .before .before .before .if2 .left) (c .before .before .if3 .left) _ (c .before .number .ensures .is) (c .if4 .left)
 
 pub link-fault-spec : {M : Type 1} → statement M
 link-fault-spec =

@@ -1,14 +1,13 @@
 -- `faults::place_fault` meets its contract: there is no second path, or it is a part of the row. Assumes nothing.
-use mathlib.Core.Path.{sym}
 use native.Mathlib.Omega.{arith}
 use borrow.Author.Needs.{needs}
-use Rattle.scope.specs.Plan.{planOf, placeAt}
+use Rattle.scope.specs.Plan.{planOf}
 use Rattle.paths.proofs.Earliest.{earliest-none}
-use Rattle.faults.specs.Broken.{PlaceFault, placeRule, secondOf}
 use Rattle.faults.proofs.Laws as law
 use borrow.Author.Needs.{needs}
 use Rattle.faults.proofs.place_fault.Statement.{statement}
 use Rattle.faults.proofs.place_fault.Tie as tie
+
 returns : tie.Need-returns
 returns c =
     let a = c .before .before .before .before .args in

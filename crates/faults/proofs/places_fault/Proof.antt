@@ -11,6 +11,7 @@ use Rattle.faults.proofs.Seconds as rule
 use Rattle.faults.proofs.Seconds.{Placing}
 use Rattle.faults.proofs.places_fault.Statement.{statement}
 use Rattle.faults.proofs.places_fault.Tie as tie
+
 abbrev Inv-loop : tie.InvT-loop
 Inv-loop row end i n at₀ found₀ k₀ at found k = Passing row i n at k × Placing (planOf row) end (messageAt row i) k found
 
@@ -43,9 +44,9 @@ loop-again c =
     let fault = c .before .place-fault in (
       law.passing-next (a .row .now) (a .i) (n .result) (l .at) (l .k) (here .result) (l .inv .0) (c .before .before .before .loop-test .taken) (here .ensures),
       rule.placing-next (planOf (a .row .now)) (a .end) (messageAt (a .row .now) (a .i)) (l .k) (l .found) _ (c .earlier .result) (fault .result)
-      (l .inv .1)
-      (law.place-of (a .row .now) (a .i) (n .result) (l .at) (l .k) (n .ensures .is) (l .inv .0) (c .before .before .before .loop-test .taken) (planOf (a .row .now))
-      (a .end) (fault .result) (fault .ensures)) refl refl refl (c .earlier .ensures),
+          (l .inv .1)
+          (law.place-of (a .row .now) (a .i) (n .result) (l .at) (l .k) (n .ensures .is) (l .inv .0) (c .before .before .before .loop-test .taken) (planOf (a .row .now))
+          (a .end) (fault .result) (fault .ensures)) refl refl refl (c .earlier .ensures),
     )
 
 returns : tie.Need-returns Inv-loop μ-loop

@@ -6,6 +6,7 @@ use Rattle.faults.proofs.Laws as law
 use borrow.Author.Needs.{needs}
 use Rattle.faults.proofs.second_fault.Statement.{statement}
 use Rattle.faults.proofs.second_fault.Tie as tie
+
 slice-aggregate-path-end : tie.Need-slice-aggregate-path-end
 slice-aggregate-path-end c =
     let f = c .before .before .first-links in

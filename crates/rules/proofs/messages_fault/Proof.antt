@@ -9,6 +9,7 @@ use Rattle.rules.specs.Rules.{PlanFault}
 use Rattle.rules.proofs.Laws as law
 use Rattle.rules.proofs.messages_fault.Statement.{statement}
 use Rattle.rules.proofs.messages_fault.Tie as tie
+
 abbrev Inv-loop : tie.InvT-loop
 Inv-loop row starts n count found₀ m₀ found m = PlanFault (planOf row) n m found × (m ≤ count)
 
@@ -25,14 +26,14 @@ element-copy-out-message-fault : tie.Need-element-copy-out-message-fault Inv-loo
 element-copy-out-message-fault c = omega (arith, c .loop-test .taken, c .before .before .before .messages .ensures .is, c .before .before .before .before .before .pre .0 .messages, c .before .before .before .before .before .pre .1 .long)
 
 message-fault-requires : tie.Need-message-fault-requires Inv-loop μ-loop
-message-fault-requires c κs = 
+message-fault-requires c κs =
     let a = c .before .before .before .before .before .before in
     let at = law.here (a .args .row .now) (a .args .starts .now) (a .pre .0) (a .pre .1) (c .before .before .loop .m)
     (omega (arith, c .before .loop-test .taken, c .before .before .before .before .messages .ensures .is, message-count (a .args .row .now))) in
     (a .pre .0, at .near, at .lies)
 
 loop-again : tie.Need-loop-again Inv-loop μ-loop
-loop-again c = 
+loop-again c =
     let a = c .before .before .before .before .before .before .before .before in
     let row = a .args .row .now in
     let l = c .before .before .before .before .loop in
@@ -40,12 +41,12 @@ loop-again c =
     (omega (arith, c .before .before .before .loop-test .taken, c .before .before .before .before .before .before .messages .ensures .is, message-count row)) in
     let fault = c .before .message-fault in (
       law.messages-next (planOf row) (a .args .n) (l .m) (l .found) _ (c .earlier .result) (fault .result) (l .inv .0)
-      (rw (at .is) (fault .ensures)) refl refl refl refl (c .earlier .ensures),
+          (rw (at .is) (fault .ensures)) refl refl refl refl (c .earlier .ensures),
       omega (arith, c .before .before .before .loop-test .taken),
     )
 
 returns : tie.Need-returns Inv-loop μ-loop
-returns c = 
+returns c =
     let e : c .before .loop .m ≡ messageCount (c .before .before .before .before .before .args .row .now) =
     omega (arith, c .loop-test .left, c .before .loop .inv .1, c .before .before .before .messages .ensures .is) in
     rw (← e) (c .before .loop .inv .0)

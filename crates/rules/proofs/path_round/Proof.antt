@@ -9,8 +9,9 @@ use Rattle.rules.proofs.Laws as law
 use borrow.Author.Needs.{needs}
 use Rattle.rules.proofs.path_round.Statement.{statement}
 use Rattle.rules.proofs.path_round.Tie as tie
+
 returns : tie.Need-returns
-returns c = 
+returns c =
     let row = c .before .before .before .before .before .before .before .args .row .now in
     let n = c .before .before .before .before .before .before .before .args .n in
     let f = c .before .before .before .before .before .messages-fault in
@@ -19,7 +20,7 @@ returns c =
     law.paths-broken (planOf row) n (c .before .before .before .before .before .before .before .pre .2) (f .result) all h _ (c .before .number-of .ensures) _ (c .refusal-on .ensures)
 
 returns-2 : tie.Need-returns-2
-returns-2 c = 
+returns-2 c =
     let row = c .before .before .before .before .before .before .args .row .now in
     let n = c .before .before .before .before .before .before .args .n in
     let f = c .before .before .before .before .messages-fault in

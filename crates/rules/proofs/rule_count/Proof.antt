@@ -5,6 +5,7 @@ use borrow.Author.Tests.{lt-ltb, le-ltb}
 use lib.Dec.{ltb}
 use Rattle.rules.proofs.rule_count.Statement.{statement}
 use Rattle.rules.proofs.rule_count.Tie as tie
+
 returns : tie.Need-returns
 returns c = let t : ltb (c .before .args .n) 10 ≡ true = lt-ltb (c .before .args .n) 10 (c .if1 .taken) in rw t
 

@@ -4,16 +4,17 @@ use Rattle.scope.specs.Plan.{planOf}
 use Rattle.rules.proofs.Laws as law
 use Rattle.rules.proofs.single_round.Statement.{statement}
 use Rattle.rules.proofs.single_round.Tie as tie
+
 lowest-breaking-requires : tie.Need-lowest-breaking-requires
 lowest-breaking-requires c κs = (c .before .before .before .pre .0, c .before .before .before .pre .1, c .count-for .ensures)
 
 returns : tie.Need-returns
-returns c = 
+returns c =
     law.single-broken (planOf (c .before .before .before .before .before .before .args .row .now)) _ (c .before .before .before .before .before .before .pre .1) _ _ (c .before .before .before .count-for .ensures) (c .before .before .lowest-breaking .ensures)
     (c .before .if1 .taken) _ (c .refusal-at .ensures)
 
 returns-2 : tie.Need-returns-2
-returns-2 c = 
+returns-2 c =
     law.single-kept (planOf (c .before .before .before .before .before .before .args .row .now)) _ (c .before .before .before .before .before .before .pre .1) _ _ (c .before .before .before .count-for .ensures) (c .before .before .lowest-breaking .ensures)
     (c .before .if1 .left) _ (c .refusal-at2 .ensures)
 
