@@ -3,6 +3,7 @@
 // specs/ of `scope` (Good, PathRules) on the plan of a row; a message is told by its index. It leans on `rows`, `paths` and `table`.
 use paths::Fault;
 use paths::earlier;
+use paths::fault_in;
 use scope::limits::PLACES;
 use scope::limits::VERTICES;
 ghost use mathlib.Core.Path.{_≡_};
@@ -129,35 +130,15 @@ fn link_fault(row: &[u16], end: usize, link: usize, second: &[u16]) -> Fault
         return found;
     }
     if paths::path_end(row, second) != end {
-        return Fault {
-            rule: 2,
-            message: 0,
-            at: 0,
-            step: second.len() - 1,
-        };
+        return fault_in(2, second.len() - 1);
     }
     if found.rule < 3 {
-        return Fault {
-            rule: 3,
-            message: 0,
-            at: 0,
-            step: found.step,
-        };
+        return fault_in(3, found.step);
     }
     if rows::number(second, 0) == link {
-        return Fault {
-            rule: 4,
-            message: 0,
-            at: 0,
-            step: 0,
-        };
+        return fault_in(4, 0);
     }
-    Fault {
-        rule: 5,
-        message: 0,
-        at: 0,
-        step: 0,
-    }
+    fault_in(5, 0)
 }
 
 // The fault of the second path from the place at an index; none where there is no second path.
@@ -167,12 +148,7 @@ fn place_fault(row: &[u16], end: usize, at: usize) -> Fault
 {
     let here = rows::place_at(row, at);
     if here.count == 0 {
-        return Fault {
-            rule: 5,
-            message: 0,
-            at: 0,
-            step: 0,
-        };
+        return fault_in(5, 0);
     }
     let a = here.second;
     let b = here.next;
@@ -186,12 +162,7 @@ fn places_fault(row: &[u16], end: usize, i: usize) -> Fault
 {
     let n = rows::place_count(row, i);
     let mut at = i + 1;
-    let mut found = Fault {
-        rule: 5,
-        message: 0,
-        at: 0,
-        step: 0,
-    };
+    let mut found = fault_in(5, 0);
     let mut k = 0;
     while k < n {
         let here = rows::place_at(row, at);

@@ -67,6 +67,18 @@ pub struct Fault {
     pub step: usize,
 }
 
+// The fault of a path in a step; who knows its message and place says them.
+pub fn fault_in(rule: usize, step: usize) -> Fault
+    ensures { λ r. ⌜ r ≡ record { rule = rule; message = 0; at = 0; step = step } ⌝ }
+{
+    Fault {
+        rule,
+        message: 0,
+        at: 0,
+        step,
+    }
+}
+
 // Of two faults that of the earlier rule; of one rule the one that was found first.
 pub fn earlier(found: Fault, here: Fault) -> Fault
     ensures { λ r. ⌜ r ≡ cond (ltb (here .rule) (found .rule)) here found ⌝ }
@@ -98,36 +110,18 @@ pub fn path_fault(row: &[u16], v: usize, path: &[u16]) -> Fault
     let mut met = [0u8; VERTICES];
     met[v] = 1;
     let mut at = v;
-    let mut found = Fault {
-        rule: 3,
-        message: 0,
-        at: 0,
-        step: 0,
-    };
+    let mut found = fault_in(3, 0);
     let mut k = 0;
     while k < path.len() {
         let e = rows::number(path, k);
         if links <= e {
-            return Fault {
-                rule: 0,
-                message: 0,
-                at: 0,
-                step: k,
-            };
+            return fault_in(0, k);
         }
         let ends = ends_of(row, e);
         let to = ends.to;
         let mark = met[to];
         let rule = link_rule(ends.from, at, mark);
-        found = earlier(
-            found,
-            Fault {
-                rule,
-                message: 0,
-                at: 0,
-                step: k,
-            },
-        );
+        found = earlier(found, fault_in(rule, k));
         met[to] = 1;
         at = to;
         k += 1;

@@ -10,8 +10,9 @@ use Rattle.faults.proofs.place_fault.Tie as tie
 
 returns : tie.Need-returns
 returns c =
-    let a = c .before .before .before .before .args in
-    rw (law.second-none (a .row .now) (a .at) _ (c .before .before .place-at .ensures) (c .if1 .taken)) (earliest-none _ 5 0)
+    let a = c .before .before .before .before .before .args in
+    let none = law.second-none (a .row .now) (a .at) _ (c .before .before .before .place-at .ensures) (c .before .if1 .taken) in
+    rw (c .fault-in .ensures, none) (earliest-none _ 5 0)
 
 sub-link-fault : tie.Need-sub-link-fault
 sub-link-fault c = omega (arith, law.second-order _ _ _ (c .before .before .place-at .ensures) (c .if1 .left) (c .before .before .before .before .pre .2))
@@ -36,5 +37,5 @@ returns-2 c =
 pub place-fault-spec : {M : Type 1} → statement M
 place-fault-spec =
     tie.close
-    (tie.spec (λ c κs. search needs) returns (λ c. search needs) sub-link-fault part-link-fault-start part-link-fault-end link-fault-requires
-    returns-2)
+    (tie.spec (λ c κs. search needs) (λ c κs. search needs) returns (λ c. search needs) sub-link-fault part-link-fault-start part-link-fault-end
+    link-fault-requires returns-2)

@@ -1,6 +1,6 @@
 -- `faults::places_fault` meets its contract. The invariant: of the places passed the earliest rule is kept. Assumes nothing.
 use Prim.Native.Nat.{_-_, _<_}
-use mathlib.Core.Path.{refl}
+use mathlib.Core.Path.{refl, ap}
 use native.Mathlib.Omega.{arith}
 use borrow.Author.Needs.{needs}
 use Rattle.scope.specs.Plan.{planOf, messageAt, placeCount}
@@ -20,44 +20,49 @@ abbrev μ-loop : tie.MeasureT-loop
 
 loop-holds : tie.Need-loop-holds Inv-loop μ-loop
 loop-holds c =
-    let a = c .before .before .args in
-    (law.passing-first (a .row .now) (a .i) (c .place-count .result), rule.placing-first (planOf (a .row .now)) (a .end) (messageAt (a .row .now) (a .i)) _ refl)
+    let a = c .before .before .before .args in (
+      law.passing-first (a .row .now) (a .i) (c .before .place-count .result),
+      rule.placing-first (planOf (a .row .now)) (a .end) (messageAt (a .row .now) (a .i)) _ (ap (λ f. f .rule) (c .fault-in .ensures)),
+    )
 
 place-at-requires : tie.Need-place-at-requires Inv-loop μ-loop
-place-at-requires c κs =
-    omega (arith, c .before .loop .inv .0 .small, c .before .loop .inv .0 .most, c .before .before .place-count .ensures .small)
+place-at-requires c κs = omega (arith, c .before .loop .inv .0 .small, c .before .loop .inv .0 .most, c .before .before .before .place-count .ensures .small)
 
 place-fault-requires : tie.Need-place-fault-requires Inv-loop μ-loop
 place-fault-requires c κs =
-    let a = c .before .before .before .before .before .args in
+    let a = c .before .before .before .before .before .before in
+    let row = a .args .row .now in
     let l = c .before .before .loop in
-    let h : l .k < placeCount (a .row .now) (a .i) = omega (arith, c .before .before .before .place-count .ensures .is, c .before .loop-test .taken) in
-    let p : PlaceLies (a .row .now) (l .at) = rw (l .inv .0 .index) (c .before .before .before .before .before .pre .2 .place (l .k) h) in
-    (c .before .before .before .before .before .pre .0, omega (arith, l .inv .0 .small, l .inv .0 .most, c .before .before .before .place-count .ensures .small), p .lies)
+    let n = c .before .before .before .before .place-count in
+    let h : l .k < placeCount row (a .args .i) = omega (arith, n .ensures .is, c .before .loop-test .taken) in
+    let p : PlaceLies row (l .at) = rw (l .inv .0 .index) (a .pre .2 .place (l .k) h) in
+    (a .pre .0, omega (arith, l .inv .0 .small, l .inv .0 .most, n .ensures .small), p .lies)
 
 loop-again : tie.Need-loop-again Inv-loop μ-loop
 loop-again c =
-    let a = c .before .before .before .before .before .before .before .args in
+    let a = c .before .before .before .before .before .before .before .before .args in
+    let row = a .row .now in
+    let plan = planOf row in
     let l = c .before .before .before .before .loop in
-    let n = c .before .before .before .before .before .place-count in
+    let n = c .before .before .before .before .before .before .place-count in
     let here = c .before .before .place-at in
-    let fault = c .before .place-fault in (
-      law.passing-next (a .row .now) (a .i) (n .result) (l .at) (l .k) (here .result) (l .inv .0) (c .before .before .before .loop-test .taken) (here .ensures),
-      rule.placing-next (planOf (a .row .now)) (a .end) (messageAt (a .row .now) (a .i)) (l .k) (l .found) _ (c .earlier .result) (fault .result)
-          (l .inv .1)
-          (law.place-of (a .row .now) (a .i) (n .result) (l .at) (l .k) (n .ensures .is) (l .inv .0) (c .before .before .before .loop-test .taken) (planOf (a .row .now))
-          (a .end) (fault .result) (fault .ensures)) refl refl refl (c .earlier .ensures),
+    let fault = c .before .place-fault in
+    let more = c .before .before .before .loop-test .taken in (
+      law.passing-next row (a .i) (n .result) (l .at) (l .k) (here .result) (l .inv .0) more (here .ensures),
+      rule.placing-next plan (a .end) (messageAt row (a .i)) (l .k) (l .found) _ (c .earlier .result) (fault .result) (l .inv .1)
+          (law.place-of row (a .i) (n .result) (l .at) (l .k) (n .ensures .is) (l .inv .0) more plan (a .end) (fault .result) (fault .ensures))
+          refl refl refl (c .earlier .ensures),
     )
 
 returns : tie.Need-returns Inv-loop μ-loop
 returns c =
-    let a = c .before .before .before .before .args in
+    let a = c .before .before .before .before .before .args in
     let l = c .before .loop in
     rule.placing-done (planOf (a .row .now)) (a .end) (messageAt (a .row .now) (a .i)) (l .k) (l .found) (l .inv .1)
-    (law.all-passed (a .row .now) (a .i) _ (l .at) (l .k) (c .before .before .place-count .ensures .is) (l .inv .0) (c .loop-test .left))
+    (law.all-passed (a .row .now) (a .i) _ (l .at) (l .k) (c .before .before .before .place-count .ensures .is) (l .inv .0) (c .loop-test .left))
 
 pub places-fault-spec : {M : Type 1} → statement M
 places-fault-spec =
     tie.close
-    (tie.spec Inv-loop μ-loop (λ c κs. search needs) (λ c. search needs) loop-holds place-at-requires place-fault-requires
+    (tie.spec Inv-loop μ-loop (λ c κs. search needs) (λ c. search needs) (λ c κs. search needs) loop-holds place-at-requires place-fault-requires
     (λ c κs. search needs) (λ c. search needs) (λ c. search needs) loop-again returns)

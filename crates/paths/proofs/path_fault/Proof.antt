@@ -2,7 +2,7 @@
 -- the earliest is kept. Assumes nothing.
 use Prim.Native.Nat.{_-_}
 use native.Mathlib.Omega.{arith}
-use mathlib.Core.Path.{refl}
+use mathlib.Core.Path.{refl, _∙_, ap}
 use borrow.Author.Needs.{needs}
 use lib.ListN.{length}
 use Rattle.scope.specs.Plan.{planOf}
@@ -19,26 +19,32 @@ abbrev μ-loop : tie.MeasureT-loop
 μ-loop row v path links met₀ at₀ found₀ k₀ met at found k = length path - k
 
 loop-holds : tie.Need-loop-holds Inv-loop μ-loop
-loop-holds c = law.walking-first _ _ _ (c .before .before .before .pre .1) _ refl
+loop-holds c = law.walking-first _ _ _ (c .before .before .before .before .pre .1) _ (ap (λ f. f .rule) (c .fault-in .ensures))
 
 returns : tie.Need-returns Inv-loop μ-loop
 returns c =
-    let row = c .before .before .before .before .before .before .before .args .row .now in
-    law.walking-no-link _ _ _ _ _ _ _ (c .before .before .before .loop .inv) _ (c .before .before .loop-test .taken) (c .before .number .ensures .is)
-    (omega (arith, c .if1 .taken, c .before .before .before .before .links .ensures .is, link-count row))
+    let row = c .before .before .before .before .before .before .before .before .before .args .row .now in
+    rw (c .fault-in2 .ensures)
+    (law.walking-no-link _ _ _ _ _ _ _ (c .before .before .before .before .loop .inv) _ (c .before .before .before .loop-test .taken) (c .before .before .number .ensures .is)
+    (omega (arith, c .before .if1 .taken, c .before .before .before .before .before .before .links .ensures .is, link-count row)))
+
+add-k : tie.Need-add-k Inv-loop μ-loop
+add-k c = omega (arith, c .before .before .before .before .before .before .loop-test .taken, c .before .before .before .before .before .before .before .before .before .before .before .before .good)
 
 loop-again : tie.Need-loop-again Inv-loop μ-loop
 loop-again c =
-    let row = c .before .before .before .before .before .before .before .before .before .before .args .row .now in
-    let w = c .before .before .before .before .before .before .loop .inv in
-    let on : OnLink (planOf row) _ (c .before .before .before .before .before .before .loop .k) _ =
+    let row = c .before .before .before .before .before .before .before .before .before .before .before .before .args .row .now in
+    let w = c .before .before .before .before .before .before .before .loop .inv in
+    let ends = c .before .before .before .ends-of .ensures in
+    let on : OnLink (planOf row) _ (c .before .before .before .before .before .before .before .loop .k) _ =
     record {
-      here = c .before .before .before .before .before .loop-test .taken;
-      is = c .before .before .before .before .number .ensures .is;
-      there = omega (arith, c .before .before .before .if1 .left, c .before .before .before .before .before .before .before .links .ensures .is, link-count row);
+      here = c .before .before .before .before .before .before .loop-test .taken;
+      is = c .before .before .before .before .before .number .ensures .is;
+      there = omega (arith, c .before .before .before .before .if1 .left, c .before .before .before .before .before .before .before .before .before .links .ensures .is, link-count row);
     } in
-    law.walking-next _ _ _ _ _ _ _ w _ on _ (c .before .before .ends-of .ensures) _ _ refl
-    (law.link-breaks _ _ _ _ _ _ _ w _ on _ (c .before .before .ends-of .ensures) _ _ refl (c .before .link-rule .ensures)) (c .earlier .ensures)
+    law.walking-next _ _ _ _ _ _ _ w _ on _ ends _ _ (ap (λ f. f .step) (c .before .fault-in3 .ensures))
+    (ap (λ f. f .rule) (c .before .fault-in3 .ensures) ∙ law.link-breaks _ _ _ _ _ _ _ w _ on _ ends _ _ refl (c .before .before .link-rule .ensures))
+    (c .earlier .ensures)
 
 returns-2 : tie.Need-returns-2 Inv-loop μ-loop
 returns-2 c = law.walking-done _ _ _ _ _ _ _ (c .before .loop .inv) (c .loop-test .left)
@@ -46,6 +52,6 @@ returns-2 c = law.walking-done _ _ _ _ _ _ _ (c .before .loop .inv) (c .loop-tes
 pub path-fault-spec : {M : Type 1} → statement M
 path-fault-spec =
     tie.close
-    (tie.spec Inv-loop μ-loop (λ c κs. search needs) (λ c. search needs) loop-holds (λ c κs. search needs) returns (λ c κs. search needs)
-    (λ c. search needs) (λ c κs. search needs) (λ c κs. search needs) (λ c. search needs) (λ c. search needs) (λ c. search needs) loop-again
-    returns-2)
+    (tie.spec Inv-loop μ-loop (λ c κs. search needs) (λ c. search needs) (λ c κs. search needs) loop-holds (λ c κs. search needs)
+    (λ c κs. search needs) returns (λ c κs. search needs) (λ c. search needs) (λ c κs. search needs) (λ c κs. search needs) (λ c κs. search needs)
+    (λ c. search needs) add-k (λ c. search needs) loop-again returns-2)
