@@ -165,6 +165,7 @@ fn places_fault(row: &[u16], end: usize, i: usize) -> Fault
     let mut found = fault_in(5, 0);
     let mut k = 0;
     while k < n {
+        let next = k + 1;
         let here = rows::place_at(row, at);
         let fault = place_fault(row, end, at);
         found = earlier(
@@ -177,7 +178,7 @@ fn places_fault(row: &[u16], end: usize, i: usize) -> Fault
             },
         );
         at = here.next;
-        k += 1;
+        k = next;
     }
     found
 }

@@ -86,18 +86,27 @@ pub fn earlier(found: Fault, here: Fault) -> Fault
     if here.rule < found.rule { here } else { found }
 }
 
-// The rule that a link below E breaks, of the rules of a path: 1 where it does not begin at a vertex, 2 where it leads to one that is marked,
-// 3 none.
+// The rules of a path by the order in which they are asked: a link that is not below E, one that does not join, one that leads to a vertex
+// met already; and none of these.
+const NO_LINK: usize = 0;
+
+const APART: usize = 1;
+
+const AGAIN: usize = 2;
+
+const KEPT: usize = 3;
+
+// The rule that a link below E breaks, where the path stands at a vertex and the link leads to one with a mark.
 fn link_rule(from: usize, at: usize, mark: u8) -> usize
     ensures { λ r. ⌜ r ≡ linkRule (not (eqb from at)) (not (eqb mark 0)) ⌝ }
 {
     if from != at {
-        return 1;
+        return APART;
     }
     if mark != 0 {
-        return 2;
+        return AGAIN;
     }
-    3
+    KEPT
 }
 
 // The fault of links that begin at vertex v: of the earliest rule that one of them breaks, the first step. The path is walked once, with
@@ -110,12 +119,13 @@ pub fn path_fault(row: &[u16], v: usize, path: &[u16]) -> Fault
     let mut met = [0u8; VERTICES];
     met[v] = 1;
     let mut at = v;
-    let mut found = fault_in(3, 0);
+    let mut found = fault_in(KEPT, 0);
     let mut k = 0;
     while k < path.len() {
+        let next = k + 1;
         let e = rows::number(path, k);
         if links <= e {
-            return fault_in(0, k);
+            return fault_in(NO_LINK, k);
         }
         let ends = ends_of(row, e);
         let to = ends.to;
@@ -124,7 +134,7 @@ pub fn path_fault(row: &[u16], v: usize, path: &[u16]) -> Fault
         found = earlier(found, fault_in(rule, k));
         met[to] = 1;
         at = to;
-        k += 1;
+        k = next;
     }
     found
 }

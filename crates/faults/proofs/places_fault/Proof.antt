@@ -64,5 +64,5 @@ returns c =
 pub places-fault-spec : {M : Type 1} → statement M
 places-fault-spec =
     tie.close
-    (tie.spec Inv-loop μ-loop (λ c κs. search needs) (λ c. search needs) (λ c κs. search needs) loop-holds place-at-requires place-fault-requires
-    (λ c κs. search needs) (λ c. search needs) (λ c. search needs) loop-again returns)
+    (tie.spec Inv-loop μ-loop (λ c κs. search needs) (λ c. search needs) (λ c κs. search needs) loop-holds (λ c. search needs) place-at-requires
+    place-fault-requires (λ c κs. search needs) (λ c. search needs) loop-again returns)
