@@ -1,14 +1,15 @@
 //! What the generator spoils: plans that break one rule, for each of refusals 5 to 10
 //! in each way; damaged files and rows; bad cut lists.
 
-use crate::good::{broken, first_path, vertices_of};
-use crate::plan::{fields_of, file_of, row_of, Place, Plan};
+use crate::good::{first_path, vertices_of};
+use crate::good01::broken_by_01;
+use crate::plan::{fields_of, file_of, plan_of_row, row_of, Place, Plan};
 use crate::questions::numbers_of;
 use crate::random::{free_slots, good_cuts, good_plan, Ground, Random, Size};
 
 // --------------------------------------------------------- plans that break a rule
 
-/// A plan that breaks the rule of this refusal (5 to 10), mostly no other one.
+/// A plan that breaks the rule of this refusal of document 01 (5 to 10), mostly no other one.
 pub fn plan_that_breaks(r: &mut Random, number: usize, size: Size) -> Plan {
     let mut tries = 0;
     loop {
@@ -26,7 +27,7 @@ pub fn plan_that_breaks(r: &mut Random, number: usize, size: Size) -> Plan {
         if changed.is_none() {
             continue;
         }
-        let found = broken(&plan);
+        let found = broken_by_01(&plan);
         let alone = found.len() == 1;
         if !found.is_empty() && found[0].number == number && (alone || tries > 8 || r.percent(10)) {
             return plan;
@@ -435,6 +436,18 @@ fn bad_plan(r: &mut Random, size: Size) -> Plan {
         };
     }
     plan
+}
+
+/// A plan that is good, breaks rules, or is in a damaged row that has the form of one.
+pub fn any_plan(r: &mut Random, size: Size) -> Plan {
+    match r.below(10) {
+        0 | 1 => good_plan(r, size),
+        2..=7 => bad_plan(r, size),
+        _ => {
+            let row = damaged_row(r, size);
+            plan_of_row(&row).unwrap_or_else(|_| bad_plan(r, size))
+        }
+    }
 }
 
 // ------------------------------------------------------ damaged files and rows

@@ -2,7 +2,7 @@
 //! lists for the promises. Each case follows from its seed and index alone (and, for a
 //! question, from the names that are left out).
 
-use crate::bad::{any_cuts, any_file, any_row};
+use crate::bad::{any_cuts, any_file, any_plan, any_row};
 use crate::captures::{any_capture, capture_lines};
 use crate::cuts::Pair;
 use crate::cycle::cycle;
@@ -479,6 +479,14 @@ pub fn plan_and_cuts(seed: u64, case: u64) -> (Plan, Vec<Pair>) {
     let plan = good_plan(r, size);
     let cuts = good_cuts(r, &plan);
     (plan, cuts)
+}
+
+/// A plan, good or bad.
+pub fn plan_good_or_bad(seed: u64, case: u64) -> Plan {
+    let mut random = Random::of_case(seed ^ 0x72756C6573, case);
+    let r = &mut random;
+    let size = any_size(r);
+    any_plan(r, size)
 }
 
 /// A good plan and good cut lists of at most four pairs.

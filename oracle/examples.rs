@@ -1,5 +1,5 @@
 //! The examples of document 01, those marked P and those not, the cases "Plausible and
-//! wrong", each refusal in each way, and a few laws on random plans.
+//! wrong", each refusal in each way (document 02's [1] and [7] too), and a few laws on random plans.
 
 use crate::bad;
 use crate::captures;
@@ -7,6 +7,7 @@ use crate::cases;
 use crate::cuts::{cut_list_of_numbers, Pair};
 use crate::cycle::cycle;
 use crate::explain::{by_walking, crossings, number_of_lists, numbers_of_capture, of_every_list};
+use crate::good01::{good_by_01, held_against_01};
 use crate::lines::{
     capture_program, deep_program, explain_program, lines_of_capture, replay_program,
     verdict_program,
@@ -341,7 +342,7 @@ fn fields(tests: &mut Tests) {
     );
 }
 
-// ------------------------------------------------------------- refusals 5 to 10
+// -------------------------------------------------- refusals 5 to 10 and 14 to 19
 
 fn rules(tests: &mut Tests) {
     let mut refused = |name: &str, plan: &Plan, wanted: &str| {
@@ -387,27 +388,31 @@ fn rules(tests: &mut Tests) {
         p.links[3].to = 2;
     });
     refused("5 before 6", &five_and_six, "refused 5 place 3");
-    // 7: "a first path breaks a rule other than that of slots".
-    refused("7, link", &changed(&|p| p.messages[1].places[1].link = 4), "refused 7 place 1");
-    refused("7, link", &changed(&|p| p.messages[0].places[0].link = 63), "refused 7 place 0");
-    refused("7, join", &changed(&|p| p.messages[0].places[1].link = 3), "refused 7 place 0");
+    // 7: "keeps only a link not below E"; 14: "links that don't join"; 15: "a vertex met twice".
+    // "on a first path the step is the place".
+    refused("7", &changed(&|p| p.messages[1].places[1].link = 4), "refused 7 place 1 1 1");
+    refused("7", &changed(&|p| p.messages[0].places[0].link = 63), "refused 7 place 0 0 0");
+    // 0 -> 1, then 2 -> 3.
+    refused("14", &changed(&|p| p.messages[0].places[1].link = 3), "refused 14 place 0 1 1");
     let ring = |links: Vec<(usize, usize, Vec<usize>)>| {
         plan(3, 4, &[(0, 1), (1, 2), (2, 0), (1, 0)], vec![links])
     };
+    // 0 -> 1 -> 2 -> 0, and 0 -> 1 -> 0: the last link leads back.
     let whole = ring(vec![(0, 0, vec![]), (1, 1, vec![]), (2, 2, vec![])]);
-    refused("7, back at the start", &whole, "refused 7 place 0");
+    refused("15, back at the start", &whole, "refused 15 place 0 2 2");
     let back = ring(vec![(0, 0, vec![]), (3, 1, vec![])]);
-    refused("7, there and back", &back, "refused 7 place 0");
+    refused("15, there and back", &back, "refused 15 place 0 1 1");
     // 8: "slots don't rise, or one is not below t".
     refused("8, equal", &changed(&|p| p.messages[1].places[1].slot = 0), "refused 8 place 1");
     refused("8, falling", &changed(&|p| p.messages[0].places[0].slot = 2), "refused 8 place 0");
     refused("8, t", &changed(&|p| p.messages[0].places[1].slot = 4), "refused 8 place 0");
     refused("8, t", &changed(&|p| p.messages[1].places[1].slot = 63), "refused 8 place 1");
-    let seven_and_eight = changed(&|p| {
+    let fourteen_and_eight = changed(&|p| {
         p.messages[0].places[1].slot = 4;
         p.messages[1].places[1].link = 1;
     });
-    refused("7 before 8", &seven_and_eight, "refused 7 place 1");
+    // Links 2, 1 of message 1: 0 -> 2, then 1 -> 3.
+    refused("14 before 8", &fourteen_and_eight, "refused 14 place 1 1 1");
     // 9: "a lower message holds the same link and slot".
     let mut same = b();
     same.messages[1].places[0].slot = 0;
@@ -432,44 +437,49 @@ fn rules(tests: &mut Tests) {
         plan
     };
     refused("8 before 9", &eight_and_nine, "refused 8 place 2");
-    // 10: "a second path breaks a rule".
+    // 10: "likewise keeps the bad link"; 16: "a wrong beginning or join"; 17: "a wrong end"; 18: "a
+    // vertex met twice"; 19: "a start with the replaced link".
     let second = |m: usize, at: usize, path: &[usize]| {
         let path = path.to_vec();
         changed(&move |p: &mut Plan| p.messages[m].places[at].second = Some(path.clone()))
     };
-    refused("10, link", &second(1, 0, &[0, 4]), "refused 10 place 1");
-    refused("10, link", &second(0, 0, &[63, 3]), "refused 10 place 0");
-    refused("10, begin", &second(0, 0, &[3]), "refused 10 place 0");
-    refused("10, begin", &second(1, 1, &[1]), "refused 10 place 1");
-    refused("10, join", &second(0, 0, &[2, 1]), "refused 10 place 0");
-    refused("10, end", &second(1, 0, &[0]), "refused 10 place 1");
-    refused("10, the link it replaces", &second(0, 0, &[0, 1]), "refused 10 place 0");
-    refused("10, the link it replaces", &second(1, 1, &[3]), "refused 10 place 1");
-    // A vertex twice: 0 -> 2 -> 0 -> 1 -> 3, and with the target on the way.
+    refused("10", &second(1, 0, &[0, 4]), "refused 10 place 1 0 1");
+    refused("10", &second(0, 0, &[63, 3]), "refused 10 place 0 0 0");
+    // 2 -> 3 from vertex 0, and 1 -> 3 from vertex 2.
+    refused("16, begin", &second(0, 0, &[3]), "refused 16 place 0 0 0");
+    refused("16, begin", &second(1, 1, &[1]), "refused 16 place 1 1 0");
+    // 0 -> 2, then 1 -> 3.
+    refused("16, join", &second(0, 0, &[2, 1]), "refused 16 place 0 0 1");
+    // 0 -> 1, and the first path ends at 3.
+    refused("17", &second(1, 0, &[0]), "refused 17 place 1 0 0");
+    refused("19", &second(0, 0, &[0, 1]), "refused 19 place 0 0 0");
+    refused("19", &second(1, 1, &[3]), "refused 19 place 1 1 0");
+    // A vertex twice: 0 -> 2 -> 0 -> 1 -> 3, 0 -> 2 -> 3 -> 2 -> 3, 0 -> 2 -> 3 -> 1 -> 3 and
+    // 0 -> 2 -> 0 -> 3.
     let mut loops = a();
     loops.links.push(Link { from: 2, to: 0 });
     loops.messages[0].places[0].second = Some(vec![2, 4, 0, 1]);
-    refused("10, a vertex twice", &loops, "refused 10 place 0");
+    refused("18, the start", &loops, "refused 18 place 0 0 1");
     let mut through = a();
     through.links.push(Link { from: 3, to: 2 });
     through.messages[0].places[0].second = Some(vec![2, 3, 4, 3]);
-    refused("10, the target twice", &through, "refused 10 place 0");
+    refused("18, one on the way, then the target", &through, "refused 18 place 0 0 2");
     let mut only_target = a();
     only_target.links.push(Link { from: 3, to: 1 });
     only_target.messages[0].places[0].second = Some(vec![2, 3, 4, 1]);
-    refused("10, only the target twice", &only_target, "refused 10 place 0");
+    refused("18, only the target", &only_target, "refused 18 place 0 0 3");
     let mut only_start = a();
     only_start.links.push(Link { from: 2, to: 0 });
     only_start.links.push(Link { from: 0, to: 3 });
     only_start.messages[0].places[0].second = Some(vec![2, 4, 5]);
-    refused("10, only the start twice", &only_start, "refused 10 place 0");
-    let nine_and_ten = {
+    refused("18, only the start", &only_start, "refused 18 place 0 0 1");
+    let nine_and_seventeen = {
         let mut plan = b();
         plan.messages[0].places[0].second = Some(vec![1]);
         plan.messages[1].places[0].slot = 0;
         plan
     };
-    refused("9 before 10", &nine_and_ten, "refused 9 place 1");
+    refused("9 before 17", &nine_and_seventeen, "refused 9 place 1");
     // "It may meet vertices and links of any first path."
     let mut meets = plan(
         4,
@@ -997,11 +1007,12 @@ fn generator(tests: &mut Tests) {
         for case in 0..40 {
             let mut r = Random::of_case(11, case);
             let plan = bad::plan_that_breaks(&mut r, number, sizes[case as usize % 4]);
-            let refused = questions::good_plan_of_row(&row_of(&plan));
-            right = right && refused.is_err_and(|refusal| refusal.number == number);
+            right = right && good_by_01(&plan).is_err_and(|refusal| refusal.number == number);
         }
     }
     tests.holds("plans that break a rule break that rule", right);
+    let refused = held_against_01(11, 3000);
+    tests.holds("refused as by document 01", refused.is_ok_and(|refused| refused > 2000));
     let again = cases::question(3, 77, &[]) == cases::question(3, 77, &[]);
     tests.holds("a case follows from seed and index", again);
     let without = [String::from("verdict")];

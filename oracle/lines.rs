@@ -1,4 +1,4 @@
-//! Document 01, "Programs": what the programs read and print; and document 02, [7].
+//! Document 01, "Programs": what the programs read and print; and document 02, [1] and [7].
 
 use crate::cuts::{bad_pair, Pair};
 use crate::cycle::cycle;
@@ -46,9 +46,9 @@ pub fn cut_list_of_lines(plan: &Plan, input: &[u8]) -> Result<Vec<Pair>, Refusal
     Ok(list)
 }
 
-/// "A refusal prints `refused N place P` alone."
+/// "A refusal prints `refused N place P` alone", and those of a path the place and the step.
 pub fn refusal_line(refusal: Refusal) -> String {
-    format!("refused {} place {}\n", refusal.number, refusal.place)
+    format!("{}\n", refusal)
 }
 
 /// What the replay program prints for a plan file and a standard input.

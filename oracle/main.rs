@@ -11,6 +11,7 @@ mod cycle;
 mod examples;
 mod explain;
 mod good;
+mod good01;
 mod lines;
 mod losses;
 mod named;
@@ -45,8 +46,9 @@ oracle: document 01 once more, independent, simple and slow
                                     what it prints with the program NAME (replay, verdict, deep, explain)
   oracle bench-plan KIND SEED       writes a plan file for benchmarks; KIND is network or chain (64 links,
                                     64 slots, 32 messages), small or wide (as document 000 evaluates)
-  oracle theorem SEED N             tries the promises about every replay on N random cases, and
-                                    what a list can lose on N more, with 12 lists each
+  oracle theorem SEED N             tries the promises about every replay on N random cases,
+                                    what a list can lose on N more, with 12 lists each, and on N
+                                    more that a plan is refused exactly if it is by document 01
   oracle different SEED N [NAME [KEEP]]
                                     on how many of N small captures wrong ways to explain them
                                     differ; with NAME, such questions, the KEEP shortest (10)
@@ -308,7 +310,7 @@ fn kinds(seed: u64, number: u64, without: &[String]) -> Result<bool, String> {
     }
     println!("(replays in which the kind comes up)");
     print!("refusal   asked");
-    let numbers: Vec<usize> = (1..14).chain([23]).collect();
+    let numbers: Vec<usize> = (1..20).chain([23]).collect();
     for refusal in &numbers {
         print!(" {:5}", refusal);
     }
@@ -350,7 +352,21 @@ fn theorems(seed: u64, number: u64) -> Result<bool, String> {
             println!("    slack below 0 and yet in time: {}", counts.negative_slack_in_time);
             println!("untouched under cuts: {}", counts.untouched);
             println!("  while others were diverted: {}", counts.untouched_though_others_diverted);
-            losses_of(seed, number)
+            Ok(refused_as_before(seed, number)? && losses_of(seed, number)?)
+        }
+    }
+}
+
+/// That a plan is refused by request [1] exactly if it is by document 01.
+fn refused_as_before(seed: u64, number: u64) -> Result<bool, String> {
+    match good01::held_against_01(seed, number) {
+        Err(text) => {
+            println!("FAILED: not refused as by document 01\n{}", text);
+            Ok(false)
+        }
+        Ok(refused) => {
+            println!("{} plans, {} of them refused: all as by document 01", number, refused);
+            Ok(true)
         }
     }
 }

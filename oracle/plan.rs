@@ -1,15 +1,35 @@
 //! Document 01, "The plan and its two forms": the fields, the file, the row,
 //! and refusals 1 to 4.
 
-/// "A refusal gives its number and place."
+/// "A refusal gives its number and place." Document 02, [1]: that of a path gives its message
+/// as its place, and "with the message come the place and the step of the first link at fault".
 #[derive(Clone, Copy, PartialEq, Debug)]
 pub struct Refusal {
     pub number: usize,
     pub place: usize,
+    /// The place and the step, if it is one of a path.
+    pub link: Option<(usize, usize)>,
 }
 
 pub fn refusal(number: usize, place: usize) -> Refusal {
-    Refusal { number, place }
+    Refusal { number, place, link: None }
+}
+
+/// The refusal of a path: its message, and the place and the step of a link.
+pub fn refusal_of_path(number: usize, message: usize, place: usize, step: usize) -> Refusal {
+    Refusal { number, place: message, link: Some((place, step)) }
+}
+
+/// "A refusal prints `refused N place P` alone." [1]: "the printed refusal ends with both", the
+/// place and the step.
+impl std::fmt::Display for Refusal {
+    fn fmt(&self, f: &mut std::fmt::Formatter) -> std::fmt::Result {
+        write!(f, "refused {} place {}", self.number, self.place)?;
+        match self.link {
+            None => Ok(()),
+            Some((place, step)) => write!(f, " {} {}", place, step),
+        }
+    }
 }
 
 /// A directed link.

@@ -130,8 +130,10 @@ pub fn spaced(numbers: &[u16]) -> String {
     text
 }
 
+/// "A refusal is `refused N place P`; with [1] those of a path are `refused N place MESSAGE PLACE
+/// STEP`."
 fn refused(refusal: Refusal) -> String {
-    format!("refused {} place {}", refusal.number, refusal.place)
+    refusal.to_string()
 }
 
 /// "Behind any answer stands ` spoilt` if a number of the lent buffer outside the

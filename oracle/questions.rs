@@ -1,4 +1,4 @@
-//! The questions, each with its refusals in the order of their numbers and
+//! The questions, each with its refusals in their order and
 //! with the lent buffer that its answer goes to. "A refusal gives its number and
 //! place, [...] and no change in any buffer. A success changes only the part it
 //! writes; a resistant verdict writes nothing."
@@ -11,14 +11,14 @@ use crate::plan::{file_of, plan_of_file, plan_of_row, refusal, row_of, Plan, Ref
 use crate::slack::slack_of;
 use crate::verdict::failing_list;
 
-/// The good plan in a file: refusals 1 to 10.
+/// The good plan in a file: refusals 1 to 10 and 14 to 19.
 pub fn good_plan_of_file(file: &[u8]) -> Result<Plan, Refusal> {
     let plan = plan_of_file(file)?;
     good(&plan)?;
     Ok(plan)
 }
 
-/// The good plan in a row: refusals 1 to 10.
+/// The good plan in a row: refusals 1 to 10 and 14 to 19.
 pub fn good_plan_of_row(row: &[u16]) -> Result<Plan, Refusal> {
     let plan = plan_of_row(row)?;
     good(&plan)?;
