@@ -1,33 +1,26 @@
-//! What the generator spoils: plans that break one rule, for each of refusals 5 to 10
-//! in each way; damaged files and rows; bad cut lists.
+//! What the generator spoils: plans that break one rule, for each of refusals 5 to 10 and 14 to 19
+//! in each way, and plans that break several; damaged files and rows; bad cut lists.
 
-use crate::good::{first_path, vertices_of};
-use crate::good01::broken_by_01;
-use crate::plan::{fields_of, file_of, plan_of_row, row_of, Place, Plan};
+use crate::good::{broken, ORDER};
+use crate::paths::{break_path, lengthen_first_path, unused_links, OF_FIRST, OF_SECOND};
+use crate::plan::{fields_of, file_of, plan_of_row, row_of, Plan};
 use crate::questions::numbers_of;
-use crate::random::{free_slots, good_cuts, good_plan, Ground, Random, Size};
+use crate::random::{good_cuts, good_plan, Random, Size};
 
 // --------------------------------------------------------- plans that break a rule
 
-/// A plan that breaks the rule of this refusal of document 01 (5 to 10), mostly no other one.
+/// A plan that breaks the rule of this refusal (5 to 10, 14 to 19), mostly no other one.
 pub fn plan_that_breaks(r: &mut Random, number: usize, size: Size) -> Plan {
     let mut tries = 0;
     loop {
         tries += 1;
         // A small plan if this size does not lend itself to it.
         let mut plan = good_plan(r, if tries > 30 { Size::Small } else { size });
-        let changed = match number {
-            5 => break_ends(r, &mut plan),
-            6 => break_by_repeating(r, &mut plan),
-            7 => break_first_path(r, &mut plan),
-            8 => break_slots(r, &mut plan),
-            9 => break_by_holding_twice(r, &mut plan),
-            _ => break_second_path(r, &mut plan),
-        };
-        if changed.is_none() {
+        let (m, place) = place_to_spoil(r, &mut plan);
+        if spoil(r, &mut plan, number, m, place).is_none() {
             continue;
         }
-        let found = broken_by_01(&plan);
+        let found = broken(&plan);
         let alone = found.len() == 1;
         if !found.is_empty() && found[0].number == number && (alone || tries > 8 || r.percent(10)) {
             return plan;
@@ -35,15 +28,36 @@ pub fn plan_that_breaks(r: &mut Random, number: usize, size: Size) -> Plan {
     }
 }
 
-/// The links that no path uses.
-fn unused_links(plan: &Plan) -> Vec<usize> {
-    (0..plan.links.len())
-        .filter(|link| {
-            plan.messages.iter().flat_map(|message| &message.places).all(|place| {
-                place.link != *link && !place.second.iter().flatten().any(|other| other == link)
-            })
-        })
-        .collect()
+/// The plan that breaks this rule, if it is one of paths in this message and place.
+fn spoil(r: &mut Random, plan: &mut Plan, number: usize, m: usize, place: usize) -> Option<()> {
+    match number {
+        5 => break_ends(r, plan),
+        6 => break_by_repeating(r, plan),
+        8 => break_slots(r, plan),
+        9 => break_by_holding_twice(r, plan),
+        _ => break_path(r, plan, number, m, place),
+    }
+}
+
+fn message_to_spoil(r: &mut Random, plan: &Plan) -> usize {
+    r.place_below(plan.messages.len())
+}
+
+/// A message, whose first path may get longer, and a place of it, every other time one with a
+/// second path if it has such.
+fn place_to_spoil(r: &mut Random, plan: &mut Plan) -> (usize, usize) {
+    let m = message_to_spoil(r, plan);
+    if r.percent(75) {
+        let _ = lengthen_first_path(r, plan, m);
+    }
+    let places = &plan.messages[m].places;
+    let with_second: Vec<usize> =
+        (0..places.len()).filter(|place| places[*place].second.is_some()).collect();
+    if with_second.is_empty() || r.percent(50) {
+        (m, r.place_below(places.len()))
+    } else {
+        (m, with_second[r.place_below(with_second.len())])
+    }
 }
 
 /// A link to spoil: mostly one that no path uses, so that nothing else breaks.
@@ -90,132 +104,6 @@ fn break_by_repeating(r: &mut Random, plan: &mut Plan) -> Option<()> {
     let later = link_to_spoil(r, plan).max(1);
     let earlier = r.place_below(later);
     plan.links[later] = plan.links[earlier];
-    Some(())
-}
-
-fn message_to_spoil(r: &mut Random, plan: &Plan) -> usize {
-    r.place_below(plan.messages.len())
-}
-
-/// A walk from here that visits a vertex twice, of at most so many links; it ends at
-/// `to` if one is given. Sometimes only the last vertex is one that came before.
-fn walk_with_a_repeat(
-    r: &mut Random,
-    plan: &Plan,
-    from: usize,
-    to: Option<usize>,
-    longest: usize,
-) -> Option<Vec<usize>> {
-    let only_the_last = r.percent(40);
-    for _ in 0..60 {
-        let mut walk = Vec::new();
-        let mut visited = vec![from];
-        let mut repeats = 0;
-        while walk.len() < longest {
-            let here = *visited.last().unwrap();
-            let next: Vec<usize> =
-                (0..plan.links.len()).filter(|link| plan.links[*link].from == here).collect();
-            if next.is_empty() {
-                break;
-            }
-            let link = *r.pick(&next);
-            let end = plan.links[link].to;
-            let end_repeats = visited.contains(&end);
-            walk.push(link);
-            visited.push(end);
-            repeats += usize::from(end_repeats);
-            let wanted = if only_the_last { repeats == 1 && end_repeats } else { repeats > 0 };
-            if wanted && (to.is_none() || to == Some(end)) && r.percent(70) {
-                return Some(walk);
-            }
-        }
-    }
-    None
-}
-
-/// Two links from this vertex to one that is not among these and back, if there are such.
-fn there_and_back(
-    r: &mut Random,
-    plan: &Plan,
-    vertex: usize,
-    visited: &[usize],
-) -> Option<(usize, usize)> {
-    let mut ways = Vec::new();
-    for (there, out) in plan.links.iter().enumerate() {
-        for (back, home) in plan.links.iter().enumerate() {
-            if out.from == vertex && home.to == vertex && home.from == out.to {
-                if !visited.contains(&out.to) {
-                    ways.push((there, back));
-                }
-            }
-        }
-    }
-    if ways.is_empty() {
-        None
-    } else {
-        Some(*r.pick(&ways))
-    }
-}
-
-/// The message's second paths go, so that none of them breaks a rule.
-fn drop_second_paths(plan: &mut Plan, m: usize) {
-    for place in plan.messages[m].places.iter_mut() {
-        place.second = None;
-    }
-}
-
-/// 7: "uses links below E, each beginning where the last ended, with no vertex
-/// visited twice".
-fn break_first_path(r: &mut Random, plan: &mut Plan) -> Option<()> {
-    let m = message_to_spoil(r, plan);
-    let number_of_links = plan.links.len();
-    let length = plan.messages[m].places.len();
-    let place = r.place_below(length);
-    match r.below(3) {
-        0 => {
-            // A link not below E.
-            if number_of_links == 64 {
-                return None;
-            }
-            drop_second_paths(plan, m);
-            plan.messages[m].places[place].link = *r.pick(&[number_of_links, 63]);
-        }
-        1 => {
-            // A link that does not join.
-            if length < 2 {
-                return None;
-            }
-            drop_second_paths(plan, m);
-            if length > 2 && r.percent(40) {
-                let middle = r.between(1, length - 2);
-                plan.messages[m].places.remove(middle);
-            } else {
-                plan.messages[m].places[place].link = r.below(number_of_links);
-            }
-        }
-        _ => {
-            // A vertex visited twice.
-            let longest = plan.timeout.min(16);
-            let from = plan.links[r.below(number_of_links)].from;
-            let walk = walk_with_a_repeat(r, plan, from, None, longest)?;
-            let held = plan
-                .messages
-                .iter()
-                .enumerate()
-                .filter(|(other, _)| *other != m)
-                .flat_map(|(_, message)| &message.places)
-                .map(|place| (place.link, place.slot))
-                .collect();
-            let ground =
-                Ground { links: plan.links.clone(), load: Vec::new(), held, timeout: plan.timeout };
-            let slots = free_slots(r, &ground, &walk)?;
-            plan.messages[m].places = walk
-                .iter()
-                .zip(slots)
-                .map(|(link, slot)| Place { link: *link, slot, second: None })
-                .collect();
-        }
-    }
     Some(())
 }
 
@@ -298,142 +186,52 @@ fn break_by_holding_twice(r: &mut Random, plan: &mut Plan) -> Option<()> {
     Some(())
 }
 
-/// 10: "uses links below E, begins at the vertex where its place stands, joins up,
-/// visits no vertex twice, ends where the first path ends, and does not begin with
-/// the link it replaces".
-fn break_second_path(r: &mut Random, plan: &mut Plan) -> Option<()> {
-    let number_of_links = plan.links.len();
-    // The places with a second path; a rule may also be broken by a new one.
-    let mut with_second = Vec::new();
-    for (m, message) in plan.messages.iter().enumerate() {
-        for (place, of_place) in message.places.iter().enumerate() {
-            if of_place.second.is_some() {
-                with_second.push((m, place));
-            }
-        }
+/// How often each rule is the one to break, of a hundred.
+const WEIGHTS: [(usize, usize); 12] = [
+    (8, 5),
+    (8, 6),
+    (9, 7),
+    (9, 14),
+    (9, 15),
+    (7, 8),
+    (7, 9),
+    (9, 10),
+    (9, 16),
+    (8, 17),
+    (9, 18),
+    (8, 19),
+];
+
+/// A plan that breaks some rule, or several.
+pub fn bad_plan(r: &mut Random, size: Size) -> Plan {
+    if r.percent(30) {
+        return plan_with_faults(r, size);
     }
-    let (m, at) = if with_second.is_empty() || r.percent(30) {
-        let m = message_to_spoil(r, plan);
-        (m, r.place_below(plan.messages[m].places.len()))
-    } else {
-        with_second[r.place_below(with_second.len())]
-    };
-    let path = first_path(plan, m);
-    let visited = vertices_of(plan, &path)?;
-    let target = *visited.last().unwrap();
-    let stands = visited[at];
-    let old = plan.messages[m].places[at].second.clone();
-    let new = match r.below(10) {
-        0 => {
-            // A link not below E.
-            let mut second = old?;
-            if number_of_links == 64 {
-                return None;
-            }
-            let step = r.place_below(second.len());
-            second[step] = *r.pick(&[number_of_links, 63]);
-            second
-        }
-        1 => {
-            // Begins elsewhere: the path without its first link.
-            let second = old?;
-            if second.len() < 2 {
-                return None;
-            }
-            second[1..].to_vec()
-        }
-        2 => {
-            // Begins elsewhere: some link to the target.
-            let ends: Vec<usize> = (0..number_of_links)
-                .filter(|link| plan.links[*link].to == target)
-                .filter(|link| plan.links[*link].from != stands)
-                .collect();
-            if ends.is_empty() {
-                return None;
-            }
-            vec![*r.pick(&ends)]
-        }
-        3 => {
-            // Does not join up: one link is left out, or is another one.
-            let mut second = old?;
-            if second.len() < 3 {
-                return None;
-            }
-            let middle = r.between(1, second.len() - 2);
-            if r.percent(50) {
-                second.remove(middle);
-            } else {
-                second[middle] = r.below(number_of_links);
-            }
-            second
-        }
-        4 => {
-            // A vertex twice.
-            let walk = walk_with_a_repeat(r, plan, stands, Some(target), 16)?;
-            if walk[0] == path[at] && r.percent(90) {
-                return None;
-            }
-            walk
-        }
-        5 | 6 => {
-            // Only the start twice, or only the target: there and back from it.
-            let second = old?;
-            let visited = vertices_of(plan, &second)?;
-            let at_start = r.percent(50);
-            let vertex = if at_start { stands } else { target };
-            let (there, back) = there_and_back(r, plan, vertex, &visited)?;
-            let longer = if at_start {
-                [vec![there, back], second].concat()
-            } else {
-                [second, vec![there, back]].concat()
-            };
-            if longer.len() > 16 || longer[0] == path[at] {
-                return None;
-            }
-            longer
-        }
-        7 => {
-            // Ends elsewhere: the path without its last link.
-            let second = old?;
-            if second.len() < 2 {
-                return None;
-            }
-            second[..second.len() - 1].to_vec()
-        }
-        8 => {
-            // Ends elsewhere: some other link from here.
-            let starts: Vec<usize> = (0..number_of_links)
-                .filter(|link| plan.links[*link].from == stands && *link != path[at])
-                .filter(|link| plan.links[*link].to != target)
-                .collect();
-            if starts.is_empty() {
-                return None;
-            }
-            vec![*r.pick(&starts)]
-        }
-        _ => {
-            // Begins with the link it replaces: the rest of the first path.
-            path[at..].to_vec()
-        }
-    };
-    plan.messages[m].places[at].second = Some(new);
-    Some(())
+    let number = *r.weighted(&WEIGHTS);
+    plan_that_breaks(r, number, size)
 }
 
-/// A plan that breaks some rule, or two rules.
-fn bad_plan(r: &mut Random, size: Size) -> Plan {
-    let number = r.between(5, 10);
-    let mut plan = plan_that_breaks(r, number, size);
-    if r.percent(25) {
-        // A second fault: the lowest number must win, then the lowest place.
-        let _ = match r.below(6) {
-            0 => break_ends(r, &mut plan),
-            1 => break_by_repeating(r, &mut plan),
-            2 => break_first_path(r, &mut plan),
-            3 => break_slots(r, &mut plan),
-            4 => break_by_holding_twice(r, &mut plan),
-            _ => break_second_path(r, &mut plan),
-        };
+/// A plan with two to four faults: of second paths, of first paths, of paths, or of any rule of
+/// messages; often of one rule, often in one path or one message. The earliest number must win,
+/// then the lowest message, place and step.
+pub fn plan_with_faults(r: &mut Random, size: Size) -> Plan {
+    let of_paths = [7, 10, 14, 15, 16, 17, 18, 19];
+    let rules = [(35, &OF_SECOND[..]), (15, &OF_FIRST), (20, &of_paths), (30, &ORDER[2..])];
+    let numbers = *r.weighted(&rules);
+    let mut plan = good_plan(r, size);
+    let (mut m, mut place) = place_to_spoil(r, &mut plan);
+    let mut number = *r.pick(numbers);
+    for _ in 0..r.between(2, 4) {
+        let _ = spoil(r, &mut plan, number, m, place);
+        if r.percent(65) {
+            number = *r.pick(numbers);
+        }
+        if r.percent(45) {
+            (m, place) = place_to_spoil(r, &mut plan);
+        } else if r.percent(35) {
+            place = r.below(plan.messages[m].places.len());
+        }
+        place = place.min(plan.messages[m].places.len() - 1);
     }
     plan
 }

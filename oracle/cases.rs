@@ -2,7 +2,7 @@
 //! lists for the promises. Each case follows from its seed and index alone (and, for a
 //! question, from the names that are left out).
 
-use crate::bad::{any_cuts, any_file, any_plan, any_row};
+use crate::bad::{any_cuts, any_file, any_plan, any_row, bad_plan, plan_with_faults};
 use crate::captures::{any_capture, capture_lines};
 use crate::cuts::Pair;
 use crate::cycle::cycle;
@@ -487,6 +487,18 @@ pub fn plan_good_or_bad(seed: u64, case: u64) -> Plan {
     let r = &mut random;
     let size = any_size(r);
     any_plan(r, size)
+}
+
+/// A plan that breaks rules, every other time several.
+pub fn spoilt_plan(seed: u64, case: u64) -> Plan {
+    let mut random = Random::of_case(seed ^ 0x73706F696C74, case);
+    let r = &mut random;
+    let size = any_size(r);
+    if r.percent(50) {
+        plan_with_faults(r, size)
+    } else {
+        bad_plan(r, size)
+    }
 }
 
 /// A good plan and good cut lists of at most four pairs.

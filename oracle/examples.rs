@@ -7,13 +7,16 @@ use crate::cases;
 use crate::cuts::{cut_list_of_numbers, Pair};
 use crate::cycle::cycle;
 use crate::explain::{by_walking, crossings, number_of_lists, numbers_of_capture, of_every_list};
-use crate::good01::{good_by_01, held_against_01};
+use crate::good::ORDER;
+use crate::good01::held_against_01;
 use crate::lines::{
     capture_program, deep_program, explain_program, lines_of_capture, replay_program,
     verdict_program,
 };
 use crate::losses;
+use crate::misjudged;
 use crate::named;
+use crate::path_examples;
 use crate::plan::{file_of, row_of, Link, Message, Place, Plan};
 use crate::probe::{answer, hex_of_bytes, spaced};
 use crate::questions::{self, good_plan_of_row, numbers_of};
@@ -60,6 +63,7 @@ pub fn run() -> (usize, usize) {
     plan_a(&mut tests);
     fields(&mut tests);
     rules(&mut tests);
+    path_rules(&mut tests);
     cut_lists(&mut tests);
     rooms(&mut tests);
     plausible_and_wrong(&mut tests);
@@ -111,7 +115,7 @@ fn b() -> Plan {
 }
 
 /// A plan; each place has its link, its slot and its second path, empty for none.
-fn plan(
+pub fn plan(
     vertices: usize,
     timeout: usize,
     links: &[(usize, usize)],
@@ -344,23 +348,33 @@ fn fields(tests: &mut Tests) {
 
 // -------------------------------------------------- refusals 5 to 10 and 14 to 19
 
+/// A plan is good, or every question and every program refuses it in this way, whatever else is bad.
+fn judged(tests: &mut Tests, name: &str, plan: &Plan, wanted: &str) {
+    let row = row(plan);
+    let file = file_of(plan);
+    if wanted == "good" {
+        let wanted = format!("ok {} {}", file.len(), hex_of_bytes(&file));
+        tests.asked(name, &format!("write 9999 {}", row), &wanted);
+        return;
+    }
+    tests.asked(name, &format!("write 9999 {}", row), wanted);
+    tests.asked(name, &format!("write 0 {}", row), wanted);
+    tests.asked(name, &format!("replay 9999 3 9 9 9 {}", row), wanted);
+    tests.asked(name, &format!("verdict 9 9 0 {}", row), wanted);
+    tests.asked(name, &format!("explain 9 0 1 9 {}", row), wanted);
+    tests.asked(name, &format!("slack 99 99 {}", row), wanted);
+    tests.asked(name, &format!("second 0 0 {}", row), "part 0");
+    tests.asked(name, &format!("where 0 0 {}", row), "at 0 0");
+    tests.equal(name, &read(&file), wanted);
+    let printed = format!("{}\n", wanted);
+    tests.equal(name, &replay_program(&file, b"x"), &printed);
+    tests.equal(name, &verdict_program(&file), &printed);
+    tests.equal(name, &deep_program(&file), &printed);
+    tests.equal(name, &explain_program(&file, b"x"), &printed);
+}
+
 fn rules(tests: &mut Tests) {
-    let mut refused = |name: &str, plan: &Plan, wanted: &str| {
-        let row = row(plan);
-        if wanted == "good" {
-            let file = hex_of_bytes(&file_of(plan));
-            let wanted = format!("ok {} {}", file.len() / 2, file);
-            tests.asked(name, &format!("write 9999 {}", row), &wanted);
-            return;
-        }
-        // Every question says the same about a bad plan.
-        tests.asked(name, &format!("write 9999 {}", row), wanted);
-        tests.asked(name, &format!("replay 9999 3 9 9 9 {}", row), wanted);
-        tests.asked(name, &format!("verdict 9 9 0 {}", row), wanted);
-        tests.asked(name, &format!("slack 99 99 {}", row), wanted);
-        tests.asked(name, &format!("second 0 0 {}", row), "part 0");
-        tests.equal(name, &read(&file_of(plan)), wanted);
-    };
+    let mut refused = |name: &str, plan: &Plan, wanted: &str| judged(tests, name, plan, wanted);
     let changed = |change: &dyn Fn(&mut Plan)| {
         let mut plan = a();
         change(&mut plan);
@@ -490,6 +504,34 @@ fn rules(tests: &mut Tests) {
     meets.messages[1].places[0].slot = 3;
     meets.messages[1].places[1].slot = 4;
     refused("good, a second path meets first paths", &meets, "good");
+}
+
+/// Document 02, [1]: each number wherever it can stand, and the order of several.
+fn path_rules(tests: &mut Tests) {
+    let examples = [
+        path_examples::each_number(),
+        path_examples::orders(),
+        path_examples::last_of_all(),
+    ]
+    .concat();
+    for (name, plan, wanted) in &examples {
+        judged(tests, name, plan, wanted);
+    }
+    // The wrong ways differ on these, and on random plans.
+    let ways = misjudged::WRONG.map(|(way, _, _)| way);
+    for (way, name, _) in misjudged::WRONG {
+        let shown = examples.iter().any(|(_, plan, _)| misjudged::differs(way, plan));
+        tests.holds(&format!("{} differs on an example", name), shown);
+    }
+    for seed in 1..=2 {
+        let found = misjudged::all_different(&ways, seed, 300);
+        for (way, name, within) in misjudged::WRONG {
+            let differs = found.iter().any(|(other, case)| *other == way && *case < within);
+            tests.holds(&format!("{} differs, seed {}, {} plans", name, seed, within), differs);
+        }
+    }
+    let found = misjudged::all_different(&misjudged::NOT_WRONG, 1, 300);
+    tests.holds("these are not wrong", found.is_empty());
 }
 
 // ------------------------------------------------------------------ cut lists, 12
@@ -1003,11 +1045,12 @@ fn generator(tests: &mut Tests) {
     }
     tests.holds("good plans and good cut lists are good", good);
     let mut right = true;
-    for number in 5..=10 {
+    for number in ORDER {
         for case in 0..40 {
             let mut r = Random::of_case(11, case);
             let plan = bad::plan_that_breaks(&mut r, number, sizes[case as usize % 4]);
-            right = right && good_by_01(&plan).is_err_and(|refusal| refusal.number == number);
+            let refused = questions::good_plan_of_row(&row_of(&plan));
+            right = right && refused.is_err_and(|refusal| refusal.number == number);
         }
     }
     tests.holds("plans that break a rule break that rule", right);

@@ -14,12 +14,16 @@ mod good;
 mod good01;
 mod lines;
 mod losses;
+mod misjudged;
 mod named;
+mod path_examples;
+mod paths;
 mod plan;
 mod probe;
 mod questions;
 mod random;
 mod slack;
+mod tally;
 mod theorem;
 mod verdict;
 
@@ -52,7 +56,10 @@ oracle: document 01 once more, independent, simple and slow
   oracle different SEED N [NAME [KEEP]]
                                     on how many of N small captures wrong ways to explain them
                                     differ; with NAME, such questions, the KEEP shortest (10)
-  oracle differs NAME               whether this wrong way differs on each question of standard input
+  oracle different-refusals SEED N [NAME [KEEP]]
+                                    the same for N spoilt plans and wrong ways to refuse a path
+  oracle differs NAME               whether this wrong way differs on each question of standard input;
+                                    NAME refusals: whether each to refuse a path does on six or more
   oracle help                       this
 
 generate, kinds and compare take --without NAME (again and again), where NAME is read,
@@ -188,9 +195,23 @@ fn run(arguments: &[String]) -> Result<bool, String> {
                 }
             }
         }
+        Some("different-refusals") => {
+            let (seed, number) = (number_at(&words, 1)?, number_at(&words, 2)?);
+            match words.plain.get(3) {
+                None => count_different_refusals(seed, number),
+                Some(name) => {
+                    let keep = if words.plain.len() > 4 { number_at(&words, 4)? } else { 10 };
+                    keep_different_refusals(seed, number, name, keep as usize)
+                }
+            }
+        }
         Some("differs") => {
             let name = words.plain.get(1).ok_or("which way?")?;
-            differs(way_of(name)?)
+            if name == "refusals" {
+                every_way_to_refuse_differs()
+            } else {
+                differs(name)
+            }
         }
         Some("bench-plan") => {
             let kind = words.plain.get(1).ok_or(bench::KINDS)?;
@@ -269,6 +290,8 @@ fn kinds(seed: u64, number: u64, without: &[String]) -> Result<bool, String> {
     let mut captures = vec![0u64; 5]; // unexplained, then lists of 0, 1, 2, 3 pairs
     let mut after_slot_0 = 0;
     let mut part_of_length_0 = 0;
+    let of_paths = tally::numbers();
+    let mut tallies: Vec<tally::Tally> = of_paths.iter().map(|_| Default::default()).collect();
     for case in 0..number {
         let (name, line) = cases::question(seed, case, without);
         let question = cases::QUESTIONS.iter().position(|other| *other == name).unwrap();
@@ -276,7 +299,12 @@ fn kinds(seed: u64, number: u64, without: &[String]) -> Result<bool, String> {
         let answer = probe::answer(line.as_bytes());
         let words: Vec<&str> = answer.split(' ').collect();
         if words[0] == "refused" {
-            refusals[question][words[1].parse::<usize>().unwrap()] += 1;
+            let refusal = words[1].parse::<usize>().unwrap();
+            refusals[question][refusal] += 1;
+            if let Some(at) = of_paths.iter().position(|other| *other == refusal) {
+                let plan = probe::plan_of_question(&line).unwrap();
+                tallies[at].count(&plan, good::good(&plan).unwrap_err());
+            }
         } else if name == "replay" {
             let mut seen = [0u64; 8];
             for event in words[2..].chunks(2) {
@@ -333,6 +361,7 @@ fn kinds(seed: u64, number: u64, without: &[String]) -> Result<bool, String> {
         captures[0], captures[1], captures[2], captures[3], captures[4]
     );
     println!("second paths of length 0: {}", part_of_length_0);
+    tally::print(&tallies);
     Ok(true)
 }
 
@@ -395,12 +424,25 @@ fn way_of(name: &str) -> Result<named::Way, String> {
     found.map(|(way, _, _)| *way).ok_or(format!("{}: no such way", name))
 }
 
-/// Whether this wrong way differs on every question of standard input.
-fn differs(way: named::Way) -> Result<bool, String> {
+fn way_to_refuse(name: &str) -> Result<misjudged::Way, String> {
+    let found = misjudged::WRONG.iter().find(|(_, other, _)| *other == name);
+    found.map(|(way, _, _)| *way).ok_or(format!("{}: no such way", name))
+}
+
+/// Whether this wrong way, to explain a capture or to refuse a path, differs on every question of
+/// standard input.
+fn differs(name: &str) -> Result<bool, String> {
+    let differs_on: Box<dyn Fn(&str) -> Option<bool>> = match way_of(name) {
+        Ok(way) => Box::new(move |line| named::differs_on(way, line)),
+        Err(_) => {
+            let way = way_to_refuse(name)?;
+            Box::new(move |line| misjudged::differs_on(way, line))
+        }
+    };
     let (mut passed, mut failed) = (0, 0);
     for line in std::io::stdin().lock().lines() {
         let line = line.map_err(|error| error.to_string())?;
-        if named::differs_on(way, &line) == Some(true) {
+        if differs_on(&line) == Some(true) {
             passed += 1;
         } else {
             failed += 1;
@@ -411,6 +453,25 @@ fn differs(way: named::Way) -> Result<bool, String> {
     Ok(failed == 0 && passed > 0)
 }
 
+/// Whether each wrong way to refuse a path differs on six questions of standard input or more.
+fn every_way_to_refuse_differs() -> Result<bool, String> {
+    let lines: Result<Vec<String>, _> = std::io::stdin().lock().lines().collect();
+    let lines = lines.map_err(|error| error.to_string())?;
+    let (mut passed, mut failed) = (0, 0);
+    for (way, name, _) in misjudged::WRONG {
+        let differs = |line: &&String| misjudged::differs_on(way, line) == Some(true);
+        let number = lines.iter().filter(differs).count();
+        if number >= 6 {
+            passed += 1;
+        } else {
+            failed += 1;
+            println!("FAILED: {} differs on {} questions alone", name, number);
+        }
+    }
+    println!("{} passed, {} failed", passed, failed);
+    Ok(failed == 0)
+}
+
 /// The shortest questions on which this wrong way differs; what it answers is said on
 /// standard error.
 fn keep_different(seed: u64, number: u64, name: &str, keep: usize) -> Result<bool, String> {
@@ -419,6 +480,30 @@ fn keep_different(seed: u64, number: u64, name: &str, keep: usize) -> Result<boo
     for (case, one) in named::to_keep(found, keep) {
         let right = probe::answer(one.question.as_bytes());
         eprintln!("seed {} case {}: {}, not {}", seed, case, right, named::told(&one.wrong));
+        println!("{}", one.question);
+    }
+    Ok(true)
+}
+
+/// How often each wrong way to refuse a path differs.
+fn count_different_refusals(seed: u64, number: u64) -> Result<bool, String> {
+    let ways = misjudged::WRONG.map(|(way, _, _)| way);
+    let found = misjudged::all_different(&ways, seed, number);
+    println!("{} spoilt plans of seed {}", number, seed);
+    for (way, name, _) in misjudged::WRONG {
+        let cases: Vec<u64> =
+            found.iter().filter(|(other, _)| *other == way).map(|(_, case)| *case).collect();
+        println!("{:22} {:7}, the first {:?}", name, cases.len(), cases.first());
+    }
+    Ok(true)
+}
+
+/// The shortest questions on which this wrong way to refuse a path differs; what it answers is said
+/// on standard error.
+fn keep_different_refusals(seed: u64, number: u64, name: &str, keep: usize) -> Result<bool, String> {
+    for one in misjudged::to_keep(way_to_refuse(name)?, seed, number, keep) {
+        let (right, wrong) = (misjudged::told(one.right), misjudged::told(one.wrong));
+        eprintln!("seed {} case {}: {}, not {}", seed, one.case, right, wrong);
         println!("{}", one.question);
     }
     Ok(true)

@@ -1,6 +1,6 @@
 //! PROBE.md: every question as a line of text, and its answer.
 
-use crate::plan::Refusal;
+use crate::plan::{plan_of_file, plan_of_row, Plan, Refusal};
 use crate::questions;
 
 const BYTE_BEFORE: u8 = 0xA5;
@@ -82,6 +82,24 @@ fn answer_to_a_question(line: &[u8]) -> Option<String> {
         }
         _ => None,
     }
+}
+
+/// The plan that a question is about, good or not, if its file or row has the form of one.
+pub fn plan_of_question(line: &str) -> Option<Plan> {
+    let words: Vec<&str> = line.split(' ').collect();
+    if words[0] == "read" {
+        return plan_of_file(&bytes_of_hex(words.get(2)?)?).ok();
+    }
+    let numbers = numbers(&words[1..])?;
+    let before = match words[0] {
+        "write" => 1,
+        "replay" => 2 + *numbers.get(1)? as usize,
+        "verdict" => 3,
+        "explain" => 3 + *numbers.get(2)? as usize,
+        "slack" | "second" | "where" => 2,
+        _ => return None,
+    };
+    plan_of_row(numbers.get(before..)?).ok()
 }
 
 /// "Numbers are decimals": digits and nothing else, without needless zeros, and a 16-bit number.
