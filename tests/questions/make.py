@@ -7,7 +7,8 @@ the second program played (target/oracle), and what is made of them here. Not ma
   explain-last-message   on which it matters that the foremost message that differs is named, not the last; like the next two found by the second
                          program (oracle/README.md): target/oracle different 1 100000 last-message 12
   explain-wait-is-dead   on which it matters that a message that waits names its link: target/oracle different 1 5000 wait-is-dead 12
-  explain-wrong-ways     six for each other wrong way to explain a capture: target/oracle different 1 3000 NAME 6, in the order that it lists them"""
+  explain-wrong-ways     six for each other wrong way to explain a capture: target/oracle different 1 3000 NAME 6, in the order that it lists them
+  path-rules-wrong-ways  six for each wrong way to refuse a path: target/oracle different-refusals 1 20000 NAME 6, likewise"""
 import subprocess
 
 B = [1, 2, 2, 1, 3, 0, 1, 0, 2, 2, 1, 0, 0, 0, 1, 1, 1, 2, 0, 0, 1, 1, 1, 1, 2]
@@ -83,7 +84,7 @@ def line(v, e, m, t, links, messages):
     return row
 
 
-# The longest row that has the form of a plan. Its second paths begin with the link they replace, so it is refused for that alone.
+# The longest row that has the form of a plan. All its second paths begin where the first one does, so it is refused for that alone: first at place 1.
 def longest():
     row = [1, 63, 63, 31, 63]
     for i in range(64):
@@ -155,7 +156,7 @@ def questions_rules():
         ls = list(links)
         ls[k] = ls[0]
         q.append(write(line(v, e, mm, tt, ls, messages)))
-    for k in (0, m - 1):  # 7: links that do not join, a vertex twice, a link not below E
+    for k in (0, m - 1):  # 14, 15, 7: links that do not join, a vertex twice, a link not below E
         ms = [list(x) for x in messages]
         ms[k] = [(0, 1, None), (2, 2, None)]
         q.append(write(line(v, e, mm, tt, links, ms)))
@@ -177,7 +178,7 @@ def questions_rules():
         ms = [list(x) for x in messages]
         ms[k] = list(ms[0])
         q.append(write(line(v, e, mm, tt, links, ms)))
-    # 10: in each way, at the first and the last message. Links 0:0-1 1:1-2 2:0-3 3:3-2 4:3-1 5:2-0 6:0-2
+    # 10, 16 to 19: in each way, at the first and the last message. Links 0:0-1 1:1-2 2:0-3 3:3-2 4:3-1 5:2-0 6:0-2
     net = [(0, 1), (1, 2), (0, 3), (3, 2), (3, 1), (2, 0), (0, 2)]
     for k in (0, 31):
         for second in ([2, 3], [6], [2, 4, 1], [0, 1], [2], [3], [2, 4], [7], [2, 7], [2, 3, 5], [4, 1], [6, 5, 6], [63]):
@@ -186,6 +187,106 @@ def questions_rules():
             q.append(write(line(4, 7, 32, 64, net, ms)))
             ms[k] = [(0, 40, None), (1, 41, second)]
             q.append(write(line(4, 7, 32, 64, net, ms)))
+    return q
+
+
+# The other questions about a bad row: all say the same, whatever else is bad in them, and the last two show an empty part.
+def asked_otherwise(row):
+    return [read(file(row), 0), "replay 0 3 9 9 9 " + nums(row), "verdict 9 9 0 " + nums(row), "slack 99 99 " + nums(row), "explain 9 0 1 9 " + nums(row), "second 0 0 " + nums(row), "where 0 0 " + nums(row)]
+
+
+# 32 messages, all but one with first path link 0. Message k goes along 0-1-...-16 by links 0 to 15, and from its places 0 and 15 there is a second
+# path of 16 links by 17-18-...-31 to 16. Links 33 on are for the faults, and those not below 43 are none.
+def long_paths(k, first, seconds):
+    links = [(i, i + 1) for i in range(16)] + [(0, 17), (15, 17)] + [(i, i + 1) for i in range(17, 31)] + [(31, 16)]
+    links += [(31, 32), (29, 16), (16, 31), (15, 0), (15, 14), (15, 7), (17, 0), (17, 15), (0, 16), (1, 0)]
+    ms = [[(0, 20 + i, None)] for i in range(32)]
+    ms[k] = [(link, place, seconds.get(place)) for place, link in enumerate(first)]
+    return line(33, 43, 32, 64, links, ms)
+
+
+# Three messages with first path 0, 1, 2, 3 along 0-1-2-3-4, and from each place a second path over 5-6-7 to 4; links 11 on are for the faults, and
+# those not below 28 are none. A change is (message, links) for a first path, (message, place, links) for a second one, and (message, "slots", slots).
+def short_paths(*changes):
+    links = [(0, 1), (1, 2), (2, 3), (3, 4), (0, 5), (5, 6), (6, 7), (7, 4), (1, 5), (2, 5), (3, 5), (1, 0), (2, 0), (2, 1), (4, 0), (4, 2), (4, 3)]
+    links += [(5, 0), (6, 0), (6, 5), (7, 5), (4, 7), (4, 6), (7, 8), (0, 4), (8, 9), (0, 3), (5, 4)]
+    ms = [[(p, 6 * m + p, [(4, 8, 9, 10)[p], 5, 6, 7]) for p in range(4)] for m in range(3)]
+    for change in changes:
+        m, path = change[0], change[-1]
+        if len(change) == 2:
+            ms[m] = [(link, 6 * m + p, None) for p, link in enumerate(path)]
+        elif change[1] == "slots":
+            ms[m] = [(ms[m][p][0], slot, ms[m][p][2]) for p, slot in enumerate(path)]
+        else:
+            p = change[1]
+            ms[m][p] = (ms[m][p][0], ms[m][p][1], path)
+    return line(10, 28, 3, 20, links, ms)
+
+
+def questions_path_rules():
+    along, side = list(range(16)), list(range(18, 32))
+    whole = {0: [16] + side + [32], 15: [17] + side + [32]}
+    rows = []
+    # each number in the first and the last message, at the first and the last place and step that there can be
+    for k in (0, 31):
+        rows.append(long_paths(k, along, whole))  # good
+        for bad in (43, 63):  # 7
+            rows += [long_paths(k, [bad], {}), long_paths(k, [bad] + along[1:], whole), long_paths(k, along[:7] + [bad] + along[8:], whole), long_paths(k, along[:15] + [bad], whole)]
+        rows += [long_paths(k, [0, 2] + along[3:], {}), long_paths(k, along[:7] + along[8:], {}), long_paths(k, along[:15] + [32], {})]  # 14
+        rows += [long_paths(k, [0, 42], {}), long_paths(k, [0, 42] + along[:14], {})]  # 15: the start again in one link
+        rows += [long_paths(k, along[:15] + [back], {}) for back in (36, 37, 38)]  # 15: the start, the one before, another
+        for place, begin in ((0, 16), (15, 17)):
+
+            def second(*links):
+                return long_paths(k, along, {**whole, place: list(links)})
+
+            rows += [second(bad, *side, 32) for bad in (43, 63)] + [second(63), second(begin, *side[:6], 43, *side[7:], 32), second(begin, *side, 63)]  # 10
+            rows += [second(33 - begin, *side, 32), second(32), second(*side, 32)]  # 16: where the other one begins, and in the middle
+            rows += [second(begin, 32), second(begin, *side[1:], 32), second(begin, *side, 15)]  # 16: the joins
+            rows += [second(begin), second(begin, *side), second(begin, *side, 33)]  # 17
+            back = (39, 41) if place == 0 else (40, 15)
+            rows += [second(begin, *back), second(begin, *side[:12], 34, 35, 32)]  # 18: the start again in one link, the target last
+            rows.append(second(*along[place:]))  # 19
+    # the order: each number before each later one, the later one in the lowest message and the earlier one in the last
+    faults = [
+        (lambda m: (m, [0, 1, 63])),  # 7
+        (lambda m: (m, [0, 1, 3])),  # 14
+        (lambda m: (m, [0, 1, 13])),  # 15
+        (lambda m: (m, "slots", [6 * m, 6 * m + 1, 6 * m + 1, 6 * m + 2])),  # 8
+        (lambda m: (m, "slots", [6, 7, 8, 9])),  # 9, with message 1
+        (lambda m: (m, 1, [8, 63])),  # 10
+        (lambda m: (m, 2, [9, 6, 7])),  # 16
+        (lambda m: (m, 3, [10, 5])),  # 17
+        (lambda m: (m, 1, [11, 0, 8, 27])),  # 18
+        (lambda m: (m, 1, [1, 2, 3])),  # 19
+    ]
+    for i, earlier in enumerate(faults):
+        rows.append(short_paths(earlier(2)))
+        for later in faults[i + 1 :]:
+            rows.append(short_paths(later(0), earlier(2)))
+            rows.append(short_paths(earlier(1), later(2), later(0)))
+    # several rules in one path: 15 below 14 below 7; 18 below 17; 19 below 18, 17, 16 and 10; 16 beside 17 and below 10
+    for path in ([0, 11, 4, 6], [0, 11, 4, 6, 28], [0, 2, 63], [0, 4, 17], [0, 1, 12, 6, 11]):
+        rows += [short_paths((m, path)) for m in (0, 2)]
+    for path in ([4, 17, 4, 5], [4, 17], [0, 11, 24], [0, 1], [0, 6, 7], [0, 1, 2, 28], [4, 17, 6, 23], [4, 17, 6, 63], [5], [5, 63], [16, 3], [4, 5, 6, 7, 21]):
+        rows += [short_paths((m, 0, path)) for m in (0, 2)]
+    # one rule twice: in one path, in two places of one message, in two messages
+    rows += [short_paths((1, path)) for path in ([0, 63, 28], [28, 63], [0, 2, 1, 3], [0, 11, 0, 1], [0, 1, 12, 0])]
+    rows += [short_paths((1, 0, path)) for path in ([4, 63, 28], [63, 28], [5, 7, 6, 7], [4, 7, 6, 7], [4, 17, 4, 17, 24], [4, 5, 19, 5, 6, 7])]
+    seconds = (([4, 63], [63]), ([4, 6, 7], [7]), ([4, 5], [10]), ([4, 5, 18, 24], [10, 27, 16, 3]), ([0, 1, 2, 3], [3]))
+    for low, high in seconds:
+        rows += [short_paths((1, 0, low), (1, 3, high)), short_paths((1, 3, high), (2, 0, low)), short_paths((0, 3, high), (1, 0, low), (1, 3, high))]
+    for low, high in (([0, 1, 2, 63], [28]), ([0, 1, 3], [0, 2]), ([0, 1, 12], [0, 11])):
+        rows += [short_paths((0, low), (2, high)), short_paths((1, high), (2, low))]
+    # an earlier number at a higher place of one message
+    for i, (_, high) in enumerate(seconds):
+        rows += [short_paths((1, 0, low), (1, 3, high)) for low, _ in seconds[i + 1 :]]
+    q = []
+    for i, row in enumerate(rows):
+        q += [write(row), asked_otherwise(row)[i % 7]]
+    # every question about one bad row of each number
+    for fault in faults:
+        q += asked_otherwise(short_paths(fault(2)))
     return q
 
 
@@ -326,12 +427,12 @@ def questions_explain():
         q += [ask(A, 3, capture[: at + 1] + [capture[at]] + capture[at + 1 :]), ask(A, 3, capture[:at] + [(slot,)]), ask(A, 3, capture[:at] + [(slot, link)])]
         q.append(ask(A, 3, capture[:at] + [(4, 0, 0)] + capture[at:] + [(0,)]))
     q += [ask(A, 3, two) for two in ([(1, 0, 0), (0, 1, 1)], [(1, 1, 0), (1, 0, 1)], [(1, 1, 1), (1, 1, 0)], [(3, 3, 1), (3, 3, 1)], [(0, 0, 1), (0, 1, 0)], [(0, 3, 1), (1, 0, 0)])]
-    # the order of the refusals: 1 to 10, 11, 23, 13
+    # the order of the refusals: 1 to 10 and 14 to 19, 11, 23, 13
     for row in ([2] + A[1:], [], A[:-1], A[:1] + [64] + A[2:], A + [0], A[:6] + [0] + A[7:], A[:7] + A[5:7] + A[9:], A[:19] + [7] + A[20:]):
         q += [ask(row, 9, [(9,)], 0), ask(row, 2, [], 4)]
     net = [(0, 1), (1, 3), (0, 2), (2, 3)]
     for messages in ([[(0, 0, None), (3, 1, None)]], [[(0, 1, None), (1, 1, None)]], [[(0, 0, None)], [(0, 0, None)]], [[(0, 0, [2]), (1, 1, None)]]):
-        q += [ask(line(4, 4, len(messages), 4, net, messages), k, [(9,)], 0) for k in (2, 4)]  # 7, 8, 9, 10
+        q += [ask(line(4, 4, len(messages), 4, net, messages), k, [(9,)], 0) for k in (2, 4)]  # 14, 8, 9, 17
     q += [ask(A, 4, [(9,)], 0), ask(A, 3, [(9,)], 0), ask(A, 3, [(0, 0, 0)], 0), ask(A, 3, [(0, 0, 0)], 5)]
     # one, two and three links that lose one message each; so many lost need so many cuts
     chain = line(5, 4, 4, 3, [(0, 1), (1, 2), (2, 3), (3, 4)], [[(i, 1, None)] for i in range(4)])
@@ -361,6 +462,6 @@ def questions_explain():
     return q
 
 
-for name, made in (("explain", questions_explain()), ("replay", questions_replay()), ("slack", questions_slack()), ("verdict", questions_verdict()), ("files", questions_files()), ("rows", questions_rows()), ("rules", questions_rules()), ("second", questions_second()), ("where", questions_where())):
+for name, made in (("explain", questions_explain()), ("replay", questions_replay()), ("slack", questions_slack()), ("verdict", questions_verdict()), ("files", questions_files()), ("rows", questions_rows()), ("rules", questions_rules()), ("path-rules", questions_path_rules()), ("second", questions_second()), ("where", questions_where())):
     with open(name + ".questions", "w") as f:
         f.write("\n".join(made) + "\n")
