@@ -10,7 +10,7 @@ use crate::random::{free_slots, Ground, Random};
 /// A path as the ends of its links; they need not join.
 type Hops = Vec<(usize, usize)>;
 
-/// The most links that a path or a plan has.
+/// The most links of a path, and the most links and vertices of a plan.
 const LONGEST: usize = 16;
 const LINKS: usize = 64;
 const VERTICES: usize = 64;
@@ -259,7 +259,7 @@ fn lengthened(
     but: &[usize],
     longest: usize,
 ) -> Hops {
-    // As many links as are to be had, less three for the fault itself.
+    // For n links more n + 1 new ones are to be had, and three are left for the fault itself.
     let to_be_had = LINKS - plan.links.len() + unused_links(plan).len();
     let most = longest.min(hops.len() + to_be_had.saturating_sub(4)).max(hops.len());
     let wanted = match r.below(10) {
@@ -302,10 +302,10 @@ pub fn lengthen_first_path(r: &mut Random, plan: &mut Plan, m: usize) -> Option<
     let ground = ground_without(plan, m, timeout);
     let slots = (0..6).find_map(|_| free_slots(r, &ground, &links))?;
     plan.timeout = timeout;
-    let mut old = std::mem::take(&mut plan.messages[m].places).into_iter().peekable();
+    let old = std::mem::take(&mut plan.messages[m].places);
     for (link, slot) in links.into_iter().zip(slots) {
-        let stays = old.next_if(|place| place.link == link);
-        let second = stays.and_then(|place| place.second);
+        let stays = old.iter().find(|place| place.link == link);
+        let second = stays.and_then(|place| place.second.clone());
         plan.messages[m].places.push(Place { link, slot, second });
     }
     Some(())

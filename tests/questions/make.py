@@ -8,7 +8,7 @@ the second program played (target/oracle), and what is made of them here. Not ma
                          program (oracle/README.md): target/oracle different 1 100000 last-message 12
   explain-wait-is-dead   on which it matters that a message that waits names its link: target/oracle different 1 5000 wait-is-dead 12
   explain-wrong-ways     six for each other wrong way to explain a capture: target/oracle different 1 3000 NAME 6, in the order that it lists them
-  path-rules-wrong-ways  six for each wrong way to refuse a path: target/oracle different-refusals 1 20000 NAME 6, likewise"""
+  path-rules-wrong-ways  six for each wrong way to refuse a path: target/oracle different-refusals 1 5000 NAME 6, likewise"""
 import subprocess
 
 B = [1, 2, 2, 1, 3, 0, 1, 0, 2, 2, 1, 0, 0, 0, 1, 1, 1, 2, 0, 0, 1, 1, 1, 1, 2]
