@@ -9,21 +9,25 @@ int main(int argc, char **argv) {
     static uint8_t file[NUTHATCHET_FILE + 1]; /* a byte more than the longest plan, so that a longer file is seen to be too long */
     static uint16_t row[NUTHATCHET_ROW];
     uint16_t list[NUTHATCHET_LIST];
-    size_t place, numbers, pairs;
+    uint8_t text[98]; /* room for the line of every refusal */
+    size_t place, at, step, numbers, pairs, bytes_said;
 
     FILE *plan = fopen(argc > 1 ? argv[1] : "plan.bin", "rb");
     size_t bytes = plan ? fread(file, 1, sizeof file, plan) : 0;
     size_t k = argc > 2 ? strtoul(argv[2], NULL, 10) : 1;
 
-    size_t refused = nuthatchet_read_file(file, bytes, row, NUTHATCHET_ROW, &place, &numbers);
+    size_t refused = nuthatchet_read_file(file, bytes, row, NUTHATCHET_ROW, &place, &at, &step, &numbers);
     for (size_t l = 0; refused == 0 && l <= (size_t)row[3] + 1; l++) { /* row[3] is one less than the number of messages */
-        refused = nuthatchet_verdict(row, numbers, k, l, list, NUTHATCHET_LIST, &place, &pairs);
+        refused = nuthatchet_verdict(row, numbers, k, l, list, NUTHATCHET_LIST, &place, &at, &step, &pairs);
         if (refused != 0) break;
         printf("%zu %zu", k, l);
         if (pairs == 0) printf(" resistant");
         for (size_t i = 0; i < 2 * pairs; i++) printf(" %u", (unsigned)list[i]);
         printf("\n");
     }
-    if (refused != 0) printf("refused %zu place %zu\n", refused, place);
+    if (refused != 0) {
+        nuthatchet_refusal_text(refused, place, at, step, text, sizeof text, &place, &at, &step, &bytes_said);
+        fwrite(text, 1, bytes_said, stdout);
+    }
     return 0;
 }

@@ -28,6 +28,8 @@ fn main() {
     let file = std::fs::read(words.get(1).map_or("plan.bin", String::as_str)).unwrap_or_default();
     let k = words.get(2).and_then(|k| k.parse().ok()).unwrap_or(1);
     if let Err(refusal) = lines(&file, k) {
-        println!("refused {} place {}", refusal.number, refusal.place);
+        let mut text = [0; 98];
+        let bytes = nuthatchet::refusal_text(refusal, &mut text).unwrap_or_default();
+        print!("{}", String::from_utf8_lossy(&text[..bytes]));
     }
 }

@@ -1,4 +1,4 @@
--- An explanation told as three numbers: a list has no more pairs than can be asked for, and what the numbers say.
+-- An explanation told as five numbers: a list has no more pairs than can be asked for, and what the numbers say.
 use Prim.Native.Nat.{ℕ, suc, _+_, _*_, _≤_}
 use native.Mathlib.Omega.{arith}
 use mathlib.Core.Path.{_≡_, refl, sym}
@@ -39,22 +39,22 @@ module _ (row : List ℕ) (k : ℕ) (capture entry exit : List ℕ) where
   few (Listed i) a n e = let s : i ≡ n = cc in omega (arith, at-most (a .may), a .list .few, a .count)
   few (Refused r) a n e = let z : _≡_ {A = ℕ} 0 1 = cc in absurd (omega arith)
 
-  pub tells-explanation : (r : Explanation) {n p v : ℕ} → Answered row k capture entry exit r → Told (explained r) n p v →
-      TellsExplanation row k capture entry exit n p v
+  pub tells-explanation : (r : Explanation) {n p q s v : ℕ} → Answered row k capture entry exit r → Told (explained r) n p q s v →
+      TellsExplanation row k capture entry exit n p q s v
   tells-explanation r a t = record { explanation = r; answered = a; told = t }
 
-  module _ (p : ℕ) where
+  module _ (p q s : ℕ) where
     none-refused : (r : Refusal) → 0 ≡ r .no → mayExplain row k capture (length entry) ≡ refused r → ⊥
     none-refused r is e = zero-says-none .explains row k capture (length entry) r e (sym is)
 
-    says-none : (r : Explanation) → Answered row k capture entry exit r → Told (explained r) 0 p 0 → IsUnexplained row k capture entry exit
+    says-none : (r : Explanation) → Answered row k capture entry exit r → Told (explained r) 0 p q s 0 → IsUnexplained row k capture entry exit
     says-none Unexplained a t = a
     says-none (Listed i) a t =
         let none : 0 ≡ i + 1 = t .result in
         absurd (omega arith)
-    says-none (Refused r) a t = absurd (none-refused r (t .number) (a .may))
+    says-none (Refused r) a t = absurd (none-refused r (t .refusal .number) (a .may))
 
-    says-list : (n : ℕ) (r : Explanation) → Answered row k capture entry exit r → Told (explained r) 0 p (suc n) →
+    says-list : (n : ℕ) (r : Explanation) → Answered row k capture entry exit r → Told (explained r) 0 p q s (suc n) →
         IsListed row k capture entry exit n
     says-list n Unexplained a t =
         let none : suc n ≡ 0 = t .result in
@@ -63,11 +63,11 @@ module _ (row : List ℕ) (k : ℕ) (capture entry exit : List ℕ) where
         let count : suc n ≡ i + 1 = t .result in
         let same : n ≡ i = omega arith in
         rw same a
-    says-list n (Refused r) a t = absurd (none-refused r (t .number) (a .may))
+    says-list n (Refused r) a t = absurd (none-refused r (t .refusal .number) (a .may))
 
 pub result-says : ResultSays
 result-says =
     record {
-      unexplained = λ row k capture entry exit p h. says-none row k capture entry exit p (h .explanation) (h .answered) (h .told);
-      listed = λ row k capture entry exit p n h. says-list row k capture entry exit p n (h .explanation) (h .answered) (h .told);
+      unexplained = λ row k capture entry exit p q s h. says-none row k capture entry exit p q s (h .explanation) (h .answered) (h .told);
+      listed = λ row k capture entry exit p q s n h. says-list row k capture entry exit p q s n (h .explanation) (h .answered) (h .told);
     }

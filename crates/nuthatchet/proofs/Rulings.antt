@@ -51,5 +51,6 @@ module _ (row : List ℕ) (k l : ℕ) (entry exit : List ℕ) where
   failing-some (Failing n) a i e = let s : n ≡ i = cc in rw (← s) (some n a)
   failing-some (Refused r) a i e = let z : _≡_ {A = ℕ} 0 1 = cc in absurd (omega arith)
 
-  pub tells-ruling : (r : Ruling) {n p v : ℕ} → Answered row k l entry exit r → Told (ruled r) n p v → TellsRuling row k l entry exit n p v
+  pub tells-ruling : (r : Ruling) {n p q s v : ℕ} → Answered row k l entry exit r → Told (ruled r) n p q s v →
+      TellsRuling row k l entry exit n p q s v
   tells-ruling r a t = record { ruling = r; answered = a; told = t; some = failing-some r a }

@@ -1,4 +1,4 @@
--- An explanation as three numbers.
+-- An explanation as five numbers.
 use Prim.Native.Nat.{ℕ, suc, _+_, _≤_}
 use mathlib.Core.Path.{_≡_}
 use mathlib.Core.List.{List}
@@ -21,14 +21,14 @@ abbrev pub Few : Explanation → Type 0
 Few explanation = (n : ℕ) → explanation ≡ Listed n → n ≤ mostCuts
 
 -- the numbers tell an explanation that is the answer
-pub record TellsExplanation (row : List ℕ) (k : ℕ) (capture entry exit : List ℕ) (n p v : ℕ) : Type 0 where
+pub record TellsExplanation (row : List ℕ) (k : ℕ) (capture entry exit : List ℕ) (n p q s v : ℕ) : Type 0 where
   pub explanation : Explanation
   pub answered : Answered row k capture entry exit explanation
-  pub told : Told (explained explanation) n p v
+  pub told : Told (explained explanation) n p q s v
 
 -- so, with the number 0, a result of 0 says unexplained, and another one how many pairs the list has, and one more
 pub record ResultSays : Type 0 where
-  pub unexplained : (row : List ℕ) (k : ℕ) (capture entry exit : List ℕ) (p : ℕ) → TellsExplanation row k capture entry exit 0 p 0 →
+  pub unexplained : (row : List ℕ) (k : ℕ) (capture entry exit : List ℕ) (p q s : ℕ) → TellsExplanation row k capture entry exit 0 p q s 0 →
       IsUnexplained row k capture entry exit
-  pub listed : (row : List ℕ) (k : ℕ) (capture entry exit : List ℕ) (p n : ℕ) → TellsExplanation row k capture entry exit 0 p (suc n) →
+  pub listed : (row : List ℕ) (k : ℕ) (capture entry exit : List ℕ) (p q s n : ℕ) → TellsExplanation row k capture entry exit 0 p q s (suc n) →
       IsListed row k capture entry exit n

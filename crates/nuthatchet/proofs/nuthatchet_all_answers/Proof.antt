@@ -5,7 +5,7 @@ use Rattle.nuthatchet.proofs.nuthatchet_all_answers.Statement.{statemen
 use Rattle.nuthatchet.proofs.nuthatchet_all_answers.Tie as tie
 
 returns : tie.Need-returns
-returns c = says-all _ (c .tell .ensures) (c .before .before .before .before .before .all-answers .ensures)
+returns c = says-all _ (c .tell .ensures) (c .before .before .before .before .before .before .before .all-answers .ensures)
 
 pub nuthatchet-all-answers-spec : {M : Type 1} → statement M
 nuthatchet-all-answers-spec =

@@ -6,11 +6,12 @@ use Rattle.nuthatchet.proofs.nuthatchet_explain.Tie as tie
 
 tell-explanation-requires : tie.Need-tell-explanation-requires
 tell-explanation-requires c κs =
-    few _ _ _ _ _ (c .before .before .before .before .explain .result) (c .before .before .before .before .explain .ensures)
+    let s = c .before .before .before .before .before .before in
+    few _ _ _ _ _ (s .explain .result) (s .explain .ensures)
 
 returns : tie.Need-returns
-returns c = tells-explanation _ _ _ _ _ (c .before .before .before .before .before .explain .result)
-    (c .before .before .before .before .before .explain .ensures) (c .tell-explanation .ensures)
+returns c = tells-explanation _ _ _ _ _ (c .before .before .before .before .before .before .before .explain .result)
+    (c .before .before .before .before .before .before .before .explain .ensures) (c .tell-explanation .ensures)
 
 pub nuthatchet-explain-spec : {M : Type 1} → statement M
 nuthatchet-explain-spec =

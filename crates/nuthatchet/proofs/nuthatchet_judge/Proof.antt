@@ -5,7 +5,9 @@ use Rattle.nuthatchet.proofs.nuthatchet_judge.Statement.{statement}
 use Rattle.nuthatchet.proofs.nuthatchet_judge.Tie as tie
 
 returns : tie.Need-returns
-returns c = told (c .before .before .before .judge .result) (c .tell .ensures) (c .before .before .before .judge .ensures)
+returns c =
+    let s = c .before .before .before .before .before in
+    told (s .judge .result) (c .tell .ensures) (s .judge .ensures)
 
 pub nuthatchet-judge-spec : {M : Type 1} → statement M
 nuthatchet-judge-spec =

@@ -5,7 +5,7 @@ use Rattle.nuthatchet.proofs.nuthatchet_pack_text.Statement.{statement}
 use Rattle.nuthatchet.proofs.nuthatchet_pack_text.Tie as tie
 
 returns : tie.Need-returns
-returns c = tells _ (c .tell .ensures) (c .before .before .before .before .before .pack-text .ensures)
+returns c = tells _ (c .tell .ensures) (c .before .before .before .before .before .before .before .pack-text .ensures)
 
 pub nuthatchet-pack-text-spec : {M : Type 1} → statement M
 nuthatchet-pack-text-spec =

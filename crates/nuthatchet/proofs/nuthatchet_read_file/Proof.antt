@@ -5,7 +5,7 @@ use Rattle.nuthatchet.proofs.nuthatchet_read_file.Statement.{statement}
 use Rattle.nuthatchet.proofs.nuthatchet_read_file.Tie as tie
 
 returns : tie.Need-returns
-returns c = tells _ (c .tell .ensures) (c .before .before .before .before .before .read-file .ensures)
+returns c = tells _ (c .tell .ensures) (c .before .before .before .before .before .before .before .read-file .ensures)
 
 pub nuthatchet-read-file-spec : {M : Type 1} → statement M
 nuthatchet-read-file-spec =

@@ -9,9 +9,9 @@ use Rattle.nuthatchet.proofs.nuthatchet_refusal_text.Tie as tie
 
 returns : tie.Need-returns
 returns c =
-    let s = c .before .before .before .before .before .before .before in
-    prints _ (c .tell .ensures) (prints-as (ap refusedLine (s .refusal-at .ensures))
-    (c .before .before .before .before .before .refusal-text .ensures))
+    let s = c .before .before .before .before .before .before .before .before .before in
+    prints _ (c .tell .ensures) (prints-as (ap refusedLine (s .refusal-on .ensures))
+    (c .before .before .before .before .before .before .before .refusal-text .ensures))
 
 pub nuthatchet-refusal-text-spec : {M : Type 1} → statement M
 nuthatchet-refusal-text-spec =

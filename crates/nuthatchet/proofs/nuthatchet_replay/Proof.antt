@@ -5,7 +5,7 @@ use Rattle.nuthatchet.proofs.nuthatchet_replay.Statement.{statement}
 use Rattle.nuthatchet.proofs.nuthatchet_replay.Tie as tie
 
 returns : tie.Need-returns
-returns c = tells _ (c .tell .ensures) (c .before .before .before .before .before .replay .ensures)
+returns c = tells _ (c .tell .ensures) (c .before .before .before .before .before .before .before .replay .ensures)
 
 pub nuthatchet-replay-spec : {M : Type 1} → statement M
 nuthatchet-replay-spec =

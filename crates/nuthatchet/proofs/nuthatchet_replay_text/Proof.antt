@@ -5,7 +5,7 @@ use Rattle.nuthatchet.proofs.nuthatchet_replay_text.Statement.{statemen
 use Rattle.nuthatchet.proofs.nuthatchet_replay_text.Tie as tie
 
 returns : tie.Need-returns
-returns c = prints _ (c .tell .ensures) (c .before .before .before .before .before .replay-text .ensures)
+returns c = prints _ (c .tell .ensures) (c .before .before .before .before .before .before .before .replay-text .ensures)
 
 pub nuthatchet-replay-text-spec : {M : Type 1} → statement M
 nuthatchet-replay-text-spec =

@@ -5,7 +5,7 @@ use Rattle.nuthatchet.proofs.nuthatchet_row_text.Statement.{statement}
 use Rattle.nuthatchet.proofs.nuthatchet_row_text.Tie as tie
 
 returns : tie.Need-returns
-returns c = prints _ (c .tell .ensures) (c .before .before .before .before .before .row-text .ensures)
+returns c = prints _ (c .tell .ensures) (c .before .before .before .before .before .before .before .row-text .ensures)
 
 pub nuthatchet-row-text-spec : {M : Type 1} → statement M
 nuthatchet-row-text-spec =

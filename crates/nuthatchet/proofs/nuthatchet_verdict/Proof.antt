@@ -5,8 +5,8 @@ use Rattle.nuthatchet.proofs.nuthatchet_verdict.Statement.{statement}
 use Rattle.nuthatchet.proofs.nuthatchet_verdict.Tie as tie
 
 returns : tie.Need-returns
-returns c = tells-ruling _ _ _ _ _ (c .before .before .before .before .before .verdict .result)
-    (c .before .before .before .before .before .verdict .ensures) (c .tell-ruling .ensures)
+returns c = tells-ruling _ _ _ _ _ (c .before .before .before .before .before .before .before .verdict .result)
+    (c .before .before .before .before .before .before .before .verdict .ensures) (c .tell-ruling .ensures)
 
 pub nuthatchet-verdict-spec : {M : Type 1} → statement M
 nuthatchet-verdict-spec =

@@ -5,7 +5,7 @@ use Rattle.nuthatchet.proofs.nuthatchet_write_file.Statement.{statement
 use Rattle.nuthatchet.proofs.nuthatchet_write_file.Tie as tie
 
 returns : tie.Need-returns
-returns c = tells _ (c .tell .ensures) (c .before .before .before .before .before .write-file .ensures)
+returns c = tells _ (c .tell .ensures) (c .before .before .before .before .before .before .before .write-file .ensures)
 
 pub nuthatchet-write-file-spec : {M : Type 1} → statement M
 nuthatchet-write-file-spec =
