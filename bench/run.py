@@ -3,7 +3,7 @@
 
   bench/run.py ORACLE OURS... -- C...      the second program, which makes the plans, and the words that start each program
 
-With NUTHATCHET_BENCH=captures in the environment it asks about captures alone.
+With NUTHATCHET_BENCH=captures in the environment it asks about captures alone, with NUTHATCHET_BENCH=judge it reads files and judges rows alone.
 
 Times are processor seconds. Both programs print a checksum of all answers, and it has to be the same. docs/BENCHMARKS.md has what this printed."""
 import collections, math, os, random, shutil, subprocess, sys, tempfile
@@ -12,6 +12,7 @@ here = os.path.dirname(os.path.abspath(__file__))
 sys.path.insert(0, here)
 sys.dont_write_bytecode = True
 import encode
+import faulty
 
 split = sys.argv.index('--')
 oracle, ours, c = sys.argv[1], sys.argv[2:split], sys.argv[split + 1 :]
@@ -34,6 +35,14 @@ asked = [
     ('accident', 'replay', 65000),
     ('accident', 'verdict2', 40000),
     ('network-1', 'judge', 20000),
+    ('faulty-7', 'judge', 20000),
+    ('faulty-14', 'judge', 20000),
+    ('faulty-15', 'judge', 20000),
+    ('faulty-10', 'judge', 20000),
+    ('faulty-16', 'judge', 20000),
+    ('faulty-17', 'judge', 20000),
+    ('faulty-18', 'judge', 20000),
+    ('faulty-19', 'judge', 20000),
     ('large', 'verdict3', 20),
     ('network-1', 'verdict3', 300),
     ('network-2', 'verdict3', 50),
@@ -60,6 +69,8 @@ asked = [
     ('grid-2', 'verdict3', 40),
     ('grid-3', 'verdict3', 400),
 ]
+if parts == 'judge':
+    asked = [each for each in asked if each[1] in ('read', 'judge')]
 searched = [plan for plan, question, _ in asked if question == 'verdict3']
 captured = ['%s-%d' % (kind, seed) for kind in ('network', 'chain', 'wide', 'own', 'gadget', 'dual', 'grid', 'wait') for seed in (1, 2, 3)]
 solved = '3 cuts', 'late 3', '4 cuts', 'removed', 'empty'  # the captures that the solver is asked about
@@ -96,6 +107,11 @@ def make_plans():
             os.makedirs(folder(plan), exist_ok=True)
             with open(os.path.join(folder(plan), 'plan.bin'), 'wb') as file:
                 subprocess.run([oracle, 'bench-plan'] + plan.split('-'), stdout=file, check=True)
+    with open(os.path.join(folder('grid-1'), 'plan.bin'), 'rb') as file:
+        for number, plan in faulty.faulty(file.read()).items():
+            os.makedirs(folder('faulty-%d' % number), exist_ok=True)
+            with open(os.path.join(folder('faulty-%d' % number), 'plan.bin'), 'wb') as made_of_it:
+                made_of_it.write(plan)
 
 
 def against_c(goals):
@@ -112,6 +128,8 @@ def against_c(goals):
                 sys.exit('%s %s: ours says %s and C says %s' % (plan, question, said, other))
             taken.append((mine / theirs, mine, theirs))
         ratios, mine, theirs = (sorted(column) for column in zip(*taken))
+        if question == 'judge':
+            goals['judge, ours / C'].append((ratios[mid], plan))
         if question == 'verdict3':
             each[plan] = mine[mid] / turns
             goals['k 3, every l, ours / C'].append((ratios[mid], plan))
@@ -317,6 +335,7 @@ def against_goals(goals):
     """The plan that is worst for each goal."""
     print('\n%-27s %12s %10s   %s' % ('goal', 'wanted', 'worst', 'plan'), flush=True)
     for goal, wanted, worst in (
+        ('judge, ours / C', 'at most 2', max),
         ('k 3, every l, ours / C', 'at most 2.5', max),
         ('k 3, every l, ours, s', 'at most 1', max),
         ('k 3, one l, solver / ours', 'at least 100', min),
@@ -330,13 +349,15 @@ def against_goals(goals):
 
 
 goals = collections.defaultdict(list)
-if not solver:
+if not solver and parts != 'judge':
     note(unsolved)
 make_plans()
 if parts != 'captures':
     times = against_c(goals)
+if not parts:
     edges = lists_played()
     each_walk()
     against_solver(times, edges, goals)
-explained_by_solver(explained(goals), goals)
+if parts != 'judge':
+    explained_by_solver(explained(goals), goals)
 against_goals(goals)
