@@ -25,7 +25,7 @@ use Rattle.paths.specs.declared.Fault.{Fault}
 use Rattle.faults.specs.Broken.{FaultOf, FirstFault, SecondFault, firstRule, secondRule, placeIn}
 use Rattle.paths.proofs.Earliest.{earliest-none, earliest-next, either}
 use Rattle.rules.specs.Rules.{Starts, Judging, Single, breaks, countFor, ruleCount, numberOf, roundRule, MessageFault, PlanFault, pathRules}
-use Rattle.rules.specs.Rules.{roundOf, rulesFrom, Says}
+use Rattle.rules.specs.Rules.{roundOf, roundsOf, Says}
 
 -- a loop over messages that notes where they stand, at message m, which stands at index j
 pub record Noting (row : List ℕ) (m j : ℕ) (starts : List ℕ) : Type 0 where
@@ -139,12 +139,17 @@ module _ (plan : Plan) (m n : ℕ) where
   pub of-messages : 7 ≤ n → m < countFor plan n → m < length (plan .messages)
   of-messages l h = omega (arith, count-messages plan n l, h)
 
-module _ (row starts table : List ℕ) (g : Judging row starts table) where
+module _ (row starts table : List ℕ) (n : ℕ) (g : Judging row starts table n) where
   pub links-few : length (planOf row .links) ≤ 64
   links-few = omega (arith, link-count row, g .lies .links)
 
-  pub few : (m n : ℕ) → 7 ≤ n → m < countFor (planOf row) n → m < mostMessages
-  few m n l h = omega (arith, of-messages (planOf row) m n l h, messages-few row (g .lies))
+  pub few : (m : ℕ) → 7 ≤ n → m < countFor (planOf row) n → m < mostMessages
+  few m l h = omega (arith, of-messages (planOf row) m n l h, messages-few row (g .lies))
+
+-- what serves up to a round serves up to an earlier one
+pub judging-up-to : (row starts table : List ℕ) (n : ℕ) → Judging row starts table n → (k : ℕ) → k ≤ n → Judging row starts table k
+judging-up-to row starts table n g k h =
+    record { lies = g .lies; starts-are = g .starts-are; table-is = λ l. g .table-is (omega arith) }
 
 -- and what it asks
 module _ (plan : Plan) (m : ℕ) where
@@ -291,26 +296,53 @@ module _ (plan : Plan) (n : ℕ) where
       way : fault .rule < ruleCount n → here .step ≡ stepBroken plan (roundRule plan n (here .rule)) (here .message)
       way h = rw (fs, fr, fm, ← f .found .first h) (f .step h)
 
--- a loop over the rounds, at round n: it begins, it goes on, it gives a refusal, it is done
-module _ (plan : Plan) where
-  pub rules-first : rulesFrom plan (11 - 5) 5 ≡ rules plan
-  unfolding rulesFrom pathRules rules
-  rules-first = refl
+-- a loop over the rounds from `from` on, up to `to`, at round n: it begins, it goes on, it gives a refusal, it is done
+module _ (plan : Plan) (from to : ℕ) where
+  pub record Rounds (n : ℕ) : Type 0 where
+    pub same : (after : Outcome) → roundsOf plan (to - n) n after ≡ roundsOf plan (to - from) from after
+    pub first : from ≤ n
+    pub most : n ≤ to
 
-  left : (n : ℕ) → n < 11 → 11 - n ≡ suc (11 - (n + 1))
-  left n h = omega arith
+  pub rounds-first : from ≤ to → Rounds from
+  rounds-first h = record { same = λ after. refl; first = omega arith; most = h }
 
-  module _ (n : ℕ) (r : Refusal) (h : n < 11) (says : Says (roundOf plan n) r) where
-    one-more : rulesFrom plan (11 - n) n ≡ cond (eqb (r .no) 0) (rulesFrom plan (11 - (n + 1)) (n + 1)) (refused r)
-    unfolding rulesFrom
-    one-more = ap (λ k. rulesFrom plan k n) (left n h) ∙ says (rulesFrom plan (11 - (n + 1)) (n + 1))
+  module _ (n : ℕ) (w : Rounds n) where
+    module _ (h : n < to) (r : Refusal) (says : Says (roundOf plan n) r) where
+      one-more : (after : Outcome) → roundsOf plan (to - n) n after ≡ cond (eqb (r .no) 0) (roundsOf plan (to - (n + 1)) (n + 1) after) (refused r)
+      unfolding roundsOf
+      one-more after =
+          let left : to - n ≡ suc (to - (n + 1)) = omega arith in
+          ap (λ k. roundsOf plan k n after) left ∙ says (roundsOf plan (to - (n + 1)) (n + 1) after)
 
-    pub rules-next : r .no ≡ 0 → rulesFrom plan (11 - (n + 1)) (n + 1) ≡ rulesFrom plan (11 - n) n
-    rules-next e = let t : eqb (r .no) 0 ≡ true = eq-eqb (r .no) 0 e in sym (one-more ∙ rw t)
+      pub rounds-next : r .no ≡ 0 → Rounds (n + 1)
+      rounds-next e =
+          let t : eqb (r .no) 0 ≡ true = eq-eqb (r .no) 0 e in
+          record { same = λ after. sym (one-more after ∙ rw t) ∙ w .same after; first = omega (arith, w .first); most = omega arith }
 
-    pub rules-broken : (r .no ≡ 0 → ⊥) → refused r ≡ rulesFrom plan (11 - n) n
-    rules-broken e = let t : eqb (r .no) 0 ≡ false = ne-eqb (r .no) 0 e in sym (one-more ∙ rw t)
+      pub rounds-broken : (r .no ≡ 0 → ⊥) → Says (roundsOf plan (to - from) from) r
+      rounds-broken e after =
+          let t : eqb (r .no) 0 ≡ false = ne-eqb (r .no) 0 e in
+          sym (w .same after) ∙ one-more after ∙ rw t
 
-  pub rules-done : (n : ℕ) → 11 ≤ n → gives 0 ≡ rulesFrom plan (11 - n) n
-  unfolding rulesFrom
-  rules-done n h = let e : 11 - n ≡ zero = omega arith in rw e
+    pub rounds-done : to ≤ n → (r : Refusal) → r ≡ refusalAt 0 0 → Says (roundsOf plan (to - from) from) r
+    unfolding roundsOf
+    rounds-done h r e after = let z : to - n ≡ zero = omega arith in sym (w .same after) ∙ ap (λ k. roundsOf plan k n after) z ∙ rw e
+
+-- all rounds: the early ones refuse, the late ones do, none does
+module _ (plan : Plan) (early : Refusal) (e : Says (roundsOf plan 4 5) early) where
+  all : rules plan ≡ cond (eqb (early .no) 0) (roundsOf plan 2 9 (gives 0)) (refused early)
+  unfolding roundsOf pathRules rules
+  all = e (roundsOf plan 2 9 (gives 0))
+
+  pub early-broken : (early .no ≡ 0 → ⊥) → refused early ≡ rules plan
+  early-broken h = let t : eqb (early .no) 0 ≡ false = ne-eqb (early .no) 0 h in sym (all ∙ rw t)
+
+  module _ (h : early .no ≡ 0) (late : Refusal) (l : Says (roundsOf plan 2 9) late) where
+    both : rules plan ≡ cond (eqb (late .no) 0) (gives 0) (refused late)
+    both = let t : eqb (early .no) 0 ≡ true = eq-eqb (early .no) 0 h in all ∙ rw t (l (gives 0))
+
+    pub late-broken : (late .no ≡ 0 → ⊥) → refused late ≡ rules plan
+    late-broken g = let t : eqb (late .no) 0 ≡ false = ne-eqb (late .no) 0 g in sym (both ∙ rw t)
+
+    pub none-broken : late .no ≡ 0 → gives 0 ≡ rules plan
+    none-broken g = let t : eqb (late .no) 0 ≡ true = eq-eqb (late .no) 0 g in sym (both ∙ rw t)

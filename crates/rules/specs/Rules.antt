@@ -8,7 +8,7 @@ use lib.ListN.{length, getD}
 use lib.Dec.{ltb, eqb}
 use Rattle.scope.specs.declared.Refusal.{Refusal}
 use Rattle.scope.specs.Limits.{mostMessages}
-use Rattle.scope.specs.Outcome.{Outcome, gives, refused, unlessSome}
+use Rattle.scope.specs.Outcome.{Outcome, refused, unlessSome}
 use Rattle.scope.specs.Plan.{Plan, Place, messageCount, planOf, pathOf}
 use Rattle.scope.specs.Good.{badEnds, repeats, badSlots, badTable}
 use Rattle.scope.specs.PathRules.{PathRule, breaksIt, placeBroken, stepBroken, unlessOn}
@@ -74,14 +74,14 @@ unfoldable pub pathRules : Plan → ℕ → ℕ → ℕ → Outcome → Outcome
 pathRules plan n zero x after = after
 pathRules plan n (suc k) x after = unlessOn plan (numberOf n x) (roundRule plan n x) (pathRules plan n k (x + 1) after)
 
--- round n, or else what comes after it; and k rounds from round n on
+-- round n, or else what comes after it; and k rounds from round n on, all before what comes after
 abbrev pub roundOf : Plan → ℕ → Outcome → Outcome
 roundOf plan n after =
     cond (eqb n 7 || eqb n 10) (pathRules plan n (ruleCount n) 0 after) (unlessSome n (breaks plan n) (countFor plan n) after)
 
-unfoldable pub rulesFrom : Plan → ℕ → ℕ → Outcome
-rulesFrom plan zero n = gives 0
-rulesFrom plan (suc k) n = roundOf plan n (rulesFrom plan k (n + 1))
+unfoldable pub roundsOf : Plan → ℕ → ℕ → Outcome → Outcome
+roundsOf plan zero n after = after
+roundsOf plan (suc k) n after = roundOf plan n (roundsOf plan k (n + 1) after)
 
 -- r is what a round refuses, with number 0 where it refuses nothing
 abbrev pub Says : (Outcome → Outcome) → Refusal → Type 0
@@ -93,7 +93,8 @@ pub record Starts (row : List ℕ) (n : ℕ) (starts : List ℕ) : Type 0 where
   pub are : (m : ℕ) → m < mostMessages → getD starts m 0 ≡ cond (ltb m n) (messageIndex row m) 0
   pub small : (m : ℕ) → m < mostMessages → getD starts m 0 ≤ 131077 + m * 4295229441
 
-pub record Judging (row starts table : List ℕ) : Type 0 where
+-- what the rounds up to n are judged with: a table from round 9 on
+pub record Judging (row starts table : List ℕ) (n : ℕ) : Type 0 where
   pub lies : PlanLies row
   pub starts-are : Starts row (messageCount row) starts
-  pub table-is : Table (tableOf (planOf row)) table
+  pub table-is : 9 ≤ n → Table (tableOf (planOf row)) table

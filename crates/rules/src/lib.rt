@@ -13,7 +13,7 @@ use scope::refusal_at;
 use scope::refusal_on;
 ghost use mathlib.Core.Path.{_≡_};
 ghost use mathlib.Core.Bool.{true, _||_};
-ghost use Prim.Native.Nat.{_<_, _≤_, _^_};
+ghost use Prim.Native.Nat.{_-_, _<_, _≤_, _^_};
 ghost use lib.ListN.{length};
 ghost use lib.Dec.{eqb};
 ghost use Rattle.scope.specs.Limits.{mostMessages};
@@ -23,7 +23,7 @@ ghost use Rattle.scope.specs.Row.{walkRow};
 ghost use Rattle.scope.specs.Plan.{planOf, messageCount, messageAt};
 ghost use Rattle.scope.specs.Rules.{rules};
 ghost use Rattle.rows.specs.Lies.{MessageLies, PlanLies};
-ghost use Rattle.rules.specs.Rules.{Starts, Judging, Single, breaks, countFor, ruleCount, numberOf, MessageFault, PlanFault, Says, roundOf};
+ghost use Rattle.rules.specs.Rules.{Starts, Judging, Single, breaks, countFor, ruleCount, numberOf, MessageFault, PlanFault, Says, roundOf, roundsOf};
 
 // Where each message stands, 0 for those that the row does not have.
 fn message_starts(row: &[u16]) -> [usize; MESSAGES]
@@ -44,7 +44,7 @@ fn message_starts(row: &[u16]) -> [usize; MESSAGES]
 
 // Whether link m, and from rule 8 on message m, breaks rule n, which is 5, 8 or 9.
 fn breaks(row: &[u16], starts: &[usize; MESSAGES], table: &[u8], n: usize, m: usize) -> bool
-    requires { ⌜ Judging (now row) (now starts) (now table) × Single n × (n ≡ 6 → ⊥) × (m < countFor (planOf (now row)) n) ⌝ }
+    requires { ⌜ Judging (now row) (now starts) (now table) n × Single n × (n ≡ 6 → ⊥) × (m < countFor (planOf (now row)) n) ⌝ }
     ensures { λ r. ⌜ r ≡ breaks (planOf (now (row .entry))) n m ⌝ }
 {
     if n < 8 {
@@ -76,7 +76,7 @@ fn lowest_breaking(
     n: usize,
     count: usize,
 ) -> usize
-    requires { ⌜ Judging (now row) (now starts) (now table) × Single n × (count ≡ countFor (planOf (now row)) n) ⌝ }
+    requires { ⌜ Judging (now row) (now starts) (now table) n × Single n × (count ≡ countFor (planOf (now row)) n) ⌝ }
     ensures { λ r. ⌜ r ≡ lowest (breaks (planOf (now (row .entry))) n) count ⌝ }
 {
     if n == 6 {
@@ -94,7 +94,7 @@ fn lowest_breaking(
 
 // The round of a rule that is asked of links or of messages. A refusal with number 0 says that there is none, here and below.
 fn single_round(row: &[u16], starts: &[usize; MESSAGES], table: &[u8], n: usize) -> Refusal
-    requires { ⌜ Judging (now row) (now starts) (now table) × Single n ⌝ }
+    requires { ⌜ Judging (now row) (now starts) (now table) n × Single n ⌝ }
     ensures { λ r. ⌜ Says (roundOf (planOf (now (row .entry))) n) r ⌝ }
 {
     let count = count_for(row, n);
@@ -181,7 +181,7 @@ fn path_round(row: &[u16], starts: &[usize; MESSAGES], n: usize) -> Refusal
 
 // Round n.
 fn round(row: &[u16], starts: &[usize; MESSAGES], table: &[u8], n: usize) -> Refusal
-    requires { ⌜ Judging (now row) (now starts) (now table) × (5 ≤ n) × (n < 11) ⌝ }
+    requires { ⌜ Judging (now row) (now starts) (now table) n × (5 ≤ n) × (n < 11) ⌝ }
     ensures { λ r. ⌜ Says (roundOf (planOf (now (row .entry))) n) r ⌝ }
 {
     if n == 7 {
@@ -193,29 +193,45 @@ fn round(row: &[u16], starts: &[usize; MESSAGES], table: &[u8], n: usize) -> Ref
     single_round(row, starts, table, n)
 }
 
-// The rounds in their order.
-fn check_all(row: &[u16], starts: &[usize; MESSAGES], table: &[u8]) -> Answer
-    requires { ⌜ Judging (now row) (now starts) (now table) ⌝ }
-    ensures { λ r. ⌜ outcomeOf r ≡ rules (planOf (now (row .entry))) ⌝ }
+// The rounds from one on, up to another.
+fn rounds(row: &[u16], starts: &[usize; MESSAGES], table: &[u8], from: usize, to: usize) -> Refusal
+    requires { ⌜ Judging (now row) (now starts) (now table) (to - 1) × (5 ≤ from) × (from ≤ to) × (to ≤ 11) ⌝ }
+    ensures { λ r. ⌜ Says (roundsOf (planOf (now (row .entry))) (to - from) from) r ⌝ }
 {
-    let mut n = 5;
-    while n < 11 {
+    let mut n = from;
+    while n < to {
         let refusal = round(row, starts, table, n);
         if refusal.no != 0 {
-            return Answer::Refused(refusal);
+            return refusal;
         }
         n += 1;
     }
-    Answer::Gives(0)
+    refusal_at(0, 0)
 }
 
-// Refusals 5 to 10 of a row without refusals 1 to 4.
+// The rounds with a table, once the others refuse nothing.
+fn late_rounds(row: &[u16], starts: &[usize; MESSAGES]) -> Refusal
+    requires { ⌜ PlanLies (now row) × Starts (now row) (messageCount (now row)) (now starts) ⌝ }
+    ensures { λ r. ⌜ Says (roundsOf (planOf (now (row .entry))) 2 9) r ⌝ }
+{
+    let mut table = [0u8; TABLE];
+    table::fill_table(row, &mut table);
+    rounds(row, starts, &table, 9, 11)
+}
+
+// Refusals 5 to 10 and 14 to 19 of a row without refusals 1 to 4. The table is filled for the last two rounds alone.
 pub fn check(row: &[u16]) -> Answer
     requires { ⌜ walkRow (now row) ≡ gives (length (now row)) ⌝ }
     ensures { λ r. ⌜ outcomeOf r ≡ rules (planOf (now (row .entry))) ⌝ }
 {
     let starts = message_starts(row);
-    let mut table = [0u8; TABLE];
-    table::fill_table(row, &mut table);
-    check_all(row, &starts, &table)
+    let early = rounds(row, &starts, b"", 5, 9);
+    if early.no != 0 {
+        return Answer::Refused(early);
+    }
+    let late = late_rounds(row, &starts);
+    if late.no != 0 {
+        return Answer::Refused(late);
+    }
+    Answer::Gives(0)
 }

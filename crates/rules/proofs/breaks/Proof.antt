@@ -25,7 +25,7 @@ bad-ends-requires : tie.Need-bad-ends-requires
 bad-ends-requires c κs =
     let a = c .before .before .before .args in
     let w = law.of-links (planOf (a .row .now)) (a .m) (a .n) (omega (arith, c .if1 .taken, c .before .before .before .pre .1 .other)) (c .before .before .before .pre .3) in
-    omega (arith, w, law.links-few (a .row .now) (a .starts .now) (a .table .now) (c .before .before .before .pre .0))
+    omega (arith, w, law.links-few (a .row .now) (a .starts .now) (a .table .now) (a .n) (c .before .before .before .pre .0))
 
 returns : tie.Need-returns
 returns c =
@@ -38,12 +38,12 @@ returns c =
 mul-i : tie.Need-mul-i
 mul-i c =
     let a = c .before .before .before .args in
-    omega (arith, law.few (a .row .now) (a .starts .now) (a .table .now) (c .before .before .before .pre .0) (a .m) (a .n) (omega (arith, c .if1 .left)) (c .before .before .before .pre .3))
+    omega (arith, law.few (a .row .now) (a .starts .now) (a .table .now) (a .n) (c .before .before .before .pre .0) (a .m) (omega (arith, c .if1 .left)) (c .before .before .before .pre .3))
 
 element-copy-out-i : tie.Need-element-copy-out-i
 element-copy-out-i c =
     let a = c .before .before .before .args in
-    let w = law.few (a .row .now) (a .starts .now) (a .table .now) (c .before .before .before .pre .0) (a .m) (a .n) (omega (arith, c .if1 .left)) (c .before .before .before .pre .3) in
+    let w = law.few (a .row .now) (a .starts .now) (a .table .now) (a .n) (c .before .before .before .pre .0) (a .m) (omega (arith, c .if1 .left)) (c .before .before .before .pre .3) in
     omega (arith, w, c .before .before .before .pre .0 .starts-are .long)
 
 bad-slots-requires : tie.Need-bad-slots-requires
@@ -65,7 +65,7 @@ returns-3 c =
     let row = a .row .now in
     let here = found (c .before .before) in
     c .held-below .ensures ∙
-    taken-is (planOf row) (a .m) (a .table .now) (c .before .before .before .before .before .before .pre .0 .table-is) (of-message (c .before .before)) row (getD (a .starts .now) (a .m) 0)
+    taken-is (planOf row) (a .m) (a .table .now) (c .before .before .before .before .before .before .pre .0 .table-is (omega (arith, c .before .if2 .left))) (of-message (c .before .before)) row (getD (a .starts .now) (a .m) 0)
     (here .lies) (here .is) ∙ law.rule-nine (planOf row) (a .m) (a .n) (omega (arith, c .before .if2 .left, c .before .before .before .before .before .before .pre .1 .below))
 
 pub breaks-spec : {M : Type 1} → statement M
