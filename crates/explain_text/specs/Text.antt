@@ -29,7 +29,7 @@ CaptureText row capture text = Asked (mayExplain row 2 capture 4)
     Asked (refused r) = text ≡ refusedLine r
     Asked (gives n) = Explanation (planOf row) 2 capture text
 
--- what stands before the text of a plan file and an input: the plan's refusals 1, 2, 4 to 10, and then that of the capture
+-- what stands before the text of a plan file and an input: the plan's refusals 1, 2, 4 to 10, 14 to 19, and then that of the capture
 unfoldable pub mayTell : List ℕ → List ℕ → Outcome
 mayTell file input = andThen (readFile file longestRow) (λ _. mayExplain (rowOf file) 2 (captureOf input) 4)
 

@@ -108,8 +108,8 @@ fn said_of(row: &[u16], input: &[u8], out: &mut [u8]) -> Answer
     say(row, capture_lines::finish(reading), &crossed, out)
 }
 
-// The text for a plan file and an input: how many bytes, or refusal 1, 2, 4 to 10, 23, 13, and then nothing is written. The plan's refusal
-// comes before the capture's.
+// The text for a plan file and an input: how many bytes, or refusal 1, 2, 4 to 10, 14 to 19, 23, 13, and then nothing is written. The plan's
+// refusal comes before the capture's.
 pub fn explain_text(file: &[u8], input: &[u8], out: &mut [u8]) -> Answer
     ensures { λ r. ⌜ SaysOne (mayTell (now (file .entry)) (now (input .entry))) (ExplainText (now (file .entry)) (now (input .entry)))
         (now (out .entry)) (now (out .exit)) r ⌝ }

@@ -13,6 +13,6 @@ use Rattle.scope.specs.Lines.{cutsOf, listing}
 abbrev pub textOf : List ℕ → List ℕ → List ℕ
 textOf row cuts = listing (replay row cuts longestEvents) (planOf row) (eventRow (planOf row) cuts)
 
--- what stands before the text of a plan file and an input: the plan's refusals 1, 2, 4 to 10, and then that of the cuts
+-- what stands before the text of a plan file and an input: the plan's refusals 1, 2, 4 to 10, 14 to 19, and then that of the cuts
 unfoldable pub mayList : List ℕ → List ℕ → Outcome
 mayList file input = andThen (readFile file longestRow) (λ _. replay (rowOf file) (cutsOf input) longestEvents)

@@ -39,8 +39,8 @@ fn played_input(row: &[u16], input: &[u8], out: &mut [u8]) -> Answer
     played(row, &pairs[..n], out)
 }
 
-// The listing for a plan file and an input: how many bytes, or refusal 1, 2, 4 to 10, 12, 13, and then nothing is written. The plan's refusal
-// comes before the cuts'.
+// The listing for a plan file and an input: how many bytes, or refusal 1, 2, 4 to 10, 14 to 19, 12, 13, and then nothing is written. The plan's
+// refusal comes before the cuts'.
 pub fn replay_text(file: &[u8], input: &[u8], out: &mut [u8]) -> Answer
     ensures { λ r. ⌜ Says (mayList (now (file .entry)) (now (input .entry))) (replayText (now (file .entry)) (now (input .entry)))
         (now (out .entry)) (now (out .exit)) r ⌝ }

@@ -70,7 +70,7 @@ fn listed(row: &[u16], out: &mut [u8]) -> Answer
     Answer::Gives(needed)
 }
 
-// The row of a plan file as text: how many bytes, or refusal 1, 2, 4 to 10, 13, and then nothing is written.
+// The row of a plan file as text: how many bytes, or refusal 1, 2, 4 to 10, 14 to 19, 13, and then nothing is written.
 pub fn row_text(file: &[u8], out: &mut [u8]) -> Answer
     ensures { λ r. ⌜ Says (readFile (now (file .entry)) longestRow) (Rows·rowText (now (file .entry))) (now (out .entry))
         (now (out .exit)) r ⌝ }
@@ -126,7 +126,7 @@ fn numbers(text: &[u8], out: &mut [u16]) -> usize
     n
 }
 
-// The plan file of the row that a text says: how many bytes, or refusal 1 to 10, 13.
+// The plan file of the row that a text says: how many bytes, or refusal 1 to 10, 14 to 19, 13.
 pub fn pack_text(text: &[u8], file: &mut [u8]) -> Answer
     ensures { λ r. ⌜ Writes (numbersOf (now (text .entry))) (now (file .entry)) (now (file .exit)) r ⌝ }
 {
