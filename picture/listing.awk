@@ -10,12 +10,15 @@ BEGIN {
     EVENT = "^" NUMBER " " NUMBER " [0-7] " NUMBER "$"
     PAIRS = "^(" NUMBER " " NUMBER "( " NUMBER " " NUMBER ")*)?$"
     LAST = "^arrived " NUMBER " of " NUMBER "$"
-    REFUSED = "^refused [1-9][0-9]* place [0-9]+$"
+    WHERE = "(0|[1-9][0-9]*)"
+    REFUSED = "^refused [1-9][0-9]* place " WHERE "( " WHERE " " WHERE ")?$"
+    OF_PATH = "^(7|10|1[4-9])$"
     slot = -1
     message = lanes = ended = failed = explained = pairs = 0
 }
 
-NR == 1 && $0 ~ REFUSED {
+# The refusal of a path has three numbers behind `place`, each other one has one.
+NR == 1 && $0 ~ REFUSED && ($2 ~ OF_PATH) == (NF == 6) {
     nothing("the plan, the cuts or the capture were refused (" $0 "), so there is no cycle.\n" \
         "README.md says what to do about refusal " $2 "; then ask again.")
 }
