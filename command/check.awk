@@ -1,12 +1,15 @@
 # Shows a row of numbers (standard input) as it is understood: index of the first number, the numbers, and what they say. It goes up to the number
 # at which the row is refused, which it marks. The refusal is the program's and comes as CHECK_REFUSAL in the environment, empty where the row
-# is good; which number of a link or message it means is looked up here. POSIX awk.
+# is good. That of a path names the link itself, by message, place and step; which number of a link or message another one means is looked up
+# here. POSIX awk.
 
 BEGIN {
     refusal = ENVIRON["CHECK_REFUSAL"]
-    if (split(refusal, words, " ") == 4) {
+    if (split(refusal, words, " ") >= 4) {
         no = words[2] + 0
         place = words[4] + 0
+        on_first = no == 7 || no == 14 || no == 15
+        on_second = no == 10 || (no >= 16 && no <= 19)
     }
     count = at = over = 0
 }
@@ -63,20 +66,14 @@ function message(m,    places, p) {
     begin()
     places = take("how many links the first path of message " m " has", 15) + 1
     line("", "message " m ": first path of " counted(places, "link"))
-    if (no == 10 && m == place) goal = target(places)
+    if (no == 17 && m == place) goal = target(places)
     for (p = 0; p < places && !over; p++) place_of(m, p)
-    if (over) return
-    if (no >= 7 && m == place && !over) {
-        begin()
-        mark("in this message")
-        line("", "")
-    }
 }
 
-function place_of(m, p,    e, s, flag, i) {
+function place_of(m, p,    e, s, flag) {
     begin()
     e = first[p] = take("the link of place " p, 63)
-    if (no == 7 && m == place) first_link(m, p, e)
+    if (on_first && named(m, p, p)) mark(wrong(e, leads_to(first[p - 1])))
     s = slot[p] = take("the slot of place " p, 63)
     if (no == 8 && m == place && s >= slots) mark("there is no slot " s)
     if (no == 8 && m == place && p > 0 && s <= slot[p - 1]) mark("slots rise, and the place before has slot " slot[p - 1])
@@ -87,41 +84,33 @@ function place_of(m, p,    e, s, flag, i) {
     if (flag && !over) second(m, p)
 }
 
-# Rule 7: the link is there, begins where the last one ended, and comes to no vertex again.
-function first_link(m, p, e,    i) {
-    if (e >= links) mark("there is no link " e)
-    else if (p > 0 && from[e] != to[first[p - 1]]) mark("link " e " begins at " from[e] ", and the path is at " to[first[p - 1]])
-    else {
-        if (to[e] == from[first[0]]) mark("the path comes to vertex " to[e] " again")
-        for (i = 0; i < p; i++) if (to[first[i]] == to[e]) mark("the path comes to vertex " to[e] " again")
-    }
-}
-
-function second(m, p,    n, i, e, way, here, seen, j) {
+function second(m, p,    n, i, e, way, here) {
     begin()
     n = take("how many links the second path has", 15) + 1
-    way = "by " counted(n, "link") ": "
-    here = from[first[p]]
-    way = way here
+    here = first[p] < links ? from[first[p]] : "?"
+    way = "by " counted(n, "link") ": " here
     for (i = 0; i < n && !over; i++) {
         e = take("link " i " of the second path", 63)
-        if (no == 10 && m == place) {
-            if (e >= links) mark("there is no link " e)
-            else if (from[e] != here) mark("link " e " begins at " from[e] ", and the path is at " here)
-            else if (i == 0 && e == first[p]) mark("this is the link that it replaces")
-            else {
-                if (to[e] == from[first[p]]) mark("the path comes to vertex " to[e] " again")
-                for (j = 0; j < i; j++) if (seen[j] == to[e]) mark("the path comes to vertex " to[e] " again")
-            }
-        }
-        seen[i] = here = to[e]
+        if (on_second && named(m, p, i)) mark(wrong(e, here))
+        here = leads_to(e)
         way = way ", " here
     }
-    if (no == 10 && m == place && here != goal) mark("this path ends at " here ", and the first path at " goal)
     line("    ", way)
 }
 
-# Where the first path ends that begins here; the row has been taken apart before rule 10 is asked.
+# Whether the refusal of a path names this link.
+function named(m, p, i) { return m == place && p == words[5] && i == words[6] }
+
+# What is wrong with the link that it names; before it the path is here.
+function wrong(e, here) {
+    if (no == 7 || no == 10) return "there is no link " e ": the last one is link " (links - 1)
+    if (no == 14 || no == 16) return "link " e " begins at " from[e] ", and " (words[6] == 0 ? "its place stands" : "the path is") " at " here
+    if (no == 15 || no == 18) return "the path comes to vertex " to[e] " again"
+    if (no == 17) return "this path ends at " to[e] ", and the first path at " goal
+    return "this is the link that it replaces"
+}
+
+# Where the first path ends that begins here; the row has been taken apart before rule 17 is asked.
 function target(places,    i, p, e) {
     i = at
     for (p = 0; p < places; p++) {
@@ -134,6 +123,8 @@ function target(places,    i, p, e) {
 # ---------------------------------------------------------------- lines
 
 function counted(n, what) { return n " " (n == 1 ? what : what == "vertex" ? "vertices" : what "s") }
+
+function leads_to(e) { return e < links ? to[e] : "?" }
 
 function ends(e) { return e < links ? e " (" from[e] " to " to[e] ")" : e }
 
