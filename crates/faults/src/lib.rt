@@ -16,9 +16,6 @@ ghost use Rattle.scope.specs.Good.{badEnds, repeats};
 ghost use Rattle.rows.specs.Lies.{MessageLies, PlanLies};
 ghost use Rattle.faults.specs.Broken.{brokenSlots, heldBelow, FirstFault, SecondFault, SecondsFault, PlaceFault, secondOf};
 
-// A number for each two vertices.
-const PAIRS: usize = VERTICES * VERTICES;
-
 // Refusal 5: an end of link e is not below V, or both are equal.
 pub fn bad_ends(row: &[u16], e: usize) -> bool
     requires { ⌜ e < 65536 ⌝ }
@@ -36,21 +33,22 @@ pub fn bad_ends(row: &[u16], e: usize) -> bool
     a == b
 }
 
-// Refusal 6: the lowest link that repeats an earlier one, or how many links there are. One mark for each pair of vertices.
+// Refusal 6: the lowest link that repeats an earlier one, or how many links there are. A set for each vertex: where links lead from it.
 pub fn lowest_repeat(row: &[u16]) -> usize
     requires { ⌜ PlanLies (now row) ⌝ }
     ensures { λ r. ⌜ r ≡ lowest (repeats (planOf (now (row .entry)))) (linkCount (now (row .entry))) ⌝ }
 {
     let links = rows::links(row);
-    let mut met = [0u8; PAIRS];
+    let mut met = [0u64; VERTICES];
     let mut e = 0;
     while e < links {
         let ends = paths::ends_of(row, e);
-        let k = ends.from * VERTICES + ends.to;
-        if met[k] != 0 {
+        let from = ends.from;
+        let there = met[from];
+        if sets::holds(there, ends.to) {
             return e;
         }
-        met[k] = 1;
+        met[from] = sets::with(there, ends.to);
         e += 1;
     }
     e

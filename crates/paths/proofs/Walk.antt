@@ -5,57 +5,24 @@ use mathlib.Core.Bool.{Bool, true, false, not, cond, _||_}
 use mathlib.Core.List.{List, [], _∷_, _++_}
 use native.Mathlib.Numerals.{add-one}
 use native.Mathlib.Omega.{arith}
-use borrow.Author.Tests.{lt-ltb, le-ltb, eq-eqb, ne-eqb, eqb-true, eqb-false}
-use lib.ListN.{length, length-set, replicate, length-replicate, getD-replicate, getD, set}
-use lib.Seq.{getD-set-same, getD-set-other}
+use borrow.Author.Tests.{lt-ltb, le-ltb}
+use lib.ListN.{length, getD}
 use lib.Dec.{ltb, eqb}
-use Rattle.scope.specs.Limits.{mostVertices}
 use Rattle.scope.specs.Lowest.{seek, lowest, some}
 use Rattle.scope.specs.Plan.{Plan, linkOf}
 use Rattle.scope.specs.Good.{visited, has, lastOf}
 use Rattle.scope.specs.PathRules.{linkIn, before, noLink, apart, again}
 use Rattle.scope.proofs.Some.{none, some-more}
+use Rattle.sets.specs.Sets.{has as In, IsWith}
+use Rattle.sets.proofs.Sets.{has-none}
 use Rattle.paths.specs.declared.Ends.{Ends}
 use Rattle.paths.specs.declared.Fault.{Fault}
 use Rattle.paths.specs.Path.{EndsOf, Earliest, pathRule, linkRule}
 use Rattle.paths.proofs.Earliest.{earliest-none, earliest-next, earliest-found}
 
--- one mark for each of n things: 1 where it is met, 0 where it is not
-pub record Marks (n : ℕ) (met : ℕ → Bool) (marks : List ℕ) : Type 0 where
-  pub long : length marks ≡ n
-  pub are : (w : ℕ) → w < n → getD marks w 0 ≡ cond (met w) 1 0
-
-module _ (n : ℕ) where
-  pub marks-none : Marks n (λ w. false) (replicate n 0)
-  marks-none = record { long = length-replicate n 0; are = λ w l. getD-replicate n w 0 0 l }
-
-  module _ (met : ℕ → Bool) (marks : List ℕ) (v : ℕ) (m : Marks n met marks) (h : v < n) where
-    pub marks-more : Marks n (λ w. eqb w v || met w) (set marks v 1)
-    marks-more = record { long = length-set marks v 1 ∙ m .long; are = λ w l. by w l (eqb w v) refl }
-      where
-        by : (w : ℕ) → w < n → (t : Bool) → eqb w v ≡ t → getD (set marks v 1) w 0 ≡ cond (t || met w) 1 0
-        by w l true e =
-            let same : w ≡ v = eqb-true w v e in
-            ap (λ x. getD (set marks v 1) x 0) same ∙ getD-set-same marks v 1 0 (omega (arith, m .long, h))
-        by w l false e = getD-set-other marks v w 1 0 (eqb-false w v e) ∙ m .are w l
-
-    -- a mark says whether it is met
-    pub marks-say : not (eqb (getD marks v 0) 0) ≡ met v
-    marks-say = ap (λ x. not (eqb x 0)) (m .are v h) ∙ by (met v)
-      where
-        by : (t : Bool) → not (eqb (cond t 1 0) 0) ≡ t
-        by true = refl
-        by false = refl
-
-    pub marks-met : (getD marks v 0 ≡ 0 → ⊥) → met v ≡ true
-    marks-met d = sym marks-say ∙ ap not (ne-eqb (getD marks v 0) 0 d)
-
-    pub marks-new : getD marks v 0 ≡ 0 → met v ≡ false
-    marks-new d = sym marks-say ∙ ap not (eq-eqb (getD marks v 0) 0 d)
-
--- the same things are met
-marks-same : (n : ℕ) (met others : ℕ → Bool) (marks : List ℕ) → Marks n met marks → ((w : ℕ) → met w ≡ others w) → Marks n others marks
-marks-same n met others marks m same = record { long = m .long; are = λ w l. m .are w l ∙ ap (λ t. cond t 1 0) (same w) }
+-- a set has the vertices that are met
+abbrev pub Marks : (ℕ → Bool) → ℕ → Type 0
+Marks met set = (w : ℕ) → In set w ≡ met w
 
 -- one number more at the end of a list
 last-more : (v : ℕ) (xs : List ℕ) (y : ℕ) → lastOf v (xs ++ (y ∷ [])) ≡ y
@@ -84,9 +51,9 @@ visited-more plan es k h = ap (before plan es) (add-one k) ∙ go es k h
 
 -- a loop over a path that began at vertex v, at step k and vertex u: all links before it are below E, the vertices met are marked, and of what
 -- was broken the earliest rule is found
-pub record Walking (plan : Plan) (path : List ℕ) (v u k : ℕ) (marks : List ℕ) (found : Fault) : Type 0 where
+pub record Walking (plan : Plan) (path : List ℕ) (v u k marks : ℕ) (found : Fault) : Type 0 where
   pub stands : u ≡ lastOf v (before plan path k)
-  pub marked : Marks mostVertices (λ x. has x (v ∷ before plan path k)) marks
+  pub marked : Marks (λ x. has x (v ∷ before plan path k)) marks
   pub below : some (noLink plan path) k ≡ false
   pub kept : Earliest (pathRule plan v path) 3 k (found .rule) (found .step)
   pub most : k ≤ length path
@@ -98,19 +65,18 @@ pub record OnLink (plan : Plan) (path : List ℕ) (k e : ℕ) : Type 0 where
   pub there : e < length (plan .links)
 
 module _ (plan : Plan) (path : List ℕ) (v : ℕ) where
-  pub walking-first : v < mostVertices → (found : Fault) → found .rule ≡ 3 →
-      Walking plan path v v 0 (set (replicate mostVertices 0) v 1) found
+  pub walking-first : (marks : ℕ) → IsWith 0 v marks → (found : Fault) → found .rule ≡ 3 → Walking plan path v v 0 marks found
   unfolding has visited
-  walking-first h found none-yet =
+  walking-first marks one found none-yet =
       record {
         stands = refl;
-        marked = marks-more mostVertices (λ x. false) (replicate mostVertices 0) v (marks-none mostVertices) h;
+        marked = λ w. one w ∙ ap (λ t. eqb w v || t) (has-none w);
         below = none (noLink plan path) 0 (λ i l. absurd (omega arith));
         kept = rw none-yet (earliest-none (pathRule plan v path) 3 (found .step));
         most = omega arith;
       }
 
-  module _ (u k : ℕ) (marks : List ℕ) (found : Fault) (w : Walking plan path v u k marks found) where
+  module _ (u k marks : ℕ) (found : Fault) (w : Walking plan path v u k marks found) where
     pub walking-done : length path ≤ k → Earliest (pathRule plan v path) 3 (length path) (found .rule) (found .step)
     walking-done h = let e : k ≡ length path = omega (arith, w .most) in rw (← e) (w .kept)
 
@@ -135,32 +101,26 @@ module _ (plan : Plan) (path : List ℕ) (v : ℕ) where
       to-is = ends .to ∙ ap (λ x. linkOf plan x .to) (on .is)
 
       -- the rule that it breaks
-      pub link-breaks : (rule mark : ℕ) → mark ≡ getD marks (r .to) 0 → rule ≡ linkRule (not (eqb (r .from) u)) (not (eqb mark 0)) →
+      pub link-breaks : (rule : ℕ) (met : Bool) → met ≡ In marks (r .to) → rule ≡ linkRule (not (eqb (r .from) u)) met →
           rule ≡ lowest (λ x. pathRule plan v path x k) 3
       unfolding seek
-      link-breaks rule mark fm fr =
+      link-breaks rule met fm fr =
           let parted : not (eqb (r .from) u) ≡ apart plan v path k =
           ap (λ x. not (eqb x u)) from-is ∙ ap (λ x. not (eqb (linkIn plan path k .from) x)) (w .stands) in
-          let met : not (eqb mark 0) ≡ again plan v path k =
-          ap (λ x. not (eqb x 0)) fm ∙
-          marks-say mostVertices (λ x. has x (v ∷ before plan path k)) marks (r .to) (w .marked) (ends .to-small) ∙
-          ap (λ x. has x (v ∷ before plan path k)) to-is in
-          fr ∙ rw (parted, met, is-link)
+          let twice : met ≡ again plan v path k = fm ∙ w .marked (r .to) ∙ ap (λ x. has x (v ∷ before plan path k)) to-is in
+          fr ∙ rw (parted, twice, is-link)
 
       -- and then the next
       pub walking-next : (here next : Fault) → here .step ≡ k → here .rule ≡ lowest (λ x. pathRule plan v path x k) 3 →
-          next ≡ cond (ltb (here .rule) (found .rule)) here found → Walking plan path v (r .to) (k + 1) (set marks (r .to) 1) next
+          next ≡ cond (ltb (here .rule) (found .rule)) here found → (more : ℕ) → IsWith marks (r .to) more →
+          Walking plan path v (r .to) (k + 1) more next
       unfolding has
-      walking-next here next at rule kept-or-here =
+      walking-next here next at rule kept-or-here marked with-it =
           let more = visited-more plan path k (on .here) in
           record {
             stands = to-is ∙ sym (ap (lastOf v) more ∙ last-more v (before plan path k) (linkIn plan path k .to));
-            marked =
-                marks-same mostVertices (λ x. eqb x (r .to) || has x (v ∷ before plan path k)) (λ x. has x (v ∷ before plan path (k + 1)))
-                (set marks (r .to) 1)
-                (marks-more mostVertices (λ x. has x (v ∷ before plan path k)) marks (r .to) (w .marked) (ends .to-small))
-                (λ x. ap (λ y. eqb x y || has x (v ∷ before plan path k)) to-is ∙
-                has-more x (v ∷ before plan path k) (linkIn plan path k .to) ∙ ap (λ vs. has x (v ∷ vs)) (sym more));
+            marked = λ x. with-it x ∙ ap (λ t. eqb x (r .to) || t) (w .marked x) ∙ ap (λ y. eqb x y || has x (v ∷ before plan path k)) to-is ∙
+                has-more x (v ∷ before plan path k) (linkIn plan path k .to) ∙ ap (λ vs. has x (v ∷ vs)) (sym more);
             below = some-more (noLink plan path) k ∙ rw (w .below, is-link);
             kept = earliest-next (pathRule plan v path) 3 k (λ f. f .step) found here next (w .kept) at rule kept-or-here;
             most = omega (arith, on .here);

@@ -1,7 +1,6 @@
 // Paths as lists of links: the earliest rule that a path breaks, at its first step, and where the path ends, as specs/ of `scope`
 // (PathRules, Good) says of the plan of a row; it leans on `rows`. A path is a slice of links, so that the second paths, which are parts of the row, and
 // the first paths, which are copied out of it, go by the same rule.
-use scope::limits::VERTICES;
 ghost use mathlib.Core.Path.{_≡_};
 ghost use mathlib.Core.Bool.{cond, not};
 ghost use Prim.Native.Nat.{_<_, _≤_, _^_};
@@ -96,28 +95,27 @@ const AGAIN: usize = 2;
 
 const KEPT: usize = 3;
 
-// The rule that a link below E breaks, where the path stands at a vertex and the link leads to one with a mark.
-fn link_rule(from: usize, at: usize, mark: u8) -> usize
-    ensures { λ r. ⌜ r ≡ linkRule (not (eqb from at)) (not (eqb mark 0)) ⌝ }
+// The rule that a link below E breaks, where the path stands at a vertex and the link leads to one that is met already or not.
+fn link_rule(from: usize, at: usize, met: bool) -> usize
+    ensures { λ r. ⌜ r ≡ linkRule (not (eqb from at)) met ⌝ }
 {
     if from != at {
         return APART;
     }
-    if mark != 0 {
+    if met {
         return AGAIN;
     }
     KEPT
 }
 
 // The fault of links that begin at vertex v: of the earliest rule that one of them breaks, the first step. The path is walked once, with
-// a mark for each vertex that is met.
+// a mark for each vertex that is met, all in one set.
 pub fn path_fault(row: &[u16], v: usize, path: &[u16]) -> Fault
     requires { ⌜ PlanLies (now row) × (v < mostVertices) ⌝ }
     ensures { λ r. ⌜ Earliest (pathRule (planOf (now (row .entry))) v (now (path .entry))) 3 (length (now (path .entry))) (r .rule) (r .step) ⌝ }
 {
     let links = rows::links(row);
-    let mut met = [0u8; VERTICES];
-    met[v] = 1;
+    let mut met = sets::with(0, v);
     let mut at = v;
     let mut found = fault_in(KEPT, 0);
     let mut k = 0;
@@ -129,10 +127,9 @@ pub fn path_fault(row: &[u16], v: usize, path: &[u16]) -> Fault
         }
         let ends = ends_of(row, e);
         let to = ends.to;
-        let mark = met[to];
-        let rule = link_rule(ends.from, at, mark);
+        let rule = link_rule(ends.from, at, sets::holds(met, to));
         found = earlier(found, fault_in(rule, k));
-        met[to] = 1;
+        met = sets::with(met, to);
         at = to;
         k = next;
     }

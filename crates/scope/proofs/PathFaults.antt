@@ -22,7 +22,7 @@ all-keep broken n x y e f = rw (f, some-first broken n, e) (by x (some (λ s. br
     by true b = refl
     by false b = refl
 
-same-way : (x y : ℕ) → eqb x y ≡ eqb y x
+pub same-way : (x y : ℕ) → eqb x y ≡ eqb y x
 same-way x y = by (eqb y x) refl
   where
     by : (t : Bool) → eqb y x ≡ t → eqb x y ≡ t

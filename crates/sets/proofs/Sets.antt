@@ -40,6 +40,12 @@ has-one m n = by (ltb m n) refl (ltb n m) refl
         let e : n ≡ m = omega (arith, ltb-false m n h, ltb-false n m g) in
         rw (same n e, eq-eqb n m e)
 
+pub turned : (a b : Bool) → (a || b) ≡ (b || a)
+turned true true = refl
+turned true false = refl
+turned false true = refl
+turned false false = refl
+
 -- digits are 0 or 1
 or-digits : (p q : ℕ) → p < 2 → q < 2 → eqb (max p q) 1 ≡ (eqb p 1 || eqb q 1)
 or-digits zero zero l k = refl

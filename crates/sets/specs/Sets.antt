@@ -1,4 +1,4 @@
--- Sets of messages, each as one number: message m is in a set if its binary digit m is 1.
+-- Sets of messages or of vertices, each as one number: message m is in a set if its binary digit m is 1.
 use Prim.Native.Nat.{ℕ, _+_, _/_, _%_, _^_, _<_}
 use mathlib.Core.Path.{_≡_}
 use mathlib.Core.Bool.{Bool, _&&_, _||_}
@@ -28,3 +28,7 @@ IsEither a b set = (n : ℕ) → has set n ≡ (has a n || has b n)
 
 abbrev pub IsBoth : ℕ → ℕ → ℕ → Type 0
 IsBoth a b set = (n : ℕ) → has set n ≡ (has a n && has b n)
+
+-- a set with one vertex more
+abbrev pub IsWith : ℕ → ℕ → ℕ → Type 0
+IsWith a v set = (n : ℕ) → has set n ≡ (eqb n v || has a n)

@@ -1,9 +1,9 @@
-// Sets of messages (specs/Sets), each held in one number, and how many messages are in one: a sum (specs/Sums). Whoever uses them knows
-// only who is in a set.
+// Sets of messages, and of vertices (specs/Sets), each held in one number, and how many messages are in one: a sum (specs/Sums). Whoever
+// uses them knows only who is in a set.
 ghost use Prim.Native.Nat.{_≤_, _<_};
 ghost use mathlib.Core.Path.{_≡_};
-ghost use Rattle.scope.specs.Limits.{mostMessages};
-ghost use Rattle.sets.specs.Sets.{size, IsOneIf, IsNamed, IsEither, IsBoth};
+ghost use Rattle.scope.specs.Limits.{mostMessages, mostVertices};
+ghost use Rattle.sets.specs.Sets.{has, size, IsOneIf, IsNamed, IsEither, IsBoth, IsWith};
 
 // The set of one message, or of nobody.
 pub fn one_if(there: bool, m: usize) -> u32
@@ -32,6 +32,22 @@ pub fn both(a: u32, b: u32) -> u32
     ensures { λ r. ⌜ IsBoth a b r ⌝ }
 {
     a & b
+}
+
+// A set of vertices: whether one is in it.
+pub fn holds(set: u64, v: usize) -> bool
+    requires { ⌜ v < mostVertices ⌝ }
+    ensures { λ r. ⌜ r ≡ has set v ⌝ }
+{
+    (set >> v) % 2 == 1
+}
+
+// And with one more.
+pub fn with(set: u64, v: usize) -> u64
+    requires { ⌜ v < mostVertices ⌝ }
+    ensures { λ r. ⌜ IsWith set v r ⌝ }
+{
+    set | (1u64 << v)
 }
 
 // How many there are.

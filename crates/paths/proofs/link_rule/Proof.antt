@@ -16,14 +16,14 @@ returns-2 : tie.Need-returns-2
 returns-2 c =
     let a = c .before .before .args in
     let t : eqb (a .from) (a .at) ≡ true = eq-eqb (a .from) (a .at) (c .before .if1 .left) in
-    let m : eqb (a .mark) 0 ≡ false = ne-eqb (a .mark) 0 (c .if2 .taken) in
+    let m : a .met ≡ true = c .if2 .taken in
     rw (t, m)
 
 returns-3 : tie.Need-returns-3
 returns-3 c =
     let a = c .before .before .args in
     let t : eqb (a .from) (a .at) ≡ true = eq-eqb (a .from) (a .at) (c .before .if1 .left) in
-    let m : eqb (a .mark) 0 ≡ true = eq-eqb (a .mark) 0 (c .if2 .left) in
+    let m : a .met ≡ false = c .if2 .left in
     rw (t, m)
 
 pub link-rule-spec : {M : Type 1} → statement M
