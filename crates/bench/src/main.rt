@@ -116,12 +116,17 @@ fn ask(
     ask_row(q, &row[0..n], capture, out)
 }
 
-// The row of a file, by its form alone: how many numbers it has. A row that breaks a rule can be judged too.
+// The row of a file, by its form alone, so that one that breaks a rule can be judged too: how many numbers it has, 65536 where the form is refused.
 fn unpacked(file: &[u8], row: &mut [u16]) -> usize
     requires { ⌜ longestRow ≤ length (now row) ⌝ }
 {
     let unpacked = forms::unpack(file, row);
-    unpacked.count
+    let answer = unpacked.answer;
+    let n = unpacked.count;
+    match answer {
+        Answer::Gives(_) => n,
+        Answer::Refused(_) => 65536,
+    }
 }
 
 // The same question so many times, and the checksum.
