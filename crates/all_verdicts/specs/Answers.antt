@@ -46,7 +46,7 @@ seven l out = take answerSize (drop (answerSize * l) out)
 abbrev pub needed : Plan → ℕ
 needed plan = answerSize * (length (plan .messages) + 1)
 
--- refusals 1 to 10; 11, "k above 3"; 13
+-- refusals 1 to 10 and 14 to 19; 11, "k above 3"; 13
 unfoldable pub mayAnswer : List ℕ → ℕ → ℕ → Outcome
 mayAnswer row k lent = andThen (judge row) (λ _. cond (ltb mostCuts k) (refuse 11 0) (room (needed (planOf row)) lent))
 

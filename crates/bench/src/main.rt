@@ -116,7 +116,8 @@ fn ask(
     ask_row(q, &row[0..n], capture, out)
 }
 
-// The row of a file, by its form alone, so that one that breaks a rule can be judged too: how many numbers it has, 65536 where the form is refused.
+// The row of a file, by its form alone, so that one that breaks a rule can be judged too: how many numbers it has, 65536 where the form is
+// refused.
 fn unpacked(file: &[u8], row: &mut [u16]) -> usize
     requires { ⌜ longestRow ≤ length (now row) ⌝ }
 {

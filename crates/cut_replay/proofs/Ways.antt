@@ -67,7 +67,7 @@ few-numbers row j t n e f =
     let b : 2 * n ≤ 2 * mostMessages = omega (arith, l .messages) in
     mul-le-mul a b
 
--- refusals 1 to 10, and 12
+-- refusals 1 to 10 and 14 to 19, and 12
 pub replay-bad : (row cuts entry : List ℕ) (r : Refusal) → judge row ≡ refused r → Replays row cuts entry entry (Refused r)
 unfolding replay
 replay-bad row cuts entry r e =

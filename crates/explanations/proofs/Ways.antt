@@ -31,7 +31,7 @@ use Rattle.explanations.specs.declared.Explanation.the-variants.{Unexpla
 use Rattle.explanations.specs.Explained.{IsUnexplained, IsListed, IsRefused, Answered}
 use Rattle.explanations.proofs.Crossings.{matches, explains, unexplained, first-same}
 
--- refusals 1 to 10
+-- refusals 1 to 10 and 14 to 19
 pub bad-row : (row : List ℕ) (k : ℕ) (capture entry : List ℕ) (r : Refusal) → judge row ≡ refused r → IsRefused row k capture entry entry r
 unfolding mayExplain
 bad-row row k capture entry r e = record { may = rw e; buffer = refl }

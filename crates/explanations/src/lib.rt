@@ -1,6 +1,6 @@
 // Which cuts explain a capture: the first cut list of at most k pairs whose replay has exactly the crossings of the capture, or that there is
 // none. `explain` takes anything and asks nothing; `explain_good` takes a row that is known to be good, and what was kept of a capture. It
-// leans on `plan` for refusals 1 to 10, on `capture` for 23 and for the table of crossings, and on `explaining` for the walk over cut lists;
+// leans on `plan` for a row's refusals, on `capture` for 23 and for the table of crossings, and on `explaining` for the walk over cut lists;
 // that a list matches the table exactly if it explains the capture is proved here.
 use capture::Kept;
 use explaining::Hunted;

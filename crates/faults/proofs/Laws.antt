@@ -1,4 +1,4 @@
--- Laws of the tests of refusals 5 to 10: one for each way out of a test, and of a loop over the places of a message.
+-- Laws of the tests of refusals 5 to 10 and 14 to 19: one for each way out of a test, and of a loop over the places of a message.
 use Prim.Native.Nat.{ℕ, _+_, _-_, _*_, _≤_, _<_}
 use mathlib.Core.Path.{_≡_, refl, sym, _∙_, ap, subst}
 use mathlib.Core.Bool.{Bool, true, false, not, _&&_}

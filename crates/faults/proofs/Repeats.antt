@@ -50,7 +50,8 @@ module _ (row : List ℕ) where
     pub repeating-found : (t : Bool) → t ≡ has (getD met (r .from) 0) (r .to) → t ≡ true → e ≡ lowest (repeats (planOf row)) links
     repeating-found t is h = lowest-found (repeats (planOf row)) links e (on .seeking) l (sym told ∙ sym is ∙ h)
 
-    pub repeating-next : (t : Bool) → t ≡ has (getD met (r .from) 0) (r .to) → t ≡ false → (more : ℕ) → IsWith (getD met (r .from) 0) (r .to) more →
+    pub repeating-next : (t : Bool) → t ≡ has (getD met (r .from) 0) (r .to) → t ≡ false → (more : ℕ) → IsWith (getD met (r .from) 0) (r .to)
+        more →
         Repeating links (e + 1) (set met (r .from) more)
     repeating-next t is h more with-it =
         record {

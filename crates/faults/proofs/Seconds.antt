@@ -1,4 +1,5 @@
--- Laws of the rules of paths: from the walk over a path to a first path's and a second path's earliest rule, and through the places of a message.
+-- Laws of the rules of paths: from the walk over a path to a first path's and a second path's earliest rule, and through the places of a
+-- message.
 use Prim.Native.Nat.{ℕ, _+_, _-_, _≤_, _<_}
 use mathlib.Core.Path.{_≡_, refl, sym, _∙_, ap}
 use mathlib.Core.Bool.{Bool, true, false, cond, not, _&&_}
@@ -168,7 +169,8 @@ module _ (plan : Plan) (end : ℕ) (p : Place) (v : ℕ) (fv : v ≡ standsAt pl
 -- a loop over the places of a message whose first path ends at vertex `end`, at place k
 pub record Placing (plan : Plan) (end : ℕ) (ps : List Place) (k : ℕ) (found : Fault) : Type 0 where
   pub kept : Earliest (λ x q. some (placeRule plan end (placeIn ps q) x) (length (placeIn ps q .second))) 5 k (found .rule) (found .at)
-  pub step : found .rule < 5 → found .step ≡ lowest (placeRule plan end (placeIn ps (found .at)) (found .rule)) (length (placeIn ps (found .at) .second))
+  pub step : found .rule < 5 → found .step ≡ lowest (placeRule plan end (placeIn ps (found .at)) (found .rule)) (length (placeIn ps
+      (found .at) .second))
 
 module _ (plan : Plan) (end : ℕ) (ps : List Place) where
   pub placing-first : (found : Fault) → found .rule ≡ 5 → Placing plan end ps 0 found

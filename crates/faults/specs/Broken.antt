@@ -30,8 +30,8 @@ placeIn ps p = getD ps p (record { link = 0; slot = 0; second = [] })
 abbrev pub firstRule : Plan → List Place → ℕ → ℕ → ℕ → Bool
 firstRule plan ps x p s = eqb s p && pathRule plan (beginsAt plan (linksOf ps)) (linksOf ps) x s
 
--- the rules of the second path from a place of a first path that ends at vertex `end`, in the order in which they are asked: rule x is broken in
--- step s
+-- the rules of the second path from a place of a first path that ends at vertex `end`, in the order in which they are asked: rule x is
+-- broken in step s
 abbrev pub placeRule : Plan → ℕ → Place → ℕ → ℕ → Bool
 placeRule plan end p x s =
     cond (eqb x 0) (noLink plan (p .second) s)

@@ -1,6 +1,6 @@
 // Paths as lists of links: the earliest rule that a path breaks, at its first step, and where the path ends, as specs/ of `scope`
-// (PathRules, Good) says of the plan of a row; it leans on `rows`. A path is a slice of links, so that the second paths, which are parts of the row, and
-// the first paths, which are copied out of it, go by the same rule.
+// (PathRules, Good) says of the plan of a row; it leans on `rows` and `sets`. A path is a slice of links, so that the second paths, which
+// are parts of the row, and the first paths, which are copied out of it, go by the same rule.
 ghost use mathlib.Core.Path.{_≡_};
 ghost use mathlib.Core.Bool.{cond, not};
 ghost use Prim.Native.Nat.{_<_, _≤_, _^_};
@@ -112,7 +112,8 @@ fn link_rule(from: usize, at: usize, met: bool) -> usize
 // a mark for each vertex that is met, all in one set.
 pub fn path_fault(row: &[u16], v: usize, path: &[u16]) -> Fault
     requires { ⌜ PlanLies (now row) × (v < mostVertices) ⌝ }
-    ensures { λ r. ⌜ Earliest (pathRule (planOf (now (row .entry))) v (now (path .entry))) 3 (length (now (path .entry))) (r .rule) (r .step) ⌝ }
+    ensures { λ r. ⌜ Earliest (pathRule (planOf (now (row .entry))) v (now (path .entry))) 3 (length (now (path .entry))) (r .rule)
+        (r .step) ⌝ }
 {
     let links = rows::links(row);
     let mut met = sets::with(0, v);

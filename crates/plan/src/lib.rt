@@ -13,7 +13,7 @@ ghost use Rattle.scope.specs.Row.{walkRow};
 ghost use Rattle.rows.specs.View.{PartAt};
 ghost use Rattle.plan.specs.Answers.{Accepts, Reads, Writes, shownIndex};
 
-// Refusals 1 to 10 of a row, or how many numbers it has.
+// Refusals 1 to 10 and 14 to 19 of a row, or how many numbers it has.
 pub fn judge(row: &[u16]) -> Answer
     ensures { λ r. ⌜ outcomeOf r ≡ judge (now (row .entry)) ⌝ }
 {
@@ -30,7 +30,7 @@ pub fn judge(row: &[u16]) -> Answer
     }
 }
 
-// The row of a file, once its form is known to be right: refusals 5 to 10 and 13, or the row into the front of what is lent.
+// The row of a file, once its form is known to be right: refusals 5 to 10, 14 to 19 and 13, or the row into the front of what is lent.
 fn accept(all: &[u16], row: &mut [u16]) -> Answer
     requires { ⌜ walkRow (now all) ≡ gives (length (now all)) ⌝ }
     ensures { λ r. ⌜ Accepts (now (all .entry)) (now (row .entry)) (now (row .exit)) r ⌝ }
@@ -50,7 +50,7 @@ fn accept(all: &[u16], row: &mut [u16]) -> Answer
     }
 }
 
-// A file read into a lent row: how many numbers, or refusal 1, 2, 4 to 10, 13.
+// A file read into a lent row: how many numbers, or refusal 1, 2, 4 to 10, 14 to 19, 13.
 pub fn read_file(file: &[u8], row: &mut [u16]) -> Answer
     ensures { λ r. ⌜ Reads (now (file .entry)) (now (row .entry)) (now (row .exit)) r ⌝ }
 {
@@ -64,7 +64,7 @@ pub fn read_file(file: &[u8], row: &mut [u16]) -> Answer
     }
 }
 
-// A row written into lent bytes: how many, or refusal 1 to 10, 13.
+// A row written into lent bytes: how many, or refusal 1 to 10, 14 to 19, 13.
 pub fn write_file(row: &[u16], file: &mut [u8]) -> Answer
     ensures { λ r. ⌜ Writes (now (row .entry)) (now (file .entry)) (now (file .exit)) r ⌝ }
 {

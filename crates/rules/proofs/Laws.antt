@@ -24,8 +24,8 @@ use Rattle.rows.proofs.Parts.{path-at, message-count, link-count}
 use Rattle.paths.specs.declared.Fault.{Fault}
 use Rattle.faults.specs.Broken.{FaultOf, FirstFault, SecondFault, firstRule, secondRule, placeIn}
 use Rattle.paths.proofs.Earliest.{earliest-none, earliest-next, either}
-use Rattle.rules.specs.Rules.{Starts, Judging, Single, breaks, countFor, ruleCount, numberOf, roundRule, MessageFault, PlanFault, pathRules}
-use Rattle.rules.specs.Rules.{roundOf, roundsOf, Says}
+use Rattle.rules.specs.Rules.{Starts, Judging, Single, breaks, countFor, ruleCount, numberOf, roundRule, MessageFault, PlanFault}
+use Rattle.rules.specs.Rules.{pathRules, roundOf, roundsOf, Says}
 
 -- a loop over messages that notes where they stand, at message m, which stands at index j
 pub record Noting (row : List ℕ) (m j : ℕ) (starts : List ℕ) : Type 0 where
@@ -232,7 +232,8 @@ module _ (plan : Plan) (n : ℕ) where
   module _ (paths : (eqb n 7 || eqb n 10) ≡ true) (f : Fault) (g : PlanFault plan n M f) where
     whole : (after : Outcome) → roundOf plan n after ≡ cond (ltb (f .rule) (ruleCount n)) (refusal (f .rule)) after
     whole after =
-        rw paths (in-order (ruleCount n) 0 (ruleCount n) (omega arith) after ∙ ap (λ x. cond (ltb x (ruleCount n)) (refusal x) after) (sym (g .found .earliest)))
+        rw paths (in-order (ruleCount n) 0 (ruleCount n) (omega arith) after ∙ ap (λ x. cond (ltb x (ruleCount n)) (refusal x) after) (sym
+        (g .found .earliest)))
 
     numbered : eqb (numberOf n (f .rule)) 0 ≡ false
     numbered = ne-eqb (numberOf n (f .rule)) 0 (by (eqb (f .rule) 0) (ltb n 10) (eqb n 7) (eqb n 10) refl refl paths)
@@ -279,9 +280,11 @@ module _ (plan : Plan) (n : ℕ) where
   messages-next m kept here next fault g f fr fm fa fs e =
       record {
         found = earliest-next _ (ruleCount n) m (λ r. r .message) kept here next (g .found) fm (fr ∙ f .found .earliest) e;
-        at = one (λ r. r .rule < ruleCount n → r .at ≡ placeBroken plan (roundRule plan n (r .rule)) (r .message)) (g .at) (λ h. place (inside h));
+        at = one (λ r. r .rule < ruleCount n → r .at ≡ placeBroken plan (roundRule plan n (r .rule)) (r .message)) (g .at) (λ h. place (inside
+            h));
         step =
-            one (λ r. r .rule < ruleCount n → r .step ≡ stepBroken plan (roundRule plan n (r .rule)) (r .message)) (g .step) (λ h. way (inside h));
+            one (λ r. r .rule < ruleCount n → r .step ≡ stepBroken plan (roundRule plan n (r .rule)) (r .message)) (g .step) (λ h. way (inside
+            h));
       }
     where
       one : (P : Fault → Type 0) → P kept → P here → P next
@@ -308,7 +311,8 @@ module _ (plan : Plan) (from to : ℕ) where
 
   module _ (n : ℕ) (w : Rounds n) where
     module _ (h : n < to) (r : Refusal) (says : Says (roundOf plan n) r) where
-      one-more : (after : Outcome) → roundsOf plan (to - n) n after ≡ cond (eqb (r .no) 0) (roundsOf plan (to - (n + 1)) (n + 1) after) (refused r)
+      one-more : (after : Outcome) → roundsOf plan (to - n) n after ≡ cond (eqb (r .no) 0) (roundsOf plan (to - (n + 1)) (n + 1) after) (refused
+          r)
       unfolding roundsOf
       one-more after =
           let left : to - n ≡ suc (to - (n + 1)) = omega arith in

@@ -23,7 +23,8 @@ ghost use Rattle.scope.specs.Row.{walkRow};
 ghost use Rattle.scope.specs.Plan.{planOf, messageCount, messageAt};
 ghost use Rattle.scope.specs.Rules.{rules};
 ghost use Rattle.rows.specs.Lies.{MessageLies, PlanLies};
-ghost use Rattle.rules.specs.Rules.{Starts, Judging, Single, breaks, countFor, ruleCount, numberOf, MessageFault, PlanFault, Says, roundOf, roundsOf};
+ghost use Rattle.rules.specs.Rules.{Starts, Judging, Single, breaks, countFor, ruleCount, numberOf, MessageFault, PlanFault};
+ghost use Rattle.rules.specs.Rules.{Says, roundOf, roundsOf};
 
 // Where each message stands, 0 for those that the row does not have.
 fn message_starts(row: &[u16]) -> [usize; MESSAGES]

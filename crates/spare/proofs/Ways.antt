@@ -51,7 +51,7 @@ module _ (row : List ℕ) (m p : ℕ) where
   refuses : (r : Refusal) → maySpare row m p ≡ refused r → Slacks row m p (Refused r)
   refuses r e = record { answer = sym e; value = sym (ap (λ (o : Outcome). unlessRefused o (slack row m p)) e) }
 
-  -- refusals 1 to 10
+  -- refusals 1 to 10 and 14 to 19
   pub bad-row : (r : Refusal) → judge row ≡ refused r → Slacks row m p (Refused r)
   unfolding maySpare
   bad-row r e = refuses r (rw e)

@@ -170,7 +170,7 @@ pub fn slack_of_good(row: &[u16], m: usize, p: usize) -> Spare
     Spare::Slots(less(rows::timeout(row), used))
 }
 
-// The slack of the second path of message m from place p: timeout less slot less D, or refusal 1 to 10, 11.
+// The slack of the second path of message m from place p: timeout less slot less D, or refusal 1 to 10, 14 to 19, 11.
 pub fn slack(row: &[u16], m: usize, p: usize) -> Spare
     ensures { λ r. ⌜ Slacks (now (row .entry)) m p r ⌝ }
 {

@@ -26,7 +26,7 @@ use Rattle.verdicts.specs.declared.Ruling.{Ruling}
 use Rattle.verdicts.specs.declared.Ruling.the-variants.{Resistant, Failing, Refused}
 use Rattle.verdicts.specs.Verdict.{MayAsk, IsResistant, IsFailing, IsRefused, Answered}
 
--- refusals 1 to 10
+-- refusals 1 to 10 and 14 to 19
 pub bad-row : (row : List ℕ) (k l : ℕ) (entry : List ℕ) (r : Refusal) → judge row ≡ refused r → IsRefused row k l entry entry r
 unfolding mayJudge
 bad-row row k l entry r e = record { may = rw e; buffer = refl }

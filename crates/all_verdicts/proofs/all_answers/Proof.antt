@@ -1,4 +1,4 @@
--- `all_verdicts::all_answers` meets its contract: refusals 1 to 10, or what `answers_good` answers.
+-- `all_verdicts::all_answers` meets its contract: refusals 1 to 10 and 14 to 19, or what `answers_good` answers.
 use Rattle.plan.proofs.Ways.{gave, refused-as, good-row}
 use Rattle.all_verdicts.proofs.Ways.{bad-row}
 use borrow.Author.Needs.{needs}

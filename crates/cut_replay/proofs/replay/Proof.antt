@@ -1,4 +1,4 @@
--- `cut_replay::replay` meets its contract: refusals 1 to 10, or what `replay_good` gives. Assumes nothing.
+-- `cut_replay::replay` meets its contract: refusals 1 to 10 and 14 to 19, or what `replay_good` gives. Assumes nothing.
 use Rattle.plan.proofs.Ways.{gave, refused-as, good-row}
 use Rattle.cut_replay.proofs.Ways.{replay-bad}
 use borrow.Author.Needs.{needs}

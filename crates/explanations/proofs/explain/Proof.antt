@@ -1,4 +1,4 @@
--- `explanations::explain` meets its contract: refusals 1 to 10, or what `explain_row` answers.
+-- `explanations::explain` meets its contract: refusals 1 to 10 and 14 to 19, or what `explain_row` answers.
 use Rattle.plan.proofs.Ways.{gave, refused-as, good-row}
 use Rattle.explanations.proofs.Ways.{bad-row}
 use borrow.Author.Needs.{needs}

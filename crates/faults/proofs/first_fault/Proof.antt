@@ -23,9 +23,10 @@ path-fault-requires c κs =
 
 returns : tie.Need-returns
 returns c =
+    let s = c .before .before .before .before .before .before .before .before .before in
     let f = c .before .before .before .before .before .before .first-links in
-    let row = c .before .before .before .before .before .before .before .before .before .args .row .now in
-    law.first-path row (planOf row) (c .before .before .before .before .before .before .before .before .before .args .i) (f .result) _ (f .last .1 .1 .0) (f .ensures) _
+    let row = s .args .row .now in
+    law.first-path row (planOf row) (s .args .i) (f .result) _ (f .last .1 .1 .0) (f .ensures) _
     (c .before .before .link-from .ensures ∙ ap (λ e. linkOf (planOf row) e .from) (c .before .before .before .number .ensures .is))
     (c .path-fault .result) (c .path-fault .ensures)
 

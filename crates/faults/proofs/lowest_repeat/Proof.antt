@@ -24,14 +24,16 @@ returns : tie.Need-returns Inv-loop μ-loop
 returns c =
     let row = c .before .before .before .before .before .before .before .args .row .now in
     let l = c .before .before .before .before .loop in
-    repeating-found row _ (l .e) (l .met) (l .inv) (c .before .before .before .loop-test .taken) _ (c .before .before .ends-of .ensures) _ (c .before .holds .ensures) (c .if1 .taken) ∙
+    repeating-found row _ (l .e) (l .met) (l .inv) (c .before .before .before .loop-test .taken) _ (c .before .before .ends-of .ensures) _
+    (c .before .holds .ensures) (c .if1 .taken) ∙
     ap (lowest (repeats (planOf row))) (c .before .before .before .before .before .links .ensures .is)
 
 loop-again : tie.Need-loop-again Inv-loop μ-loop
 loop-again c =
     let row = c .before .before .before .before .before .before .before .before .args .row .now in
     let l = c .before .before .before .before .before .loop in
-    repeating-next row _ (l .e) (l .met) (l .inv) (c .before .before .before .before .loop-test .taken) _ (c .before .before .before .ends-of .ensures) _ (c .before .before .holds .ensures) (c .before .if1 .left)
+    repeating-next row _ (l .e) (l .met) (l .inv) (c .before .before .before .before .loop-test .taken) _
+    (c .before .before .before .ends-of .ensures) _ (c .before .before .holds .ensures) (c .before .if1 .left)
     _ (c .with .ensures)
 
 returns-2 : tie.Need-returns-2 Inv-loop μ-loop

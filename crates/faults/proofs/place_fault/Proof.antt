@@ -15,23 +15,40 @@ returns c =
     rw (c .fault-in .ensures, none) (earliest-none _ 5 0)
 
 sub-link-fault : tie.Need-sub-link-fault
-sub-link-fault c = omega (arith, law.second-order _ _ _ (c .before .before .place-at .ensures) (c .if1 .left) (c .before .before .before .before .pre .2))
+sub-link-fault c = omega (
+  arith,
+  law.second-order _ _ _ (c .before .before .place-at .ensures) (c .if1 .left)
+      (c .before .before .before .before .pre .2),
+)
 
 part-link-fault-start : tie.Need-part-link-fault-start
-part-link-fault-start c = omega (arith, law.second-order _ _ _ (c .before .before .place-at .ensures) (c .if1 .left) (c .before .before .before .before .pre .2), law.second-within _ _ _ (c .before .before .place-at .ensures) (c .if1 .left) (c .before .before .before .before .pre .2))
+part-link-fault-start c = omega (
+  arith,
+  law.second-order _ _ _ (c .before .before .place-at .ensures) (c .if1 .left)
+      (c .before .before .before .before .pre .2),
+  law.second-within _ _ _ (c .before .before .place-at .ensures) (c .if1 .left)
+      (c .before .before .before .before .pre .2),
+)
 
 part-link-fault-end : tie.Need-part-link-fault-end
-part-link-fault-end c = omega (arith, law.second-within _ _ _ (c .before .before .place-at .ensures) (c .if1 .left) (c .before .before .before .before .pre .2))
+part-link-fault-end c = omega (
+  arith,
+  law.second-within _ _ _ (c .before .before .place-at .ensures) (c .if1 .left)
+      (c .before .before .before .before .pre .2),
+)
 
 link-fault-requires : tie.Need-link-fault-requires
 link-fault-requires c κs =
+    let s = c .before .before .before .before .before in
     let p = c .before .before .before .place-at in
-    (c .before .before .before .before .before .pre .0, p .ensures .link-small, law.second-some _ _ _ (p .ensures) (c .before .if1 .left) (c .before .before .before .before .before .pre .2))
+    (s .pre .0, p .ensures .link-small, law.second-some _ _ _ (p .ensures) (c .before .if1 .left) (s .pre .2))
 
 returns-2 : tie.Need-returns-2
 returns-2 c =
+    let s = c .before .before .before .before .before .before in
     let p = c .before .before .before .before .place-at in
-    law.place-fault _ _ _ (p .ensures) (c .before .before .if1 .left) (c .before .before .before .before .before .before .pre .2) (planOf (c .before .before .before .before .before .before .args .row .now)) (c .before .before .before .before .before .before .args .end) (c .link-fault .result)
+    law.place-fault _ _ _ (p .ensures) (c .before .before .if1 .left) (s .pre .2) (planOf (s .args .row .now)) (s .args .end)
+    (c .link-fault .result)
     (c .link-fault .ensures)
 
 pub place-fault-spec : {M : Type 1} → statement M

@@ -26,7 +26,12 @@ loop-holds c =
     )
 
 place-at-requires : tie.Need-place-at-requires Inv-loop μ-loop
-place-at-requires c κs = omega (arith, c .before .loop .inv .0 .small, c .before .loop .inv .0 .most, c .before .before .before .place-count .ensures .small)
+place-at-requires c κs = omega (
+  arith,
+  c .before .loop .inv .0 .small,
+  c .before .loop .inv .0 .most,
+  c .before .before .before .place-count .ensures .small,
+)
 
 place-fault-requires : tie.Need-place-fault-requires Inv-loop μ-loop
 place-fault-requires c κs =
@@ -59,7 +64,8 @@ returns c =
     let a = c .before .before .before .before .before .args in
     let l = c .before .loop in
     rule.placing-done (planOf (a .row .now)) (a .end) (messageAt (a .row .now) (a .i)) (l .k) (l .found) (l .inv .1)
-    (law.all-passed (a .row .now) (a .i) _ (l .at) (l .k) (c .before .before .before .place-count .ensures .is) (l .inv .0) (c .loop-test .left))
+    (law.all-passed (a .row .now) (a .i) _ (l .at) (l .k) (c .before .before .before .place-count .ensures .is) (l .inv .0)
+    (c .loop-test .left))
 
 pub places-fault-spec : {M : Type 1} → statement M
 places-fault-spec =

@@ -16,9 +16,10 @@ slice-aggregate-path-end c =
 
 returns : tie.Need-returns
 returns c =
+    let s = c .before .before .before .before .before .before .before in
     let f = c .before .before .before .before .first-links in
-    let row = c .before .before .before .before .before .before .before .args .row .now in
-    law.second-paths row (planOf row) (c .before .before .before .before .before .before .before .args .i) (f .result) _ (f .last .1 .1 .0) (f .ensures) _ (c .before .path-end .ensures)
+    let row = s .args .row .now in
+    law.second-paths row (planOf row) (s .args .i) (f .result) _ (f .last .1 .1 .0) (f .ensures) _ (c .before .path-end .ensures)
     (c .places-fault .result) (c .places-fault .ensures)
 
 pub second-fault-spec : {M : Type 1} → statement M

@@ -25,7 +25,8 @@ returns : tie.Need-returns Inv-loop μ-loop
 returns c =
     let row = c .before .before .before .before .before .before .before .before .before .before .args .row .now in
     rw (c .fault-in2 .ensures)
-    (law.walking-no-link _ _ _ _ _ _ _ (c .before .before .before .before .loop .inv) _ (c .before .before .before .loop-test .taken) (c .before .before .number .ensures .is)
+    (law.walking-no-link _ _ _ _ _ _ _ (c .before .before .before .before .loop .inv) _ (c .before .before .before .loop-test .taken)
+    (c .before .before .number .ensures .is)
     (omega (arith, c .before .if1 .taken, c .before .before .before .before .before .before .before .links .ensures .is, link-count row)))
 
 holds-requires : tie.Need-holds-requires Inv-loop μ-loop
@@ -44,11 +45,17 @@ loop-again c =
     record {
       here = c .before .before .before .before .before .before .before .before .loop-test .taken;
       is = c .before .before .before .before .before .before .before .number .ensures .is;
-      there = omega (arith, c .before .before .before .before .before .before .if1 .left, s .before .before .before .links .ensures .is, link-count row);
+      there = omega (
+        arith,
+        c .before .before .before .before .before .before .if1 .left,
+        s .before .before .before .links .ensures .is,
+        link-count row,
+      );
     } in
     law.walking-next _ _ _ _ _ _ _ w _ on _ ends _ _ (ap (λ f. f .step) (c .before .before .fault-in3 .ensures))
     (ap (λ f. f .rule) (c .before .before .fault-in3 .ensures) ∙
-    law.link-breaks _ _ _ _ _ _ _ w _ on _ ends _ _ (c .before .before .before .before .holds .ensures) (c .before .before .before .link-rule .ensures))
+    law.link-breaks _ _ _ _ _ _ _ w _ on _ ends _ _ (c .before .before .before .before .holds .ensures)
+    (c .before .before .before .link-rule .ensures))
     (c .before .earlier .ensures) _ (c .with2 .ensures)
 
 returns-2 : tie.Need-returns-2 Inv-loop μ-loop

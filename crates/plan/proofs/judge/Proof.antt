@@ -1,4 +1,4 @@
--- `plan::judge` meets its contract: refusals 1 to 4 come first, then 5 to 10. Assumes nothing.
+-- `plan::judge` meets its contract: refusals 1 to 4 come first, then 5 to 10 and 14 to 19. Assumes nothing.
 use borrow.Author.Needs.{needs}
 use Rattle.plan.proofs.Ways as law
 use Rattle.plan.proofs.judge.Statement.{statement}

@@ -19,12 +19,14 @@ of-message c = law.of-messages (planOf (c .before .before .before .before .args 
 
 found : (c : tie.After-i) → Here (c .before .before .before .before .args .row .now) (c .before .before .before .before .args .m)
     (getD (c .before .before .before .before .args .starts .now) (c .before .before .before .before .args .m) 0)
-found c = law.here _ _ (c .before .before .before .before .pre .0 .lies) (c .before .before .before .before .pre .0 .starts-are) (c .before .before .before .before .args .m) (of-message c)
+found c = law.here _ _ (c .before .before .before .before .pre .0 .lies) (c .before .before .before .before .pre .0 .starts-are)
+    (c .before .before .before .before .args .m) (of-message c)
 
 bad-ends-requires : tie.Need-bad-ends-requires
 bad-ends-requires c κs =
     let a = c .before .before .before .args in
-    let w = law.of-links (planOf (a .row .now)) (a .m) (a .n) (omega (arith, c .if1 .taken, c .before .before .before .pre .1 .other)) (c .before .before .before .pre .3) in
+    let w = law.of-links (planOf (a .row .now)) (a .m) (a .n) (omega (arith, c .if1 .taken, c .before .before .before .pre .1 .other))
+    (c .before .before .before .pre .3) in
     omega (arith, w, law.links-few (a .row .now) (a .starts .now) (a .table .now) (a .n) (c .before .before .before .pre .0))
 
 returns : tie.Need-returns
@@ -38,12 +40,21 @@ returns c =
 mul-i : tie.Need-mul-i
 mul-i c =
     let a = c .before .before .before .args in
-    omega (arith, law.few (a .row .now) (a .starts .now) (a .table .now) (a .n) (c .before .before .before .pre .0) (a .m) (omega (arith, c .if1 .left)) (c .before .before .before .pre .3))
+    omega (
+      arith,
+      law.few (a .row .now) (a .starts .now) (a .table .now) (a .n) (c .before .before .before .pre .0) (a .m) (omega (
+        arith,
+        c .if1 .left,
+      )) (c .before .before .before .pre .3),
+    )
 
 element-copy-out-i : tie.Need-element-copy-out-i
 element-copy-out-i c =
     let a = c .before .before .before .args in
-    let w = law.few (a .row .now) (a .starts .now) (a .table .now) (a .n) (c .before .before .before .pre .0) (a .m) (omega (arith, c .if1 .left)) (c .before .before .before .pre .3) in
+    let w = law.few (a .row .now) (a .starts .now) (a .table .now) (a .n) (c .before .before .before .pre .0) (a .m) (omega (
+      arith,
+      c .if1 .left,
+    )) (c .before .before .before .pre .3) in
     omega (arith, w, c .before .before .before .pre .0 .starts-are .long)
 
 bad-slots-requires : tie.Need-bad-slots-requires
@@ -61,12 +72,14 @@ held-below-requires c κs = found (c .before) .near
 
 returns-3 : tie.Need-returns-3
 returns-3 c =
-    let a = c .before .before .before .before .before .before .args in
+    let s = c .before .before .before .before .before .before in
+    let a = s .args in
     let row = a .row .now in
     let here = found (c .before .before) in
     c .held-below .ensures ∙
-    taken-is (planOf row) (a .m) (a .table .now) (c .before .before .before .before .before .before .pre .0 .table-is (omega (arith, c .before .if2 .left))) (of-message (c .before .before)) row (getD (a .starts .now) (a .m) 0)
-    (here .lies) (here .is) ∙ law.rule-nine (planOf row) (a .m) (a .n) (omega (arith, c .before .if2 .left, c .before .before .before .before .before .before .pre .1 .below))
+    taken-is (planOf row) (a .m) (a .table .now) (s .pre .0 .table-is (omega (arith, c .before .if2 .left))) (of-message (c .before .before))
+    row (getD (a .starts .now) (a .m) 0)
+    (here .lies) (here .is) ∙ law.rule-nine (planOf row) (a .m) (a .n) (omega (arith, c .before .if2 .left, s .pre .1 .below))
 
 pub breaks-spec : {M : Type 1} → statement M
 breaks-spec =

@@ -17,13 +17,24 @@ abbrev μ-loop : tie.MeasureT-loop
 μ-loop row starts n count found₀ m₀ found m = count - m
 
 loop-holds : tie.Need-loop-holds Inv-loop μ-loop
-loop-holds c = (law.messages-first (planOf (c .before .before .before .args .row .now)) (c .before .before .before .args .n) _ (c .rule-count .ensures), omega arith)
+loop-holds c = (
+  law.messages-first (planOf (c .before .before .before .args .row .now)) (c .before .before .before .args .n) _
+      (c .rule-count .ensures),
+  omega arith,
+)
 
 mul-message-fault : tie.Need-mul-message-fault Inv-loop μ-loop
-mul-message-fault c = omega (arith, c .loop-test .taken, c .before .before .before .messages .ensures .is, c .before .before .before .before .before .pre .0 .messages)
+mul-message-fault c = omega (
+  arith,
+  c .loop-test .taken,
+  c .before .before .before .messages .ensures .is,
+  c .before .before .before .before .before .pre .0 .messages,
+)
 
 element-copy-out-message-fault : tie.Need-element-copy-out-message-fault Inv-loop μ-loop
-element-copy-out-message-fault c = omega (arith, c .loop-test .taken, c .before .before .before .messages .ensures .is, c .before .before .before .before .before .pre .0 .messages, c .before .before .before .before .before .pre .1 .long)
+element-copy-out-message-fault c =
+    let s = c .before .before .before .before .before in
+    omega (arith, c .loop-test .taken, c .before .before .before .messages .ensures .is, s .pre .0 .messages, s .pre .1 .long)
 
 message-fault-requires : tie.Need-message-fault-requires Inv-loop μ-loop
 message-fault-requires c κs =
@@ -38,7 +49,12 @@ loop-again c =
     let row = a .args .row .now in
     let l = c .before .before .before .before .loop in
     let at = law.here row (a .args .starts .now) (a .pre .0) (a .pre .1) (l .m)
-    (omega (arith, c .before .before .before .loop-test .taken, c .before .before .before .before .before .before .messages .ensures .is, message-count row)) in
+    (omega (
+      arith,
+      c .before .before .before .loop-test .taken,
+      c .before .before .before .before .before .before .messages .ensures .is,
+      message-count row,
+    )) in
     let fault = c .before .message-fault in (
       law.messages-next (planOf row) (a .args .n) (l .m) (l .found) _ (c .earlier .result) (fault .result) (l .inv .0)
           (rw (at .is) (fault .ensures)) refl refl refl refl (c .earlier .ensures),

@@ -12,12 +12,13 @@ use Rattle.rules.proofs.path_round.Tie as tie
 
 returns : tie.Need-returns
 returns c =
-    let row = c .before .before .before .before .before .before .before .args .row .now in
-    let n = c .before .before .before .before .before .before .before .args .n in
+    let s = c .before .before .before .before .before .before .before in
+    let row = s .args .row .now in
+    let n = s .args .n in
     let f = c .before .before .before .before .before .messages-fault in
     let all : PlanFault (planOf row) n (length (planOf row .messages)) (f .result) = rw (message-count row) (f .ensures) in
     let h : f .result .rule < ruleCount n = rw (← c .before .before .before .before .rule-count .ensures) (c .before .before .if1 .taken) in
-    law.paths-broken (planOf row) n (c .before .before .before .before .before .before .before .pre .2) (f .result) all h _ (c .before .number-of .ensures) _ (c .refusal-on .ensures)
+    law.paths-broken (planOf row) n (s .pre .2) (f .result) all h _ (c .before .number-of .ensures) _ (c .refusal-on .ensures)
 
 returns-2 : tie.Need-returns-2
 returns-2 c =

@@ -17,7 +17,8 @@ path-round-requires c κs =
 path-round-requires-2 : tie.Need-path-round-requires-2
 path-round-requires-2 c κs =
     let g = c .before .before .before .before .pre .0 in
-    let t : (eqb (c .before .before .before .before .args .n) 7 || eqb (c .before .before .before .before .args .n) 10) ≡ true = rw (c .if2 .taken) in
+    let t : (eqb (c .before .before .before .before .args .n) 7 || eqb (c .before .before .before .before .args .n) 10) ≡ true = rw
+    (c .if2 .taken) in
     (g .lies, g .starts-are, t)
 
 single-round-requires : tie.Need-single-round-requires

@@ -15,7 +15,8 @@ abbrev μ-loop : tie.MeasureT-loop
 μ-loop row starts table from to n₀ n = to - n
 
 loop-holds : tie.Need-loop-holds Inv-loop μ-loop
-loop-holds c = law.rounds-first (planOf (c .before .before .args .row .now)) (c .before .before .args .from) (c .before .before .args .to) (c .before .before .pre .2)
+loop-holds c = law.rounds-first (planOf (c .before .before .args .row .now)) (c .before .before .args .from) (c .before .before .args .to)
+    (c .before .before .pre .2)
 
 round-requires : tie.Need-round-requires Inv-loop μ-loop
 round-requires c κs =
@@ -28,7 +29,9 @@ round-requires c κs =
 
 returns : tie.Need-returns Inv-loop μ-loop
 returns c =
-    law.rounds-broken (planOf (c .before .before .before .before .before .before .before .args .row .now)) (c .before .before .before .before .before .before .before .args .from) (c .before .before .before .before .before .before .before .args .to) (c .before .before .before .before .loop .n) (c .before .before .before .before .loop .inv)
+    let s = c .before .before .before .before .before .before .before in
+    law.rounds-broken (planOf (s .args .row .now)) (s .args .from) (s .args .to) (c .before .before .before .before .loop .n)
+    (c .before .before .before .before .loop .inv)
     (c .before .before .before .loop-test .taken) (c .before .before .round .result) (c .before .before .round .ensures) (c .if1 .taken)
 
 add-n : tie.Need-add-n Inv-loop μ-loop
@@ -39,12 +42,15 @@ loop-less c = omega (arith, c .before .before .before .loop-test .taken)
 
 loop-again : tie.Need-loop-again Inv-loop μ-loop
 loop-again c =
-    law.rounds-next (planOf (c .before .before .before .before .before .before .before .args .row .now)) (c .before .before .before .before .before .before .before .args .from) (c .before .before .before .before .before .before .before .args .to) (c .before .before .before .before .loop .n) (c .before .before .before .before .loop .inv)
+    let s = c .before .before .before .before .before .before .before in
+    law.rounds-next (planOf (s .args .row .now)) (s .args .from) (s .args .to) (c .before .before .before .before .loop .n)
+    (c .before .before .before .before .loop .inv)
     (c .before .before .before .loop-test .taken) (c .before .before .round .result) (c .before .before .round .ensures) (c .if1 .left)
 
 returns-2 : tie.Need-returns-2 Inv-loop μ-loop
 returns-2 c =
-    law.rounds-done (planOf (c .before .before .before .before .before .args .row .now)) (c .before .before .before .before .before .args .from) (c .before .before .before .before .before .args .to) (c .before .before .loop .n) (c .before .before .loop .inv)
+    let s = c .before .before .before .before .before in
+    law.rounds-done (planOf (s .args .row .now)) (s .args .from) (s .args .to) (c .before .before .loop .n) (c .before .before .loop .inv)
     (c .before .loop-test .left) _ (c .refusal-at .ensures)
 
 pub rounds-spec : {M : Type 1} → statement M

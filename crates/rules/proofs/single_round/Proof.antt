@@ -10,12 +10,16 @@ lowest-breaking-requires c κs = (c .before .before .before .pre .0, c .before .
 
 returns : tie.Need-returns
 returns c =
-    law.single-broken (planOf (c .before .before .before .before .before .before .args .row .now)) _ (c .before .before .before .before .before .before .pre .1) _ _ (c .before .before .before .count-for .ensures) (c .before .before .lowest-breaking .ensures)
+    let s = c .before .before .before .before .before .before in
+    law.single-broken (planOf (s .args .row .now)) _ (s .pre .1) _ _ (c .before .before .before .count-for .ensures)
+    (c .before .before .lowest-breaking .ensures)
     (c .before .if1 .taken) _ (c .refusal-at .ensures)
 
 returns-2 : tie.Need-returns-2
 returns-2 c =
-    law.single-kept (planOf (c .before .before .before .before .before .before .args .row .now)) _ (c .before .before .before .before .before .before .pre .1) _ _ (c .before .before .before .count-for .ensures) (c .before .before .lowest-breaking .ensures)
+    let s = c .before .before .before .before .before .before in
+    law.single-kept (planOf (s .args .row .now)) _ (s .pre .1) _ _ (c .before .before .before .count-for .ensures)
+    (c .before .before .lowest-breaking .ensures)
     (c .before .if1 .left) _ (c .refusal-at2 .ensures)
 
 pub single-round-spec : {M : Type 1} → statement M

@@ -1,4 +1,4 @@
--- `spare::slack` meets its contract: refusals 1 to 10 come first. Assumes nothing.
+-- `spare::slack` meets its contract: refusals 1 to 10 and 14 to 19 come first. Assumes nothing.
 use borrow.Author.Needs.{needs}
 use Rattle.plan.proofs.Ways.{gave, refused-as, good-row}
 use Rattle.spare.proofs.Ways as law

@@ -1,4 +1,4 @@
--- `verdicts::verdict` meets its contract: refusals 1 to 10, or what `verdict_good` answers.
+-- `verdicts::verdict` meets its contract: refusals 1 to 10 and 14 to 19, or what `verdict_good` answers.
 use Rattle.plan.proofs.Ways.{gave, refused-as, good-row}
 use Rattle.verdicts.proofs.Ways.{bad-row}
 use borrow.Author.Needs.{needs}
