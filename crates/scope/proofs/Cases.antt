@@ -1,4 +1,4 @@
--- The table of document 01's cases marked P holds, and so do our own and request [1]'s, each row by computing.
+-- The table of document 01's cases marked P holds, and so do our own and those of requests [1] and [2], each row by computing.
 use mathlib.Core.Path.{refl}
 use mathlib.Core.List.{[], _∷_}
 use lib.Dec.{lit<, lit≤}
@@ -14,8 +14,11 @@ use Rattle.scope.specs.Cycle.{foremost, tableOf, moves, slot, numbers, p
 use Rattle.scope.specs.Verdict.{FirstFailing, earlier}
 use Rattle.scope.specs.Spare.{entriesOf, entries, hasSecondThrough, lowerThrough, delay}
 use Rattle.scope.specs.Capture.{checkCapture}
-use Rattle.scope.specs.Questions.{judge, readFile, writeFile, replay, mayJudge, mayExplain, maySpare, slack}
-use Rattle.scope.specs.Cases.{table, ownTable, pathTable, All, rowA, rowLate, rowOrder}
+use Rattle.scope.specs.Game.{breaker, leastFrom, figure, figures}
+use Rattle.scope.specs.Questions.{judge, readFile, writeFile, replay, mayJudge, figureOf, figuresOf, mayExplain, maySpare, slack}
+use Rattle.scope.specs.Lines.{digits, spaced, parted}
+use Rattle.scope.specs.Shelf.{namesOf, checkNames, rate, unharmed, lossSum, ratedText, planLines, sumLines, sheet, shelfText}
+use Rattle.scope.specs.Cases.{table, ownTable, pathTable, shelfTable, All, rowA, rowLate, rowOrder}
 use Rattle.scope.proofs.Explained.{first-of-B}
 use Rattle.scope.proofs.First.{every, spared, before-one, before-two}
 
@@ -124,3 +127,10 @@ unfolding seek walkFrom walkRow numbersAt linksAt placesAt afterPlaces messagesA
     judge
 path-cases =
     (refl, (refl, (refl, (refl, (refl, (refl, (refl, (refl, (refl, (refl, (refl, (refl, (refl, (refl, (refl, (refl, (refl, tt)))))))))))))))))
+
+pub shelf-cases : All shelfTable
+unfolding seek bitsOf bits numberFrom bytesOf walkBits fieldsOf zeros endsAt walkFile rowOf walkFrom walkRow numbersAt linksAt placesAt
+    afterPlaces messagesAt afterMessages planOf has visited slotsRise holds taken rules isCut foremost tableOf moves slot arrived judge readFile
+    breaker leastFrom figure figures figureOf figuresOf digits spaced parted namesOf checkNames rate unharmed lossSum ratedText planLines
+    sumLines sheet shelfText
+shelf-cases = ((refl, refl), ((refl, refl), ((refl, refl), ((refl, refl), ((refl, refl), ((refl, refl), (refl, (refl, (refl, tt)))))))))

@@ -1,6 +1,6 @@
 -- "Examples": the cases that document 01 marks P, as rows of one table. What it says of a row is `Holds`, and proofs/Cases.antt proves the
 -- table.
-use Prim.Native.Nat.{ℕ, _-_, _*_}
+use Prim.Native.Nat.{ℕ, _+_, _-_, _*_}
 use mathlib.Core.Path.{_≡_}
 use mathlib.Core.Bool.{Bool, true, false, _&&_}
 use mathlib.Core.List.{List, [], _∷_}
@@ -15,7 +15,9 @@ use Rattle.scope.specs.Slot.{onSecond, atTarget}
 use Rattle.scope.specs.Cycle.{orderOf, tableOf, start, positions, events, eventRow}
 use Rattle.scope.specs.Verdict.{FirstFailing}
 use Rattle.scope.specs.Capture.{FirstExplaining}
-use Rattle.scope.specs.Questions.{judge, readFile, writeFile, replay, mayJudge, mayExplain, slack, maySpare}
+use Rattle.scope.specs.Game.{figures}
+use Rattle.scope.specs.Questions.{judge, readFile, writeFile, replay, mayJudge, figureOf, figuresOf, mayExplain, slack, maySpare}
+use Rattle.scope.specs.Shelf.{Shelved, shelfText}
 
 -- Plan B: "links 0→1, 0→2, 2→1 and t = 4. Both messages have first path link 0, message 0 in slot 0 and message 1 in slot 1, and second path
 -- links 1, 2."
@@ -76,6 +78,10 @@ seenB = 0 ∷ 0 ∷ 0 ∷ 1 ∷ 1 ∷ 1 ∷ 2 ∷ 2 ∷ 1 ∷ []
 abbrev pub onNet : ℕ → List ℕ → List ℕ
 onNet m messages = 1 ∷ 3 ∷ 5 ∷ m ∷ 7 ∷ 0 ∷ 1 ∷ 1 ∷ 2 ∷ 2 ∷ 3 ∷ 1 ∷ 0 ∷ 0 ∷ 2 ∷ 2 ∷ 1 ∷ messages
 
+-- one link, one message, one slot: the only cut that does harm is in force in the slot in which it is picked
+abbrev pub rowOne : List ℕ
+rowOne = 1 ∷ 1 ∷ 0 ∷ 0 ∷ 0 ∷ 0 ∷ 1 ∷ 0 ∷ 0 ∷ 0 ∷ 0 ∷ []
+
 -- link 0 is down in slot 0 and whole again from slot 1 on: no cut list does this, and a message once turned stays turned
 abbrev pub brief : ℕ → ℕ → Bool
 brief i e = eqb i 0 && eqb e 0
@@ -108,6 +114,12 @@ pub data Case : Type 0 where
   explains : List ℕ → ℕ → List ℕ → List ℕ → Case
   -- a row, k, a capture, the room lent, and what is refused of them
   refuses : List ℕ → ℕ → List ℕ → ℕ → Outcome → Case
+  -- a row, k, and its figures up to k, with exactly the room needed
+  rates : List ℕ → ℕ → List ℕ → Case
+  -- a row, k, the room lent, and what is refused of one figure and of all
+  ratesNot : List ℕ → ℕ → ℕ → Outcome → Outcome → Case
+  -- the names that are read, what their files hold, and what is printed
+  shelves : List ℕ → List Shelved → List ℕ → Case
 
 abbrev pub Holds : Case → Type 0
 Holds (judges row says) = judge row ≡ says
@@ -124,6 +136,9 @@ Holds (spares row m p z) = (maySpare row m p ≡ gives 0) × (slack row m p ≡ 
 Holds (fails row k l cuts) = (mayJudge row k l (2 * k) ≡ gives (2 * k)) × FirstFailing (planOf row) k l cuts
 Holds (explains row k capture cuts) = (mayExplain row k capture (2 * k) ≡ gives (2 * k)) × FirstExplaining (planOf row) k capture cuts
 Holds (refuses row k capture lent says) = mayExplain row k capture lent ≡ says
+Holds (rates row k told) = (figuresOf row k (k + 1) ≡ gives (k + 1)) × (figures (planOf row) 0 (k + 1) ≡ told)
+Holds (ratesNot row k lent one all) = (figureOf row k ≡ one) × (figuresOf row k lent ≡ all)
+Holds (shelves input shelf text) = shelfText input shelf ≡ text
 
 -- the cases marked P
 abbrev pub table : List Case
@@ -209,6 +224,31 @@ pathTable =
     judges (onNet 1 (0 ∷ 0 ∷ 0 ∷ 1 ∷ 0 ∷ 0 ∷ 0 ∷ 4 ∷ 0 ∷ 1 ∷ 2 ∷ 0 ∷ 3 ∷ 4 ∷ [])) (refuseOn 18 1 0 1) ∷
     -- links 0, 1, 2; from place 1, whose link is 1, links 1, 2
     judges (onNet 0 (2 ∷ 0 ∷ 0 ∷ 0 ∷ 1 ∷ 1 ∷ 1 ∷ 1 ∷ 1 ∷ 2 ∷ 2 ∷ 2 ∷ 0 ∷ [])) (refuseOn 19 0 1 0) ∷
+    []
+
+-- request [2]: figures, and sheets. `b` is plan B, and `x` is not there
+abbrev pub shelfB : List Shelved
+shelfB = record { name = 98 ∷ []; file = fileB } ∷ record { name = 120 ∷ []; file = [] } ∷ []
+
+abbrev pub shelfTable : List Case
+shelfTable =
+    rates rowA 2 (2 ∷ 1 ∷ 0 ∷ []) ∷
+    rates rowB 3 (2 ∷ 2 ∷ 0 ∷ 0 ∷ []) ∷
+    rates rowLate 1 (2 ∷ 1 ∷ []) ∷
+    rates rowOne 2 (1 ∷ 0 ∷ 0 ∷ []) ∷
+    ratesNot rowB 4 0 (refuse 11 0) (refuse 11 0) ∷
+    ratesNot rowOne 1 1 (gives 0) (refuse 13 2) ∷
+    -- b, line feed, x: `2 2 0 0 b`, `refused 2 place 0 x`, `0 1 0`, `1 1 0`, `2 0 2`, `3 0 2`
+    shelves (98 ∷ 10 ∷ 120 ∷ []) shelfB
+    (50 ∷ 32 ∷ 50 ∷ 32 ∷ 48 ∷ 32 ∷ 48 ∷ 32 ∷ 98 ∷ 10 ∷
+    114 ∷ 101 ∷ 102 ∷ 117 ∷ 115 ∷ 101 ∷ 100 ∷ 32 ∷ 50 ∷ 32 ∷ 112 ∷ 108 ∷ 97 ∷ 99 ∷ 101 ∷ 32 ∷ 48 ∷ 32 ∷ 120 ∷ 10 ∷
+    48 ∷ 32 ∷ 49 ∷ 32 ∷ 48 ∷ 10 ∷ 49 ∷ 32 ∷ 49 ∷ 32 ∷ 48 ∷ 10 ∷ 50 ∷ 32 ∷ 48 ∷ 32 ∷ 50 ∷ 10 ∷ 51 ∷ 32 ∷ 48 ∷ 32 ∷ 50 ∷ 10 ∷ []) ∷
+    -- no name: `0 0 0` to `3 0 0`
+    shelves [] []
+    (48 ∷ 32 ∷ 48 ∷ 32 ∷ 48 ∷ 10 ∷ 49 ∷ 32 ∷ 48 ∷ 32 ∷ 48 ∷ 10 ∷ 50 ∷ 32 ∷ 48 ∷ 32 ∷ 48 ∷ 10 ∷ 51 ∷ 32 ∷ 48 ∷ 32 ∷ 48 ∷ 10 ∷ []) ∷
+    -- b, line feed, line feed: an empty name in line 1, `refused 24 place 1`
+    shelves (98 ∷ 10 ∷ 10 ∷ []) []
+    (114 ∷ 101 ∷ 102 ∷ 117 ∷ 115 ∷ 101 ∷ 100 ∷ 32 ∷ 50 ∷ 52 ∷ 32 ∷ 112 ∷ 108 ∷ 97 ∷ 99 ∷ 101 ∷ 32 ∷ 49 ∷ 10 ∷ []) ∷
     []
 
 -- every row of a table holds

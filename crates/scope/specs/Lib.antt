@@ -1,4 +1,4 @@
--- Document 01, one module a section. A reader who believes these believes every promise of the code: each contract cites them.
+-- Document 01, one module a section, and what the requests of document 02 add. A reader who believes these believes every promise of the code: each contract cites them.
 pub mod Limits
 pub mod Lowest
 pub mod Outcome
@@ -14,9 +14,11 @@ pub mod Cuts
 pub mod Slot
 pub mod Cycle
 pub mod Verdict
+pub mod Game
 pub mod Capture
 pub mod Spare
 pub mod SecondPath
 pub mod Questions
 pub mod Lines
+pub mod Shelf
 pub mod Cases

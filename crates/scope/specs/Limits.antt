@@ -83,3 +83,13 @@ planRoom = 7349
 -- a byte more than 65 cut lines can have: a list of more than 64 pairs names a link twice, so no more can matter
 abbrev pub cutsRoom : ℕ
 cutsRoom = 651
+
+-- "names of plan files, one a line, at most 250, each of 1 to 255 bytes"; and a byte more than these lines can have
+abbrev pub mostNames : ℕ
+mostNames = 250
+
+abbrev pub longestName : ℕ
+longestName = 255
+
+abbrev pub namesRoom : ℕ
+namesRoom = 64001

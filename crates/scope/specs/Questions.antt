@@ -1,5 +1,5 @@
 -- Every question of document 01, with its refusals in their order: "The lowest number that applies is given".
-use Prim.Native.Nat.{ℕ, _*_}
+use Prim.Native.Nat.{ℕ, _+_, _*_}
 use mathlib.Core.Bool.{cond, _||_}
 use mathlib.Core.List.{List, _++_}
 use lib.ListN.{length, drop}
@@ -13,6 +13,7 @@ use Rattle.scope.specs.Rules.{rules}
 use Rattle.scope.specs.Cuts.{checkCuts}
 use Rattle.scope.specs.Cycle.{arrivals, eventRow, orderOf}
 use Rattle.scope.specs.Capture.{checkCapture}
+use Rattle.scope.specs.Game.{figure}
 use Rattle.scope.specs.Spare.{slackOf, noSecond}
 use Rattle.scope.specs.SecondPath.{shown}
 
@@ -48,6 +49,14 @@ unfoldable pub mayJudge : List ℕ → ℕ → ℕ → ℕ → Outcome
 mayJudge row k l lent =
     andThen (judge row)
     (λ _. cond (ltb 3 k || ltb (length (planOf row .messages)) l) (refuse 11 0) (room (2 * k) lent))
+
+-- the figure of a row for k: the least number of arrivals, or refusal 1 to 10, 14 to 19; 11, "k above 3"
+unfoldable pub figureOf : List ℕ → ℕ → Outcome
+figureOf row k = andThen (judge row) (λ _. cond (ltb 3 k) (refuse 11 0) (gives (figure (planOf row) k)))
+
+-- all figures of a row up to k, into `lent` numbers: how many there are, or refusal 1 to 10, 14 to 19, 11, 13
+unfoldable pub figuresOf : List ℕ → ℕ → ℕ → Outcome
+figuresOf row k lent = andThen (judge row) (λ _. cond (ltb 3 k) (refuse 11 0) (room (k + 1) lent))
 
 -- what stands before an explanation: refusals 1 to 10 and 14 to 19; 11, "k above 3"; 23; "then 13, for 2 × k numbers"
 unfoldable pub mayExplain : List ℕ → ℕ → List ℕ → ℕ → Outcome

@@ -56,3 +56,10 @@ pub const CUT_NUMBERS: usize = 2 * CUTS;
 pub const PLAN_ROOM: usize = FILE + 1;
 
 pub const CUTS_ROOM: usize = 651;
+
+// The names of plan files on a shelf: how many, and how long; and a byte more than these lines can have.
+pub const NAMES: usize = 250;
+
+pub const NAME: usize = 255;
+
+pub const NAMES_ROOM: usize = NAMES * (NAME + 1) + 1;
