@@ -5,3 +5,5 @@ pub mod Before
 pub mod Steps
 pub mod First
 pub mod Pigeons
+pub mod Turns
+pub mod Game
