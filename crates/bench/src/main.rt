@@ -88,6 +88,9 @@ fn ask_row(q: Question, row: &[u16], capture: &[u16], out: &mut [u16]) -> usize
     if q.what == b'l' {
         return ruled(verdicts::verdict(row, q.k, q.l, out));
     }
+    if q.what == b'g' {
+        return small(figures::figures(row, q.k, out));
+    }
     if q.what == b'f' {
         let n = q.given;
         if capture.len() < n {

@@ -13,14 +13,15 @@ use Rattle.step.specs.declared.Standing.{Standing}
 use Rattle.picks.specs.Picks.{noPair}
 use Rattle.search.specs.declared.Asked.{Asked}
 use Rattle.picks.specs.declared.Picked.{Picked}
-use Rattle.search.specs.declared.Hits.{Hits}
+use Rattle.risks.specs.declared.Hits.{Hits}
 use Rattle.search.specs.declared.Found.{Found}
 use Rattle.search.specs.declared.Hunted.{Hunted}
 use Rattle.order.specs.Search.{NoneOf}
-use Rattle.search.specs.Hunt.{noHits, Seeks, noHunted, AreAway, MaySeek, Sought, MayHunt, Hunts}
+use Rattle.search.specs.Hunt.{Seeks, noHunted, MaySeek, Sought, MayHunt, Hunts}
+use Rattle.risks.specs.Weighed.{noHits, AreAway}
 use Rattle.order.proofs.First.{first-list, none-more}
 use Rattle.picks.proofs.Picking.{holding-none}
-use Rattle.search.proofs.Risks.{covers-none}
+use Rattle.risks.proofs.Risks.{covers-none}
 
 -- nothing is found
 pub hunts-none : (row : List ℕ) (l k : ℕ) (h : Hunted) → h ≡ noHunted →

@@ -2,40 +2,36 @@
 use Prim.Native.Nat.{ℕ, _+_, _-_, _*_, _≤_, _<_}
 use native.Mathlib.Omega.{arith}
 use mathlib.Core.Path.{_≡_, refl, subst}
-use mathlib.Core.Bool.{Bool, true, false, not, _&&_, cond, and-eq-true-iff}
+use mathlib.Core.Bool.{true, false, not, and-eq-true-iff}
 use mathlib.Core.List.{List, [], _∷_, _++_}
 use lib.ListN.{length, take}
-use lib.Dec.{eqb}
-use borrow.Author.Tests.{eqb-true, not-false, not-true}
+use borrow.Author.Tests.{not-true}
 use Rattle.scope.specs.Limits.{mostLinks, mostCuts}
 use Rattle.scope.specs.Lowest.{seek}
 use Rattle.cuts.specs.Down.{isDown}
 use Rattle.scope.specs.Plan.{planOf}
 use Rattle.scope.proofs.Lowest.{seek-from, seek-most, seek-is, seek-low}
 use Rattle.step.specs.declared.Standing.{Standing}
-use Rattle.losses.specs.Harmed.{harmed}
-use Rattle.losses.specs.Strips.{bared}
-use Rattle.bound.specs.Bounds.{weightIn, topIn, frontIn, harmedAndBared}
 use Rattle.picks.specs.Picks.{cutsOf, withPair, Holding, StandAt, MayAdvance}
 use Rattle.search.specs.declared.Asked.{Asked}
 use Rattle.picks.specs.declared.Picked.{Picked}
-use Rattle.search.specs.declared.Hits.{Hits}
-use Rattle.search.specs.declared.Risk.{Risk}
-use Rattle.search.specs.declared.Rest.{Rest}
+use Rattle.risks.specs.declared.Hits.{Hits}
+use Rattle.risks.specs.declared.Risk.{Risk}
+use Rattle.risks.specs.declared.Rest.{Rest}
 use Rattle.search.specs.declared.Found.{Found}
-use Rattle.order.specs.Search.{code, Not, NoneOf, NoneIn}
-use Rattle.search.specs.Hunt.{restOf, lossWith, tooLight, passes, Seeks, Fits, noFound, Ready}
-use Rattle.search.specs.Hunt.{AreAway, Leaves}
+use Rattle.order.specs.Search.{code, NoneOf, NoneIn}
+use Rattle.search.specs.Hunt.{Seeks, noFound, Ready}
+use Rattle.risks.specs.Weighed.{restOf, lossWith, tooLight, passes, Fits}
+use Rattle.risks.specs.Weighed.{AreAway, Leaves}
 use Rattle.search.specs.Hunt.{MayPlayOut, MaySeek, MaySeekIn, Sought, SoughtIn}
-use Rattle.order.proofs.Pairs.{not-before}
-use Rattle.order.proofs.Steps.{after, no-more, none-before, passed, passed-one, first-here, slot-over, joined, first-in-slot}
+use Rattle.order.proofs.Steps.{no-more, none-before, passed-one, first-here, slot-over, joined, first-in-slot}
 use Rattle.order.proofs.Steps.{all-over, first-of-all}
-use Rattle.search.proofs.Weigh.{which, too-light}
+use Rattle.risks.proofs.Light.{skipped, none-later}
 use Rattle.search.proofs.Telling.{tells-none, tells-more}
-use Rattle.search.specs.Risks.{risksOf, MayHit, IsHit, MayWeigh, MayTry}
+use Rattle.risks.specs.Risks.{risksOf, MayHit, IsHit, MayWeigh, MayTry}
 use Rattle.picks.proofs.Playing.{may-advance}
-use Rattle.picks.proofs.Picking.{down-already, cuts-more, holding-more, stand-more}
-use Rattle.search.proofs.Risks.{covers-more, counted, may-weigh}
+use Rattle.picks.proofs.Picking.{cuts-more, holding-more, stand-more}
+use Rattle.risks.proofs.Risks.{covers-more, counted, may-weigh}
 
 -- in slot s, from link e on: the lists whose next pair is there and before link i leave enough
 pub record Looking (row weights most : List ℕ) (a : Asked) (p : Picked) (n s e i : ℕ) (rest : Rest) : Type 0 where
@@ -60,68 +56,12 @@ module _ (row table touchSets stripSets weights most : List ℕ) (a : Asked) (p 
   few : length (planOf row .links) ≤ mostLinks
   few = omega (arith, y .play .links, y .play .few)
 
-  -- where too little is lost with a pair of slot s, it is with one of a later slot
-  all-light : (s i b : ℕ) (rest : Rest) → Leaves row (cutsOf p) most s (n - 1) rest → s ≤ i → b < a .sizes .links →
-      tooLight (a .need) (lossWith rest weights most (a .need) s b) ≡ true → (x : List ℕ) → length x ≡ 2 * (n - 1) →
-      Not (planOf row) (Seeks row a) (cutsOf p ++ i ∷ b ∷ x)
-  all-light s i b rest v later there light x long =
-      let plan = planOf row in
-      let Answers = Seeks row a in
-      let start = code (p .slot) (p .link) in
-      which (Not plan Answers (cutsOf p ++ i ∷ b ∷ x)) (a .need) (lossWith rest weights most (a .need) s b) light
-      (λ less.
-      too-light plan Answers (a .need) (harmed plan) (weightIn weights 0) (topIn most 0) (y .bounds .touches) few (cutsOf p) (p .count) start
-      (h .chosen)
-      (n - 1) s i b later known (omega (arith, less, v .touches)) x long)
-      (λ less. strips-light (eqb (rest .pairs) 1) refl less)
-      (λ less.
-      too-light plan Answers (2 * a .need) (harmedAndBared plan) (weightIn weights 2) (topIn most 2) (y .bounds .both) few (cutsOf p)
-      (p .count) start
-      (h .chosen) (n - 1) s i b later known (omega (arith, less, v .both)) x long)
-    where
-      known : b < length (planOf row .links)
-      known = omega (arith, y .play .links)
-
-      -- too few can be stripped: by one last pair that touches enough, or by any
-      strips-light : (t : Bool) → eqb (rest .pairs) 1 ≡ t →
-          cond t (rest .stripped + weightIn weights 1 s b + frontIn most s (a .need - (rest .touched + weightIn weights 0 s b)))
-          (rest .strips + weightIn weights 1 s b) <
-          a .need → Not (planOf row) (Seeks row a) (cutsOf p ++ i ∷ b ∷ x)
-      strips-light true one less =
-          λ good it.
-          let last : n - 1 ≡ 1 = omega (arith, v .pairs, eqb-true (rest .pairs) 1 one) in
-          let two : length {A = ℕ} (i ∷ b ∷ x) ≡ 2 * 2 = omega arith in
-          omega (
-            arith,
-            less,
-            y .bounds .last (cutsOf p) (i ∷ b ∷ x) (p .count) s (rest .touched) (rest .stripped) (h .chosen .long) two
-                (not-before (planOf row) few (cutsOf p) (i ∷ b ∷ x) (p .count) 2 s (h .chosen .long) two good later) good it (v .touched)
-                (v .stripped),
-          )
-      strips-light false one less =
-          too-light (planOf row) (Seeks row a) (a .need) (bared (planOf row)) (weightIn weights 1) (topIn most 1) (y .bounds .strips) few
-          (cutsOf p)
-          (p .count) (code (p .slot) (p .link)) (h .chosen) (n - 1) s i b later known (omega (arith, less, v .strips)) x long
-
-  -- a link that may not be tried in slot s is not to be tried in a later one
-  not-tried : (s i b : ℕ) (rest : Rest) → Leaves row (cutsOf p) most s (n - 1) rest → s ≤ i → b < a .sizes .links →
-      passes (p .down) weights most (a .need) rest s b ≡ false → (x : List ℕ) → length x ≡ 2 * (n - 1) →
-      Not (planOf row) (Seeks row a) (cutsOf p ++ i ∷ b ∷ x)
-  not-tried s i b rest v later l no-pass x long = by (isDown (p .down) b) refl no-pass
-    where
-      by : (t : Bool) → isDown (p .down) b ≡ t → (not t && not (tooLight (a .need) (lossWith rest weights most (a .need) s b))) ≡ false →
-          Not (planOf row) (Seeks row a) (cutsOf p ++ i ∷ b ∷ x)
-      by false e light = all-light s i b rest v later l (not-false (tooLight (a .need) (lossWith rest weights most (a .need) s b)) light) x long
-      by true e light = down-already row (a .sizes) p h b (Seeks row a) few (n - 1) i e x
-
   -- links of slot s passed over, none of which may be tried
-  skipped : (lo s e f : ℕ) (rest : Rest) → Leaves row (cutsOf p) most s (n - 1) rest → f ≤ a .sizes .links →
+  passed-over : (lo s e f : ℕ) (rest : Rest) → Leaves row (cutsOf p) most s (n - 1) rest → f ≤ a .sizes .links →
       ((b : ℕ) → e ≤ b → b < f → passes (p .down) weights most (a .need) rest s b ≡ false) →
       NoneIn (planOf row) (Seeks row a) (cutsOf p) (n - 1) lo (code s e) → NoneIn (planOf row) (Seeks row a) (cutsOf p) (n - 1) lo (code s f)
-  skipped lo s e f rest v within none leave =
-      passed (planOf row) (Seeks row a) few (cutsOf p) (p .count) (code (p .slot) (p .link)) (h .chosen) (n - 1) lo s e f
-      (omega (arith, y .play .few)) leave
-      (λ b u w. not-tried s s b rest v (omega arith) (omega arith) (none b u w))
+  passed-over lo s e f rest v =
+      skipped row table weights most (a .sizes) p (Seeks row a) (a .need) (y .bounds) (y .play) h s (n - 1) (n - 1) rest v (omega arith) lo e f
 
   pub looked : (s e i : ℕ) (rest : Rest) (r : ℕ) → Leaves row (cutsOf p) most s (n - 1) rest → e ≤ i → i ≤ a .sizes .links →
       NoneIn (planOf row) (Seeks row a) (cutsOf p) (n - 1) (code s e) (code s i) →
@@ -132,7 +72,7 @@ module _ (row table touchSets stripSets weights most : List ℕ) (a : Asked) (p 
       let most′ = seek-most test (a .sizes .links - i) i in
       record {
         leave =
-            skipped (code s e) s i r rest v (omega arith) (λ b u w. seek-low test (a .sizes .links - i) i b u (omega arith)) leave;
+            passed-over (code s e) s i r rest v (omega arith) (λ b u w. seek-low test (a .sizes .links - i) i b u (omega arith)) leave;
         start = omega arith;
         within = omega arith;
         may = λ l. rw found (seek-is test (a .sizes .links - i) i (omega arith));
@@ -198,11 +138,9 @@ module _ (row table touchSets stripSets weights most : List ℕ) (a : Asked) (p 
         tells-none row _ _ (p .count + n) r is
         (rw whole at
         (no-more plan Answers few (cutsOf p) (p .count) (code (p .slot) (p .link)) (h .chosen) (n - 1) s e (g .leave)
-        (λ i b x long low good it.
-        let next = after plan Answers few (cutsOf p) (p .count) (code (p .slot) (p .link)) (h .chosen) (n - 1) i b x good in
-        let there : b < a .sizes .links = omega (arith, next .link, y .play .links) in
-        not-tried s i b rest v (omega (arith, low, next .link, few, g .link, y .play .few)) there
-        (seek-low (passes (p .down) weights most (a .need) rest s) (a .sizes .links - 0) 0 b (omega arith) (omega arith)) x long good it)))
+        (λ i b x long low.
+        none-later row table weights most (a .sizes) p Answers (a .need) (y .bounds) (y .play) h s (n - 1) (n - 1) rest v (omega arith) f found
+        over i b x long (omega arith))))
 
     -- no list goes on with a link of this slot before the first that may be tried
     pub climb-skip : (rest : Rest) (f j : ℕ) → Leaves row (cutsOf p) most s (n - 1) rest →
@@ -212,7 +150,7 @@ module _ (row table touchSets stripSets weights most : List ℕ) (a : Asked) (p 
         let within : j ≤ a .sizes .links = omega (arith, g .link, seek-most test (a .sizes .links - 0) 0) in
         record {
           leave =
-              skipped 0 s e j rest v within (λ b u w. seek-low test (a .sizes .links - 0) 0 b (omega arith) (omega arith)) (g .leave);
+              passed-over 0 s e j rest v within (λ b u w. seek-low test (a .sizes .links - 0) 0 b (omega arith) (omega arith)) (g .leave);
           stand = g .stand;
           away = g .away;
           from = g .from;
@@ -256,10 +194,6 @@ module _ (row table touchSets stripSets weights most : List ℕ) (a : Asked) (p 
             link = omega arith;
             later = omega (arith, g .later, g .link, y .play .few);
           }
-
--- the next link found is a later one
-pub goes-up : (test : ℕ → Bool) (n i r : ℕ) → r ≡ seek test n (i + 1) → i < r
-goes-up test n i r e = omega (arith, seek-from test n (i + 1))
 
 -- the calls
 module _ (row table touchSets stripSets weights most : List ℕ) (a : Asked) (hits : Hits) (ps : Standing) (left : ℕ) (p : Picked) (n s e : ℕ)

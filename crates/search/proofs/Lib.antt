@@ -1,6 +1,4 @@
-pub mod Weigh
 pub mod Answer
-pub mod Risks
 pub mod Telling
 pub mod Playing
 pub mod Levels

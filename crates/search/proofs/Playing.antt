@@ -17,12 +17,13 @@ use Rattle.picks.specs.Picks.{cutsOf, StandAt, MayAdvance}
 use Rattle.picks.proofs.Playing.{may-advance}
 use Rattle.search.specs.declared.Asked.{Asked}
 use Rattle.picks.specs.declared.Picked.{Picked}
-use Rattle.search.specs.declared.Hits.{Hits}
-use Rattle.search.specs.declared.Risk.{Risk}
+use Rattle.risks.specs.declared.Hits.{Hits}
+use Rattle.risks.specs.declared.Risk.{Risk}
 use Rattle.search.specs.declared.Found.{Found}
-use Rattle.search.specs.Hunt.{Seeks, noFound, AreAway, MayPlayOut, Sought}
-use Rattle.search.specs.Risks.{risksOf}
-use Rattle.search.proofs.Risks.{lost-counted}
+use Rattle.search.specs.Hunt.{Seeks, noFound, MayPlayOut, Sought}
+use Rattle.risks.specs.Weighed.{AreAway}
+use Rattle.risks.specs.Risks.{risksOf}
+use Rattle.risks.proofs.Risks.{lost-counted}
 use Rattle.search.proofs.Telling.{tells-none, tells-some}
 
 -- the list picked stands at time i, and those of a set are still away

@@ -1,2 +1,1 @@
 pub mod Hunt
-pub mod Risks

@@ -10,7 +10,7 @@ use Rattle.order.specs.Search.{NoneOf}
 use Rattle.bound.specs.Bounds.{Bounds}
 use Rattle.plan.specs.Answers.{GoodRow}
 use Rattle.picks.specs.Picks.{Playable, StandAt}
-use Rattle.search.specs.Hunt.{Hittable}
+use Rattle.risks.specs.Weighed.{Hittable}
 use Rattle.verdicts.specs.declared.Opening.{Opening}
 
 -- a good row, and room for what is lent

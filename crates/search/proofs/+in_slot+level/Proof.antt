@@ -4,7 +4,8 @@ use Prim.Native.Nat.{ℕ, _+_, _-_, _*_, _<_}
 use mathlib.Core.Path.{sym}
 use native.Mathlib.Omega.{arith}
 use borrow.Author.Needs.{needs}
-use Rattle.search.proofs.Levels.{goes-up, Looking, Climbing, may-try, may-hit, may-go-on, looks-first, looks-some, looks-on, look-done}
+use Rattle.risks.proofs.Light.{goes-up}
+use Rattle.search.proofs.Levels.{Looking, Climbing, may-try, may-hit, may-go-on, looks-first, looks-some, looks-on, look-done}
 use Rattle.search.proofs.Levels.{may-play-out, climbs-first, may-weigh-rest, may-try-all, may-look, climbs-may}
 use Rattle.search.proofs.Levels.{climbs-stop, climbs-over, climbs-some, climbs-on}
 use borrow.Fn.Kinds.{In}
@@ -16,12 +17,12 @@ use Rattle.search.proofs.level.Reads as level
 use Rattle.search.proofs.level.Kinds as level-kinds
 use Rattle.search.proofs.+in_slot+level.Lts-level as level-lts
 use Rattle.picks.proofs.advance.Reads as advance-reads
-use Rattle.search.proofs.at_risk.Reads as at-risk-reads
-use Rattle.search.proofs.away.Reads as away-reads
-use Rattle.search.proofs.hit.Reads as hit-reads
-use Rattle.search.proofs.later.Reads as later-reads
-use Rattle.search.proofs.losses.Reads as losses-reads
-use Rattle.search.proofs.next_link.Reads as next-link-reads
+use Rattle.risks.proofs.at_risk.Reads as at-risk-reads
+use Rattle.risks.proofs.away.Reads as away-reads
+use Rattle.risks.proofs.hit.Reads as hit-reads
+use Rattle.risks.proofs.later.Reads as later-reads
+use Rattle.risks.proofs.losses.Reads as losses-reads
+use Rattle.risks.proofs.next_link.Reads as next-link-reads
 use Rattle.search.proofs.nothing.Reads as nothing-reads
 use Rattle.picks.proofs.pick.Reads as pick-reads
 use Rattle.search.proofs.play_out.Reads as play-out-reads

@@ -1,0 +1,449 @@
+use Prim.Native.Nat.{ℕ, _+_, _-_, _*_, _<_}
+use native.Mathlib.Omega.{arith}
+use borrow.Author.Needs.{needs}
+use mathlib.Core.Path.{sym}
+use Rattle.risks.proofs.Light.{goes-up}
+use Rattle.game.proofs.Turns.{Breaking, may-weigh-rest, may-try, over-turned, from-within, breaks-first, room, may-hit, may-cut}
+use Rattle.game.proofs.Turns.{still-low, breaks-on, may-pass, passed-on, may-move, ends, may-break}
+use borrow.Fn.Kinds.{In}
+use borrow.Fn.PlainCycle.{Measures, is, falls, and}
+use Rattle.game.proofs.breaker.Reads as breaker
+use Rattle.game.proofs.breaker.Kinds as breaker-kinds
+use Rattle.game.proofs.+breaker+network.Lts-breaker as breaker-lts
+use Rattle.game.proofs.network.Reads as network
+use Rattle.game.proofs.network.Kinds as network-kinds
+use Rattle.game.proofs.+breaker+network.Lts-network as network-lts
+use Rattle.cycle.proofs.count_home.Reads as count-home-reads
+use Rattle.game.proofs.fewer.Reads as fewer-reads
+use Rattle.game.proofs.first_worth.Reads as first-worth-reads
+use Rattle.game.proofs.needed.Reads as needed-reads
+use Rattle.game.proofs.over.Reads as over-reads
+use Rattle.game.proofs.worth.Reads as worth-reads
+use Rattle.picks.proofs.advance.Reads as advance-reads
+use Rattle.picks.proofs.pick.Reads as pick-reads
+use Rattle.risks.proofs.at_risk.Reads as at-risk-reads
+use Rattle.risks.proofs.away.Reads as away-reads
+use Rattle.risks.proofs.hit.Reads as hit-reads
+use Rattle.risks.proofs.later.Reads as later-reads
+use Rattle.risks.proofs.losses.Reads as losses-reads
+use Rattle.risks.proofs.next_link.Reads as next-link-reads
+use Rattle.risks.proofs.wanting.Reads as wanting-reads
+use Rattle.game.proofs.+breaker+network.{statement}
+use Rattle.game.proofs.+breaker+network.Tie.{close}
+
+-- the slots left, then the links unchosen
+abbrev μ-breaker : Measures 6 breaker-kinds.ps ℕ
+μ-breaker κs a =
+    (a .1 .1 .1 .1 .1 .1 .0 .timeout - a .1 .1 .1 .1 .1 .1 .1 .1 .1 .1 .1 .1 .0) * 66 +
+    (a .1 .1 .1 .1 .1 .1 .0 .links - a .1 .1 .1 .1 .1 .1 .1 .1 .1 .1 .1 .1 .1 .0) + 1
+
+abbrev μ-network : Measures 6 network-kinds.ps ℕ
+μ-network κs a = (a .1 .1 .1 .1 .1 .1 .0 .timeout - a .1 .1 .1 .1 .1 .1 .1 .1 .1 .1 .1 .0) * 66
+
+abbrev breaker-at : ℕ → In 6 breaker-kinds.ps
+breaker-at t = and 6 breaker-kinds.ps (is 6 breaker-kinds.ps μ-breaker t) breaker.Pre
+
+abbrev breaker-below : ℕ → In 6 breaker-kinds.ps
+breaker-below t = and 6 breaker-kinds.ps (falls 6 breaker-kinds.ps _<_ μ-breaker t) breaker.Pre
+
+abbrev network-at : ℕ → In 6 network-kinds.ps
+network-at t = and 6 network-kinds.ps (is 6 network-kinds.ps μ-network t) network.Pre
+
+abbrev network-below : ℕ → In 6 network-kinds.ps
+network-below t = and 6 network-kinds.ps (falls 6 network-kinds.ps _<_ μ-network t) network.Pre
+
+-- what a call of each function is known to ask and give
+abbrev breaker-calls : ℕ → breaker-lts.Claims
+breaker-calls t = (
+  needed-reads.Asked,
+  needed-reads.Learnt,
+  at-risk-reads.Asked,
+  at-risk-reads.Learnt,
+  wanting-reads.Asked,
+  wanting-reads.Learnt,
+  losses-reads.Asked,
+  losses-reads.Learnt,
+  first-worth-reads.Asked,
+  first-worth-reads.Learnt,
+  worth-reads.Asked,
+  worth-reads.Learnt,
+  over-reads.Asked,
+  over-reads.Learnt,
+  later-reads.Asked,
+  later-reads.Learnt,
+  next-link-reads.Asked,
+  next-link-reads.Learnt,
+  pick-reads.Asked,
+  pick-reads.Learnt,
+  hit-reads.Asked,
+  hit-reads.Learnt,
+  breaker-below t,
+  breaker.Post,
+  network-below t,
+  network.Post,
+)
+
+abbrev network-calls : ℕ → network-lts.Claims
+network-calls t = (
+  advance-reads.Asked,
+  advance-reads.Learnt,
+  count-home-reads.Asked,
+  count-home-reads.Learnt,
+  fewer-reads.Asked,
+  fewer-reads.Learnt,
+  away-reads.Asked,
+  away-reads.Learnt,
+  breaker-below t,
+  breaker.Post,
+)
+
+abbrev breaker-Inv-loop : breaker-lts.InvT-loop
+breaker-Inv-loop row table touches strips weights most z hits ps left p n s e least down links need rest f more best₀ i₀ best i =
+    Breaking row z p n s e least best i
+
+abbrev breaker-μ-loop : breaker-lts.MeasureT-loop
+breaker-μ-loop row table touches strips weights most z hits ps left p n s e least down links need rest f more best₀ i₀ best i =
+    links - i
+
+breaker-needed-requires : (t : ℕ) → breaker-lts.Need-needed-requires (breaker-calls t) (breaker-at t) breaker.Post breaker-Inv-loop
+    breaker-μ-loop
+breaker-needed-requires t c κs = (
+  c .before .before .before .before .before .before .before .pre .1 .turn .low,
+  c .before .before .before .before .before .before .before
+      .pre .1 .turn .board .many,
+)
+
+breaker-at-risk-requires : (t : ℕ) → breaker-lts.Need-at-risk-requires (breaker-calls t) (breaker-at t) breaker.Post breaker-Inv-loop
+    breaker-μ-loop
+breaker-at-risk-requires t c κs =
+    search needs
+
+breaker-wanting-requires : (t : ℕ) → breaker-lts.Need-wanting-requires (breaker-calls t) (breaker-at t) breaker.Post breaker-Inv-loop
+    breaker-μ-loop
+breaker-wanting-requires t c κs =
+    search needs
+
+breaker-losses-requires : (t : ℕ) → breaker-lts.Need-losses-requires (breaker-calls t) (breaker-at t) breaker.Post breaker-Inv-loop
+    breaker-μ-loop
+breaker-losses-requires t c κs =
+    may-weigh-rest _ _ _ _ _ _ _ _ _ _ _ _ _ _ _ (c .before .before .before .before .before .before .before .before .before .before .pre .1) _
+    _ (c .before .at-risk .ensures) (c .wanting .ensures)
+
+breaker-slice-aggregate-first-worth : (t : ℕ) → breaker-lts.Need-slice-aggregate-first-worth (breaker-calls t) (breaker-at t) breaker.Post
+    breaker-Inv-loop breaker-μ-loop
+breaker-slice-aggregate-first-worth t c =
+    sym (c .before .before .before .before .before .before .before .before .before .before .before .before .pre .1 .turn .holding .size)
+
+breaker-first-worth-requires : (t : ℕ) → breaker-lts.Need-first-worth-requires (breaker-calls t) (breaker-at t) breaker.Post breaker-Inv-loop
+    breaker-μ-loop
+breaker-first-worth-requires t c κs = (
+  may-try _ _ _ _ _ _ _ _ _ _ _ _ _ _ _ (c .before .before .before .before .before .before .before .before .before .before .before .before
+      .pre .1) _ _ _ (c .before .before .before .at-risk .ensures) (c .before .before .wanting .ensures) (c .before .losses .ensures) _ (c
+      .before .before .before .before .needed .ensures .1),
+  c .before .before .before .before .before .before .before .before .before .before
+      .before .before .pre .1 .turn .board .play .few,
+)
+
+breaker-worth-requires : (t : ℕ) → breaker-lts.Need-worth-requires (breaker-calls t) (breaker-at t) breaker.Post breaker-Inv-loop breaker-μ-loop
+breaker-worth-requires t c κs =
+    search needs
+
+breaker-over-requires : (t : ℕ) → breaker-lts.Need-over-requires (breaker-calls t) (breaker-at t) breaker.Post breaker-Inv-loop breaker-μ-loop
+breaker-over-requires t c κs =
+    search needs
+
+breaker-returns : (t : ℕ) → breaker-lts.Need-returns (breaker-calls t) (breaker-at t) breaker.Post breaker-Inv-loop breaker-μ-loop
+breaker-returns t c =
+    over-turned _ _ _ _ _ _ _ _ _ _ _ _ _ _ _ (c .before .before .before .before .before .before .before .before .before .before .before
+    .before .before .before .before .before .pre .1) _ _ _ (c .before .before .before .before .before .before .before .at-risk .ensures) (c
+    .before .before .before .before .before .before .wanting .ensures) (c .before .before .before .before .before .losses .ensures) _ _ _ (c
+    .before .before .before .before .before .before .before .before .needed .ensures .0) (c .before .before .before .first-worth .ensures) (c
+    .before .before .worth .ensures) _ (c .before .over .ensures) (c .if1 .taken)
+
+breaker-slice-aggregate-next-link : (t : ℕ) → breaker-lts.Need-slice-aggregate-next-link (breaker-calls t) (breaker-at t) breaker.Post
+    breaker-Inv-loop breaker-μ-loop
+breaker-slice-aggregate-next-link t c =
+    sym (c .before .before .before .before .before .before .before .before .before .before .before .before .before .before .before .before
+    .before .pre .1 .turn .holding .size)
+
+breaker-later-requires : (t : ℕ) → breaker-lts.Need-later-requires (breaker-calls t) (breaker-at t) breaker.Post breaker-Inv-loop breaker-μ-loop
+breaker-later-requires t c κs =
+    search needs
+
+breaker-next-link-requires : (t : ℕ) → breaker-lts.Need-next-link-requires (breaker-calls t) (breaker-at t) breaker.Post breaker-Inv-loop
+    breaker-μ-loop
+breaker-next-link-requires t c κs = (
+  may-try _ _ _ _ _ _ _ _ _ _ _ _ _ _ _ (c .before .before .before .before .before .before .before .before .before .before .before .before
+      .before .before .before .before .before .before .pre .1) _ _ _ (c .before .before .before .before .before .before .before .before .before
+      .at-risk .ensures) (c .before .before .before .before .before .before .before .before .wanting .ensures) (c .before .before .before .before
+      .before .before .before .losses .ensures) _ (c .before .before .before .before .before .before .before .before .before .before .needed
+      .ensures .1),
+  from-within _ _ _ _ _ _ _ _ _ _ _ _ _ _ _ (c .before .before .before .before .before .before .before .before .before .before
+      .before .before .before .before .before .before .before .before .pre .1) _ _ _ (c .before .before .before .before .before .before .before
+      .before .before .at-risk .ensures) (c .before .before .before .before .before .before .before .before .wanting .ensures) (c .before .before
+      .before .before .before .before .before .losses .ensures) _ _ _ (c .before .before .before .before .before .before .before .before .before
+      .before .needed .ensures .0) (c .before .before .before .before .before .first-worth .ensures) (c .before .before .before .before .worth
+      .ensures) _ (c .later .ensures),
+  c .before .before .before .before .before .before .before .before .before .before .before .before .before
+      .before .before .before .before .before .pre .1 .turn .board .play .few,
+)
+
+breaker-loop-holds : (t : ℕ) → breaker-lts.Need-loop-holds (breaker-calls t) (breaker-at t) breaker.Post breaker-Inv-loop breaker-μ-loop
+breaker-loop-holds t c =
+    breaks-first _ _ _ _ _ _ _ _ _ _ _ _ _ _ _ (c .before .before .before .before .before .before .before .before .before .before .before
+    .before .before .before .before .before .before .before .before .pre .1) _ _ _ (c .before .before .before .before .before .before .before
+    .before .before .before .at-risk .ensures) (c .before .before .before .before .before .before .before .before .before .wanting .ensures) (c
+    .before .before .before .before .before .before .before .before .losses .ensures) _ _ _ (c .before .before .before .before .before .before
+    .before .before .before .before .before .needed .ensures .0) (c .before .before .before .before .before .before .first-worth .ensures) (c
+    .before .before .before .before .before .worth .ensures) _ (c .before .later .ensures) _ (c .next-link .ensures)
+
+breaker-pick-requires : (t : ℕ) → breaker-lts.Need-pick-requires (breaker-calls t) (breaker-at t) breaker.Post breaker-Inv-loop breaker-μ-loop
+breaker-pick-requires t c κs = (
+  room _ _ _ _ _ _ _ _ _ _ _ _ _ _ _ (c .before .before .before .before .before .before .before .before .before .before .before .before
+      .before .before .before .before .before .before .before .before .before .pre .1) _ _ _ (c .before .before .before .before .before .before
+      .before .before .before .before .before .before .at-risk .ensures) (c .before .before .before .before .before .before .before .before
+      .before .before .before .wanting .ensures) (c .before .before .before .before .before .before .before .before .before .before .losses
+      .ensures) _ _ (c .before .loop .inv) (c .loop-test .taken),
+  omega (
+    arith,
+    c .before .before .before .before .before .before .before .before
+        .before .before .before .before .before .before .before .before .before .before .before .before .before .pre .1 .turn .early,
+    c .before
+        .before .before .before .before .before .before .before .before .before .before .before .before .before .before .before .before .before
+        .before .before .before .pre .1 .turn .board .play .short,
+  ),
+  omega (
+    arith,
+    c .loop-test .taken,
+    c .before .before .before .before .before
+        .before .before .before .before .before .before .before .before .before .before .before .before .before .before .before .before .pre .1
+        .turn .board .play .few,
+  ),
+)
+
+breaker-hit-requires : (t : ℕ) → breaker-lts.Need-hit-requires (breaker-calls t) (breaker-at t) breaker.Post breaker-Inv-loop breaker-μ-loop
+breaker-hit-requires t c κs =
+    may-hit _ _ _ _ _ _ _ _ _ _ _ _ _ _ _ (c .before .before .before .before .before .before .before .before .before .before .before .before
+    .before .before .before .before .before .before .before .before .before .before .pre .1) _ _ _ (c .before .before .before .before .before
+    .before .before .before .before .before .before .before .before .at-risk .ensures) (c .before .before .before .before .before .before
+    .before .before .before .before .before .before .wanting .ensures) (c .before .before .before .before .before .before .before .before
+    .before .before .before .losses .ensures) _ _ (c .before .before .loop .inv) (c .before .loop-test .taken)
+
+breaker-sub-breaker : (t : ℕ) → breaker-lts.Need-sub-breaker (breaker-calls t) (breaker-at t) breaker.Post breaker-Inv-loop breaker-μ-loop
+breaker-sub-breaker t c =
+    omega (arith, c .before .before .before .loop .inv .some (c .before .before .loop-test .taken))
+
+breaker-add-breaker : (t : ℕ) → breaker-lts.Need-add-breaker (breaker-calls t) (breaker-at t) breaker.Post breaker-Inv-loop breaker-μ-loop
+breaker-add-breaker t c =
+    omega (
+      arith,
+      c .before .before .loop-test .taken,
+      c .before .before .before .before .before .before .before .before .before .before
+          .before .before .before .before .before .before .before .before .before .before .before .before .before .pre .1 .turn .board .play .few,
+    )
+
+breaker-breaker-requires : (t : ℕ) → breaker-lts.Need-breaker-requires (breaker-calls t) (breaker-at t) breaker.Post breaker-Inv-loop
+    breaker-μ-loop
+breaker-breaker-requires t c κs = (
+  omega (
+    arith,
+    c .before .before .before .before .before .before .before .before .before .before .before .before .before .before .before
+        .before .before .before .before .before .before .before .before .pre .0,
+    c .before .before .loop-test .taken,
+    c .before .before .before
+        .loop .inv .start,
+  ),
+  may-cut _ _ _ _ _ _ _ _ _ _ _ _ _ _ _ (c .before .before .before .before .before .before .before .before .before
+      .before .before .before .before .before .before .before .before .before .before .before .before .before .before .pre .1) _ _ _ (c .before
+      .before .before .before .before .before .before .before .before .before .before .before .before .before .at-risk .ensures) (c .before
+      .before .before .before .before .before .before .before .before .before .before .before .before .wanting .ensures) (c .before .before
+      .before .before .before .before .before .before .before .before .before .before .losses .ensures) _ _ (c .before .before .before .loop
+      .inv) (c .before .before .loop-test .taken) _ (c .before .pick .ensures) _ (c .hit .ensures),
+)
+
+breaker-needed-requires-2 : (t : ℕ) → breaker-lts.Need-needed-requires-2 (breaker-calls t) (breaker-at t) breaker.Post breaker-Inv-loop
+    breaker-μ-loop
+breaker-needed-requires-2 t c κs = (
+  still-low _ _ _ _ _ _ _ _ _ _ _ _ _ _ _ (c .before .before .before .before .before .before .before .before .before .before .before .before
+      .before .before .before .before .before .before .before .before .before .before .before .before .pre .1) _ _ _ (c .before .before .before
+      .before .before .before .before .before .before .before .before .before .before .before .before .at-risk .ensures) (c .before .before
+      .before .before .before .before .before .before .before .before .before .before .before .before .wanting .ensures) (c .before .before
+      .before .before .before .before .before .before .before .before .before .before .before .losses .ensures) _ _ (c .before .before .before
+      .before .loop .inv) (c .before .before .before .loop-test .taken) _ (c .before .before .pick .ensures) _ (c .breaker .ensures),
+  c .before
+      .before .before .before .before .before .before .before .before .before .before .before .before .before .before .before .before .before
+      .before .before .before .before .before .before .pre .1 .turn .board .many,
+)
+
+breaker-slice-aggregate-next-link-2 : (t : ℕ) → breaker-lts.Need-slice-aggregate-next-link-2 (breaker-calls t) (breaker-at t) breaker.Post
+    breaker-Inv-loop breaker-μ-loop
+breaker-slice-aggregate-next-link-2 t c =
+    sym (c .before .before .before .before .before .before .before .before .before .before .before .before .before .before .before .before
+    .before .before .before .before .before .before .before .before .before .before .pre .1 .turn .holding .size)
+
+breaker-add-next-link : (t : ℕ) → breaker-lts.Need-add-next-link (breaker-calls t) (breaker-at t) breaker.Post breaker-Inv-loop breaker-μ-loop
+breaker-add-next-link t c =
+    omega (
+      arith,
+      c .before .before .before .before .before .loop-test .taken,
+      c .before .before .before .before .before .before .before
+          .before .before .before .before .before .before .before .before .before .before .before .before .before .before .before .before .before
+          .before .before .pre .1 .turn .board .play .few,
+    )
+
+breaker-next-link-requires-2 : (t : ℕ) → breaker-lts.Need-next-link-requires-2 (breaker-calls t) (breaker-at t) breaker.Post breaker-Inv-loop
+    breaker-μ-loop
+breaker-next-link-requires-2 t c κs = (
+  may-try _ _ _ _ _ _ _ _ _ _ _ _ _ _ _ (c .before .before .before .before .before .before .before .before .before .before .before .before
+      .before .before .before .before .before .before .before .before .before .before .before .before .before .before .pre .1) _ _ _ (c .before
+      .before .before .before .before .before .before .before .before .before .before .before .before .before .before .before .before .at-risk
+      .ensures) (c .before .before .before .before .before .before .before .before .before .before .before .before .before .before .before
+      .before .wanting .ensures) (c .before .before .before .before .before .before .before .before .before .before .before .before .before
+      .before .before .losses .ensures) _ (c .before .needed2 .ensures .1),
+  omega (
+    arith,
+    c .before .before .before .before .before .loop-test
+        .taken,
+  ),
+  c .before .before .before .before .before .before .before .before .before .before .before .before .before .before .before .before
+      .before .before .before .before .before .before .before .before .before .before .pre .1 .turn .board .play .few,
+)
+
+breaker-loop-less : (t : ℕ) → breaker-lts.Need-loop-less (breaker-calls t) (breaker-at t) breaker.Post breaker-Inv-loop breaker-μ-loop
+breaker-loop-less t c =
+    omega (arith, c .before .before .before .before .before .before .loop-test .taken, goes-up _ _ _ _ (c .next-link2 .ensures))
+
+breaker-loop-again : (t : ℕ) → breaker-lts.Need-loop-again (breaker-calls t) (breaker-at t) breaker.Post breaker-Inv-loop breaker-μ-loop
+breaker-loop-again t c =
+    breaks-on _ _ _ _ _ _ _ _ _ _ _ _ _ _ _ (c .before .before .before .before .before .before .before .before .before .before .before .before
+    .before .before .before .before .before .before .before .before .before .before .before .before .before .before .before .pre .1) _ _ _ (c
+    .before .before .before .before .before .before .before .before .before .before .before .before .before .before .before .before .before
+    .before .at-risk .ensures) (c .before .before .before .before .before .before .before .before .before .before .before .before .before
+    .before .before .before .before .wanting .ensures) (c .before .before .before .before .before .before .before .before .before .before
+    .before .before .before .before .before .before .losses .ensures) _ _ (c .before .before .before .before .before .before .before .loop
+    .inv) (c .before .before .before .before .before .before .loop-test .taken) _ (c .before .before .before .before .before .pick .ensures) _
+    (c .before .before .before .breaker .ensures) _ _ (c .before .before .needed2 .ensures .0) (c .next-link2 .ensures)
+
+breaker-network-requires : (t : ℕ) → breaker-lts.Need-network-requires (breaker-calls t) (breaker-at t) breaker.Post breaker-Inv-loop
+    breaker-μ-loop
+breaker-network-requires t c κs = (
+  omega (
+    arith,
+    c .before .before .before .before .before .before .before .before .before .before .before .before .before .before .before
+        .before .before .before .before .before .before .pre .0,
+  ),
+  may-pass _ _ _ _ _ _ _ _ _ _ _ _ _ _ _ (c .before .before .before .before .before
+      .before .before .before .before .before .before .before .before .before .before .before .before .before .before .before .before .pre .1) _
+      _ _ (c .before .before .before .before .before .before .before .before .before .before .before .before .at-risk .ensures) (c .before
+      .before .before .before .before .before .before .before .before .before .before .wanting .ensures) (c .before .before .before .before
+      .before .before .before .before .before .before .losses .ensures) _ _ _ (c .before .before .before .before .before .before .before .before
+      .before .before .before .before .before .needed .ensures .0) (c .before .before .before .before .before .before .before .before
+      .first-worth .ensures) (c .before .before .before .before .before .before .before .worth .ensures) _ _ (c .before .loop .inv) (c .loop-test
+      .left),
+)
+
+breaker-returns-2 : (t : ℕ) → breaker-lts.Need-returns-2 (breaker-calls t) (breaker-at t) breaker.Post breaker-Inv-loop breaker-μ-loop
+breaker-returns-2 t c =
+    passed-on _ _ _ _ _ _ _ _ _ _ _ _ _ _ _ (c .before .before .before .before .before .before .before .before .before .before .before .before
+    .before .before .before .before .before .before .before .before .before .before .pre .1) _ _ _ (c .before .before .before .before .before
+    .before .before .before .before .before .before .before .before .at-risk .ensures) (c .before .before .before .before .before .before
+    .before .before .before .before .before .before .wanting .ensures) (c .before .before .before .before .before .before .before .before
+    .before .before .before .losses .ensures) _ _ _ (c .before .before .before .before .before .before .before .before .before .before .before
+    .before .before .before .needed .ensures .0) (c .before .before .before .before .before .before .before .before .before .first-worth
+    .ensures) (c .before .before .before .before .before .before .before .before .worth .ensures) _ _ (c .before .before .loop .inv) (c .before
+    .loop-test .left) _ (c .network .ensures)
+
+network-advance-requires : (t : ℕ) → network-lts.Need-advance-requires (network-calls t) (network-at t) network.Post
+network-advance-requires t c κs =
+    may-move _ _ _ _ _ _ _ _ _ _ _ _ _ (c .before .before .before .before .before .before .pre .1)
+
+network-add-next : (t : ℕ) → network-lts.Need-add-next (network-calls t) (network-at t) network.Post
+network-add-next t c =
+    omega (
+      arith,
+      c .before .before .before .before .before .before .before .pre .1 .early,
+      c .before .before .before .before .before .before
+          .before .pre .1 .board .play .short,
+    )
+
+network-count-home-requires : (t : ℕ) → network-lts.Need-count-home-requires (network-calls t) (network-at t) network.Post
+network-count-home-requires t c κs =
+    c .before .before .before .before .before .before .before .before .before .pre .1 .board .many
+
+network-fewer-requires : (t : ℕ) → network-lts.Need-fewer-requires (network-calls t) (network-at t) network.Post
+network-fewer-requires t c κs =
+    search needs
+
+network-returns : (t : ℕ) → network-lts.Need-returns (network-calls t) (network-at t) network.Post
+network-returns t c =
+    ends _ _ _ _ _ _ _ _ _ _ _ _ _ (c .before .before .before .before .before .before .before .before .before .before .before .pre .1) _ (c
+    .before .before .before .before .advance .ensures) _ _ (c .before .before .if1 .taken) (c .before .count-home .ensures _) (c .fewer
+    .ensures)
+
+network-away-requires : (t : ℕ) → network-lts.Need-away-requires (network-calls t) (network-at t) network.Post
+network-away-requires t c κs =
+    c .before .before .before .before .before .before .before .before .before .pre .1 .board .many
+
+network-breaker-requires : (t : ℕ) → network-lts.Need-breaker-requires (network-calls t) (network-at t) network.Post
+network-breaker-requires t c κs = (
+  omega (
+    arith,
+    c .before .before .before .before .before .before .before .before .before .before .pre .0,
+    c .before .if1 .left,
+    c .before
+        .before .before .before .before .before .before .before .before .before .pre .1 .early,
+    c .before .before .before .before .before .before
+        .before .before .before .before .pre .1 .board .play .few,
+  ),
+  may-break _ _ _ _ _ _ _ _ _ _ _ _ _ (c .before .before .before .before .before
+      .before .before .before .before .before .pre .1) _ (c .before .before .before .advance .ensures) _ (c .away .ensures) (c .before .if1
+      .left),
+)
+
+network-returns-2 : (t : ℕ) → network-lts.Need-returns-2 (network-calls t) (network-at t) network.Post
+network-returns-2 t c =
+    c .breaker .ensures
+
+pub +breaker+network-spec : {M : Type 1} → statement M
++breaker+network-spec = close μ-breaker μ-network (λ t. breaker-lts.spec (breaker-calls t)
+    (breaker-at t)
+    breaker.Post
+    breaker-Inv-loop
+    breaker-μ-loop
+    (breaker-needed-requires t)
+    (breaker-at-risk-requires t)
+    (breaker-wanting-requires t)
+    (breaker-losses-requires t)
+    (breaker-slice-aggregate-first-worth t)
+    (breaker-first-worth-requires t)
+    (breaker-worth-requires t)
+    (breaker-over-requires t)
+    (breaker-returns t)
+    (breaker-slice-aggregate-next-link t)
+    (breaker-later-requires t)
+    (breaker-next-link-requires t)
+    (breaker-loop-holds t)
+    (breaker-pick-requires t)
+    (breaker-hit-requires t)
+    (breaker-sub-breaker t)
+    (breaker-add-breaker t)
+    (breaker-breaker-requires t)
+    (breaker-needed-requires-2 t)
+    (breaker-slice-aggregate-next-link-2 t)
+    (breaker-add-next-link t)
+    (breaker-next-link-requires-2 t)
+    (breaker-loop-less t)
+    (breaker-loop-again t)
+    (breaker-network-requires t)
+    (breaker-returns-2 t))
+    λ t. network-lts.spec (network-calls t)
+    (network-at t)
+    network.Post
+    (network-advance-requires t)
+    (network-add-next t)
+    (network-count-home-requires t)
+    (network-fewer-requires t)
+    (network-returns t)
+    (network-away-requires t)
+    (network-breaker-requires t)
+    (network-returns-2 t)

@@ -1,0 +1,3 @@
+pub mod Weigh
+pub mod Light
+pub mod Risks
