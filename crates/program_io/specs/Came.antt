@@ -3,7 +3,7 @@
 use Prim.Native.Nat.{ℕ, _≤_}
 use mathlib.Core.Path.{_≡_}
 use mathlib.Core.Bool.{Bool, true}
-use mathlib.Core.List.{List}
+use mathlib.Core.List.{List, [], _∷_}
 use lib.ListN.{length}
 use Rattle.io.specs.Counts.{Counts}
 use Rattle.scope.specs.declared.Answer.{Answer}
@@ -11,9 +11,14 @@ use Rattle.scope.specs.Outcome.{outcomeOf, gives}
 use Rattle.program_io.specs.declared.Read.{Read}
 use Rattle.program_io.specs.declared.Read.the-variants.{Bytes, Failed}
 
+-- a file by its name, or standard input; a file that is missing or cannot be read has nothing
 pub data Source : Type 0 where
-  planFile : Source
+  named : List ℕ → Source
   standardInput : Source
+
+-- `plan.bin`
+abbrev pub planFile : Source
+planFile = named (112 ∷ 108 ∷ 97 ∷ 110 ∷ 46 ∷ 98 ∷ 105 ∷ 110 ∷ [])
 
 -- the first n bytes of a buffer came from a source, all that it had or as many as the buffer holds. Only the functions of this crate say so:
 -- no proof of another crate unfolds it, so that a program which invents the count, or counts a failed read as an end, is refused

@@ -1,11 +1,11 @@
-// What the programs read and write: the file `plan.bin`, standard input, standard output, and what they say on standard error. No contract
+// What the programs read and write: the file `plan.bin`, files by name, standard input, standard output, and what they say on standard error. No contract
 // can say which bytes were read or written; that each count lies within its buffer and came from a read that did not fail is proved. It
 // leans on `io`, `os` and `libc`, whose calls of C are assumed. Nothing else here writes, and only `print` writes standard output.
 ghost use Prim.Native.Nat.{_≤_, _<_};
 ghost use mathlib.Core.Path.{_≡_};
 ghost use lib.ListN.{length};
 ghost use Rattle.io.specs.Counts.{Counts};
-ghost use Rattle.program_io.specs.Came.{Came, planFile, Reads, Prints};
+ghost use Rattle.program_io.specs.Came.{Came, named, planFile, Reads, Prints};
 ghost use Rattle.program_io.specs.More.{says, More};
 ghost use Rattle.program_io.specs.Pieces.{ReadsPiece};
 use libc::STDERR_FILENO;
@@ -64,14 +64,22 @@ fn tell(name: &[u8], what: &[u8]) {
     os::fail(what);
 }
 
-// Reads `plan.bin` until the buffer is full or the file ends, and answers how many bytes it put at the buffer's start. A file that is
-// missing or cannot be read counts as empty, and a line on standard error says which.
-pub fn read_plan(name: &[u8], buf: &mut [u8]) -> usize
-    ensures { λ r. ⌜ Came planFile r (now (buf .exit)) × Counts r (now (buf .exit)) ⌝ }
+// A line on standard error: a file that counts as empty, and why, likewise.
+fn tell_empty(program: &[u8], name: &[u8]) {
+    io::write_all(STDERR_FILENO, program);
+    io::write_all(STDERR_FILENO, b": ");
+    io::write_all(STDERR_FILENO, name);
+    os::fail(b" counts as empty");
+}
+
+// Reads the file of a name until the buffer is full or the file ends, and answers how many bytes it put at the buffer's start. A file that is
+// missing or cannot be read, or whose name no file can have, counts as empty, and a line on standard error says which.
+pub fn read_named(program: &[u8], name: &[u8], buf: &mut [u8]) -> usize
+    ensures { λ r. ⌜ Came (named (now (name .entry))) r (now (buf .exit)) × Counts r (now (buf .exit)) ⌝ }
 {
-    let fd = os::open_read(b"plan.bin");
+    let fd = os::open_read(name);
     if fd < 0 {
-        tell(name, b": plan.bin counts as empty");
+        tell_empty(program, name);
         return 0;
     }
     let read = read_all(fd, buf);
@@ -79,9 +87,16 @@ pub fn read_plan(name: &[u8], buf: &mut [u8]) -> usize
         libc::close(fd);
         return n;
     }
-    tell(name, b": plan.bin counts as empty");
+    tell_empty(program, name);
     libc::close(fd);
     0
+}
+
+// Reads `plan.bin` in this way.
+pub fn read_plan(program: &[u8], buf: &mut [u8]) -> usize
+    ensures { λ r. ⌜ Came planFile r (now (buf .exit)) × Counts r (now (buf .exit)) ⌝ }
+{
+    read_named(program, b"plan.bin", buf)
 }
 
 // Reads standard input in the same way. A read that fails is no end of it: a line on standard error says so, and there is no count.
