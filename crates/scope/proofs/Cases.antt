@@ -133,4 +133,5 @@ unfolding seek bitsOf bits numberFrom bytesOf walkBits fieldsOf zeros endsAt wal
     afterPlaces messagesAt afterMessages planOf has visited slotsRise holds taken rules isCut foremost tableOf moves slot arrived judge readFile
     breaker leastFrom figure figures figureOf figuresOf digits spaced parted namesOf checkNames rate unharmed lossSum ratedText planLines
     sumLines sheet shelfText
-shelf-cases = ((refl, refl), ((refl, refl), ((refl, refl), ((refl, refl), ((refl, refl), ((refl, refl), (refl, (refl, (refl, tt)))))))))
+shelf-cases =
+    ((refl, refl), ((refl, refl), ((refl, refl), ((refl, refl), ((refl, refl), ((refl, refl), ((refl, refl), (refl, (refl, (refl, tt))))))))))

@@ -82,6 +82,10 @@ onNet m messages = 1 ∷ 3 ∷ 5 ∷ m ∷ 7 ∷ 0 ∷ 1 ∷ 1 ∷ 2 ∷ 2 ∷ 3
 abbrev pub rowOne : List ℕ
 rowOne = 1 ∷ 1 ∷ 0 ∷ 0 ∷ 0 ∷ 0 ∷ 1 ∷ 0 ∷ 0 ∷ 0 ∷ 0 ∷ []
 
+-- two links, and on each a message in slot 0 that has no second path: both are lost if both are cut in one turn
+abbrev pub rowTwo : List ℕ
+rowTwo = 1 ∷ 3 ∷ 1 ∷ 1 ∷ 0 ∷ 0 ∷ 1 ∷ 2 ∷ 3 ∷ 0 ∷ 0 ∷ 0 ∷ 0 ∷ 0 ∷ 1 ∷ 0 ∷ 0 ∷ []
+
 -- link 0 is down in slot 0 and whole again from slot 1 on: no cut list does this, and a message once turned stays turned
 abbrev pub brief : ℕ → ℕ → Bool
 brief i e = eqb i 0 && eqb e 0
@@ -236,6 +240,7 @@ shelfTable =
     rates rowB 3 (2 ∷ 2 ∷ 0 ∷ 0 ∷ []) ∷
     rates rowLate 1 (2 ∷ 1 ∷ []) ∷
     rates rowOne 2 (1 ∷ 0 ∷ 0 ∷ []) ∷
+    rates rowTwo 2 (2 ∷ 1 ∷ 0 ∷ []) ∷
     ratesNot rowB 4 0 (refuse 11 0) (refuse 11 0) ∷
     ratesNot rowOne 1 1 (gives 0) (refuse 13 2) ∷
     -- b, line feed, x: `2 2 0 0 b`, `refused 2 place 0 x`, `0 1 0`, `1 1 0`, `2 0 2`, `3 0 2`
