@@ -7,6 +7,7 @@ use crate::captures::{any_capture, capture_lines};
 use crate::cuts::Pair;
 use crate::cycle::cycle;
 use crate::explain::{by_walking, capture_of_numbers, number_of_lists, Triple};
+use crate::figures::figure;
 use crate::lines::{capture_of_lines, highest_k, EXPLAIN_K};
 use crate::plan::{file_of, row_of, Plan};
 use crate::probe::{hex_of_bytes, spaced};
@@ -19,8 +20,9 @@ use crate::verdict::every_list;
 
 // ------------------------------------------------------------------- questions
 
-pub const QUESTIONS: [&str; 9] =
-    ["read", "write", "replay", "verdict", "slack", "second", "where", "explain", "junk"];
+/// `figure` stands for `figures` too.
+pub const QUESTIONS: [&str; 10] =
+    ["read", "write", "replay", "verdict", "slack", "second", "where", "explain", "figure", "junk"];
 
 /// A room: what is needed, one less, none, or more.
 fn any_room(r: &mut Random, needed: usize) -> usize {
@@ -48,6 +50,7 @@ pub fn question(seed: u64, case: u64, without: &[String]) -> (&'static str, Stri
         (5, "second"),
         (4, "where"),
         (11, "explain"),
+        (12, "figure"),
         (3, "junk"),
     ];
     let allowed: Vec<(usize, &'static str)> =
@@ -60,6 +63,7 @@ pub fn question(seed: u64, case: u64, without: &[String]) -> (&'static str, Stri
         "verdict" => verdict_question(r),
         "slack" | "second" | "where" => path_question(r, name),
         "explain" => explain_question(r),
+        "figure" => figure_question(r),
         _ => junk(r),
     };
     (name, line)
@@ -97,7 +101,7 @@ fn replay_question(r: &mut Random) -> String {
 }
 
 /// Whether the exhaustive search ends after at most this many replays.
-fn search_is_quick(plan: &Plan, k: usize, l: usize, replays: usize) -> bool {
+pub fn search_is_quick(plan: &Plan, k: usize, l: usize, replays: usize) -> bool {
     let mut count = 0;
     let mut found = false;
     for pairs in 0..=k {
@@ -198,6 +202,57 @@ fn explain_question(r: &mut Random) -> String {
     format!("explain {} {} {}{}{}", k, room, triples.len(), spaced(&triples), spaced(&row))
 }
 
+/// A plan for figures, with E x t at most `product`: every other time the one of several that loses
+/// the least to a single cut, for most plans lose something to it and all to two or three.
+pub fn plan_for_figure(r: &mut Random, product: usize) -> Plan {
+    let mut any = || {
+        if r.percent(50) { plan_for_verdict(r, product) } else { plan_for_capture(r, product) }
+    };
+    let mut plans: Vec<Plan> = (0..8).map(|_| any()).collect();
+    if r.percent(50) {
+        plans.truncate(1);
+    }
+    let lost = |plan: &Plan| plan.messages.len() - figure(plan, 1);
+    plans.into_iter().min_by_key(|plan| (lost(plan), 32 - plan.messages.len())).unwrap()
+}
+
+fn figure_question(r: &mut Random) -> String {
+    if r.percent(3) {
+        return String::from(*r.pick(&[
+            "figure", "figure ", "figure x", "figure -1 1", "figure 01 1", "figure 65536 1",
+            "figure 1  1", "figure 1 1 ", "figure 1 x", "figure 1 65536", " figure 1 1", "Figure 1 1",
+            "figures", "figures 1", "figures 1 ", "figures x 2 1", "figures 1 x 1", "figures 1 -1 1",
+            "figures 01 2 1", "figures 1 02 1", "figures 65536 2 1", "figures 1 65536 1",
+            "figures 1 2 65536", "figures 1 2 1 ", "figures 1  2 1", "figuress 1 2 1",
+        ]));
+    }
+    let k = *r.weighted(&[(8, 0), (18, 1), (30, 2), (34, 3), (6, 4), (3, 5), (1, 65535)]);
+    let row = match r.below(20) {
+        0..=13 => row_of(&plan_for_figure(r, if k == 3 { 24 } else { 50 })),
+        14 => row_of(&plan_with_slack(r)),
+        15 => row_of(&good_plan(r, Size::Small)),
+        16 => {
+            let size = *r.weighted(&[(60, Size::Middle), (30, Size::Large), (10, Size::Limit)]);
+            row_of(&good_plan(r, size))
+        }
+        17 => row_of(&good_plan(r, Size::Tiny)),
+        _ => any_row(r, Size::Tiny, 0),
+    };
+    // Never a search that takes long: then a lower k.
+    let k = match good_plan_of_row(&row) {
+        Ok(plan) if k <= 3 => {
+            let replays = 40_000 / (plan.timeout * plan.messages.len());
+            (1..=k).rev().find(|k| search_is_quick(&plan, *k, 1, replays)).unwrap_or(0)
+        }
+        _ => k,
+    };
+    if r.percent(50) {
+        format!("figure {}{}", k, spaced(&row))
+    } else {
+        format!("figures {} {}{}", k, any_room(r, k.min(10) + 1), spaced(&row))
+    }
+}
+
 /// How many second paths a plan has.
 fn second_paths_of(plan: &Plan) -> usize {
     let places = plan.messages.iter().flat_map(|message| &message.places);
@@ -277,10 +332,33 @@ fn junk(r: &mut Random) -> String {
 
 // ---------------------------------------------------------- the programs' inputs
 
-/// One case for a program: the plan file, if there is one, and standard input.
+/// One case for a program: what stands in its folder, by name, and standard input.
 pub struct ProgramCase {
-    pub file: Option<Vec<u8>>,
+    pub files: Vec<(Vec<u8>, Made)>,
     pub input: Vec<u8>,
+}
+
+/// What is made in the folder of a case; a file that is closed may not be read by others than root.
+pub enum Made {
+    File(Vec<u8>),
+    Closed(Vec<u8>),
+    Folder,
+}
+
+impl Made {
+    /// What is read of it, if it may be.
+    pub fn content(&self) -> &[u8] {
+        match self {
+            Made::File(content) | Made::Closed(content) => content,
+            Made::Folder => &[],
+        }
+    }
+}
+
+/// The case with this plan file, if there is one.
+fn of_plan(file: Option<Vec<u8>>, input: Vec<u8>) -> ProgramCase {
+    let plan = file.map(|file| (b"plan.bin".to_vec(), Made::File(file)));
+    ProgramCase { files: plan.into_iter().collect(), input }
 }
 
 /// A case for the replay program.
@@ -289,7 +367,7 @@ pub fn replay_case(seed: u64, case: u64) -> ProgramCase {
     let r = &mut random;
     if r.percent(2) {
         let input = if r.percent(50) { Vec::new() } else { b"cut 0 0\n".to_vec() };
-        return ProgramCase { file: None, input };
+        return of_plan(None, input);
     }
     let size = any_size(r);
     let file = any_file(r, size, 82);
@@ -298,7 +376,7 @@ pub fn replay_case(seed: u64, case: u64) -> ProgramCase {
         Err(_) if r.percent(50) => Vec::new(),
         Err(_) => b"cut 0 0\ncut x\n".to_vec(),
     };
-    ProgramCase { file: Some(file), input }
+    of_plan(Some(file), input)
 }
 
 /// A case for the verdict program: only plans whose table is quick to find.
@@ -307,7 +385,7 @@ pub fn verdict_case(seed: u64, case: u64) -> ProgramCase {
     let r = &mut random;
     let input = if r.percent(80) { Vec::new() } else { b"cut 0 0\n".to_vec() };
     if r.percent(2) {
-        return ProgramCase { file: None, input };
+        return of_plan(None, input);
     }
     let file = if r.percent(15) {
         any_file(r, Size::Tiny, 0)
@@ -327,7 +405,7 @@ pub fn verdict_case(seed: u64, case: u64) -> ProgramCase {
             },
         }
     };
-    ProgramCase { file: Some(file), input }
+    of_plan(Some(file), input)
 }
 
 /// A case for the program `deep`: plans whose table up to k 3 is quick to find, half of them with E x t above 64.
@@ -335,7 +413,7 @@ pub fn deep_case(seed: u64, case: u64) -> ProgramCase {
     let mut random = Random::of_case(seed ^ 0x64656570, case);
     let r = &mut random;
     if r.percent(2) {
-        return ProgramCase { file: None, input: Vec::new() };
+        return of_plan(None, Vec::new());
     }
     let file = if r.percent(10) {
         any_file(r, Size::Tiny, 0)
@@ -349,7 +427,7 @@ pub fn deep_case(seed: u64, case: u64) -> ProgramCase {
             }
         }
     };
-    ProgramCase { file: Some(file), input: Vec::new() }
+    of_plan(Some(file), Vec::new())
 }
 
 /// A case for the program `explain`: only plans and captures whose answer is quick to find.
@@ -358,11 +436,11 @@ pub fn explain_case(seed: u64, case: u64) -> ProgramCase {
     let r = &mut random;
     if r.percent(2) {
         let input = if r.percent(50) { Vec::new() } else { b"0 0 0\n".to_vec() };
-        return ProgramCase { file: None, input };
+        return of_plan(None, input);
     }
     if r.percent(10) {
         let input = if r.percent(50) { Vec::new() } else { b"0 0 0\nx\n".to_vec() };
-        return ProgramCase { file: Some(any_file(r, Size::Tiny, 0)), input };
+        return of_plan(Some(any_file(r, Size::Tiny, 0)), input);
     }
     loop {
         let plan = match r.below(20) {
@@ -379,7 +457,7 @@ pub fn explain_case(seed: u64, case: u64) -> ProgramCase {
             Err(_) => true,
         };
         if quick {
-            return ProgramCase { file: Some(file_of(&plan)), input };
+            return of_plan(Some(file_of(&plan)), input);
         }
     }
 }

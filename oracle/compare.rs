@@ -4,9 +4,14 @@
 use crate::lines;
 use crate::probe;
 use crate::cases::{
-    deep_case, explain_case, question, replay_case, verdict_case, ProgramCase, QUESTIONS,
+    deep_case, explain_case, question, replay_case, verdict_case, Made, ProgramCase, QUESTIONS,
 };
+use crate::shelf::{open_in, shelf_program};
+use crate::shelves::shelf_case;
+use std::ffi::OsStr;
 use std::io::{BufRead, BufReader, BufWriter, Read, Write};
+use std::os::unix::ffi::OsStrExt;
+use std::os::unix::fs::PermissionsExt;
 use std::path::{Path, PathBuf};
 use std::process::{Child, Command, Stdio};
 use std::time::{Duration, Instant};
@@ -152,27 +157,42 @@ fn program_case(name: &str, seed: u64, case: u64) -> ProgramCase {
         "verdict" => verdict_case(seed, case),
         "deep" => deep_case(seed, case),
         "explain" => explain_case(seed, case),
+        "shelf" => shelf_case(seed, case),
         _ => replay_case(seed, case),
     }
 }
 
-/// What the program of this name prints.
-fn program_text(name: &str, case: &ProgramCase) -> String {
-    let empty = Vec::new();
-    let file = case.file.as_ref().unwrap_or(&empty); // "a missing file counts as empty"
-    match name {
-        "verdict" => lines::verdict_program(file),
-        "deep" => lines::deep_program(file),
-        "explain" => lines::explain_program(file, &case.input),
-        _ => lines::replay_program(file, &case.input),
+/// What the program of this name prints in the folder of a case.
+fn program_text(name: &str, folder: &Path, input: &[u8]) -> Vec<u8> {
+    if name == "shelf" {
+        return shelf_program(input, &|name| open_in(folder, name));
     }
+    let file = open_in(folder, b"plan.bin"); // "a missing file counts as empty"
+    let text = match name {
+        "verdict" => lines::verdict_program(&file),
+        "deep" => lines::deep_program(&file),
+        "explain" => lines::explain_program(&file, input),
+        _ => lines::replay_program(&file, input),
+    };
+    text.into_bytes()
 }
 
 fn make_folder(folder: &Path, case: &ProgramCase) -> Result<(), String> {
     let tell = |error: std::io::Error| format!("{}: {}", folder.display(), error);
     std::fs::create_dir_all(folder).map_err(tell)?;
-    if let Some(file) = &case.file {
-        std::fs::write(folder.join("plan.bin"), file).map_err(tell)?;
+    for (name, made) in &case.files {
+        let path = folder.join(OsStr::from_bytes(name));
+        match made {
+            Made::Folder => std::fs::create_dir_all(path).map_err(tell)?,
+            Made::File(_) | Made::Closed(_) => {
+                std::fs::create_dir_all(path.parent().unwrap()).map_err(tell)?;
+                std::fs::write(&path, made.content()).map_err(tell)?;
+                if matches!(made, Made::Closed(_)) {
+                    let nobody = std::fs::Permissions::from_mode(0);
+                    std::fs::set_permissions(path, nobody).map_err(tell)?;
+                }
+            }
+        }
     }
     std::fs::write(folder.join("stdin"), &case.input).map_err(tell)
 }
@@ -195,7 +215,7 @@ pub fn compare_program(
         let folder =
             root.join(format!("oracle-{}-{}-{}-{:06}", std::process::id(), name, seed, index));
         make_folder(&folder, &case)?;
-        let own = program_text(name, &case);
+        let own = program_text(name, &folder, &case.input);
         let mut command = command_of(words);
         command.current_dir(&folder).stdin(Stdio::piped()).stdout(Stdio::piped());
         let mut child = started(&mut command)?;
@@ -206,17 +226,18 @@ pub fn compare_program(
         });
         let output = child.wait_with_output().map_err(|error| error.to_string())?;
         writer.join().unwrap();
-        if output.stdout != own.as_bytes() {
+        if output.stdout != own {
             std::fs::write(folder.join("own"), &own).map_err(|error| error.to_string())?;
             std::fs::write(folder.join("other"), &output.stdout)
                 .map_err(|error| error.to_string())?;
+            let own = String::from_utf8_lossy(&own).to_string();
             let own_lines: Vec<&str> = own.split('\n').collect();
             let other = String::from_utf8_lossy(&output.stdout).to_string();
             let other_lines: Vec<&str> = other.split('\n').collect();
             let line = (0..own_lines.len().max(other_lines.len()))
                 .find(|line| own_lines.get(*line) != other_lines.get(*line));
             println!("DIFFERENT\n{} program, seed {} case {}", name, seed, index);
-            println!("folder (plan.bin, stdin, own, other): {}", folder.display());
+            println!("folder (stdin, own, other): {}", folder.display());
             if let Some(line) = line {
                 println!("line {} (from 0)", line);
                 println!("own:   {:?}", own_lines.get(line));
@@ -224,7 +245,8 @@ pub fn compare_program(
             }
             return Ok(false);
         }
-        if own.starts_with("refused") {
+        // A refusal stands alone; a sheet may begin with one of a plan.
+        if own.starts_with(b"refused") && own.iter().filter(|byte| **byte == b'\n').count() == 1 {
             refused += 1;
         }
         std::fs::remove_dir_all(&folder).map_err(|error| error.to_string())?;
@@ -236,14 +258,14 @@ pub fn compare_program(
     Ok(true)
 }
 
-/// Makes a folder for each case, with plan.bin (or none), stdin, and what the program
-/// of this name prints in the file `expected`.
+/// Makes a folder for each case, with plan.bin (or none) or the files of a shelf, stdin, and what
+/// the program of this name prints in the file `expected`.
 pub fn files(name: &str, seed: u64, number: u64, folder: &str) -> Result<(), String> {
     for index in 0..number {
         let case = program_case(name, seed, index);
         let folder = Path::new(folder).join(format!("{:06}", index + 1));
         make_folder(&folder, &case)?;
-        std::fs::write(folder.join("expected"), program_text(name, &case))
+        std::fs::write(folder.join("expected"), program_text(name, &folder, &case.input))
             .map_err(|error| error.to_string())?;
     }
     Ok(())

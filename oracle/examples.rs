@@ -1,5 +1,6 @@
 //! The examples of document 01, those marked P and those not, the cases "Plausible and
 //! wrong", each refusal in each way (document 02's [1] and [7] too), and a few laws on random plans.
+//! (figure_examples.rs has those of [2].)
 
 use crate::bad;
 use crate::captures;
@@ -7,6 +8,7 @@ use crate::cases;
 use crate::cuts::{cut_list_of_numbers, Pair};
 use crate::cycle::cycle;
 use crate::explain::{by_walking, crossings, number_of_lists, numbers_of_capture, of_every_list};
+use crate::figure_examples;
 use crate::good::ORDER;
 use crate::good01::held_against_01;
 use crate::lines::{
@@ -21,17 +23,18 @@ use crate::plan::{file_of, row_of, Link, Message, Place, Plan};
 use crate::probe::{answer, hex_of_bytes, spaced};
 use crate::questions::{self, good_plan_of_row, numbers_of};
 use crate::random::{self, Random, Size};
+use crate::shelf::shelf_program;
 use crate::slack::slack_of;
 use crate::theorem;
 use crate::verdict::{every_list, failing_list};
 
-struct Tests {
+pub struct Tests {
     passed: usize,
     failed: usize,
 }
 
 impl Tests {
-    fn holds(&mut self, name: &str, holds: bool) {
+    pub fn holds(&mut self, name: &str, holds: bool) {
         if holds {
             self.passed += 1;
         } else {
@@ -40,7 +43,7 @@ impl Tests {
         }
     }
 
-    fn equal(&mut self, name: &str, got: &str, wanted: &str) {
+    pub fn equal(&mut self, name: &str, got: &str, wanted: &str) {
         if got == wanted {
             self.passed += 1;
         } else {
@@ -50,7 +53,7 @@ impl Tests {
     }
 
     /// A question of PROBE.md and its answer.
-    fn asked(&mut self, name: &str, question: &str, wanted: &str) {
+    pub fn asked(&mut self, name: &str, question: &str, wanted: &str) {
         let got = answer(question.as_bytes());
         self.equal(&format!("{} ({})", name, question), &got, wanted);
     }
@@ -78,6 +81,7 @@ pub fn run() -> (usize, usize) {
     explained(&mut tests);
     captures_as_lines(&mut tests);
     captures_at_random(&mut tests);
+    figure_examples::run(&mut tests);
     (tests.passed, tests.failed)
 }
 
@@ -94,7 +98,7 @@ const B_FILE: [u8; 17] = [
 /// "Plan A has links 0->1, 1->3, 0->2, 2->3 and t = 4. Message 0: links 0, 1 in slots
 /// 0, 1, second path 2, 3 from place 0. Message 1: links 2, 3 in slots 0, 1, second
 /// path 0, 1 from place 0."
-fn a() -> Plan {
+pub fn a() -> Plan {
     plan(
         4,
         4,
@@ -105,7 +109,7 @@ fn a() -> Plan {
 
 /// "Plan B has links 0->1, 0->2, 2->1 and t = 4. Both messages have first path link 0,
 /// message 0 in slot 0 and message 1 in slot 1, and second path links 1, 2."
-fn b() -> Plan {
+pub fn b() -> Plan {
     plan(
         3,
         4,
@@ -141,7 +145,7 @@ pub fn plan(
     }
 }
 
-fn row(plan: &Plan) -> String {
+pub fn row(plan: &Plan) -> String {
     spaced(&row_of(plan)).trim_start().to_string()
 }
 
@@ -362,6 +366,8 @@ fn judged(tests: &mut Tests, name: &str, plan: &Plan, wanted: &str) {
     tests.asked(name, &format!("replay 9999 3 9 9 9 {}", row), wanted);
     tests.asked(name, &format!("verdict 9 9 0 {}", row), wanted);
     tests.asked(name, &format!("explain 9 0 1 9 {}", row), wanted);
+    tests.asked(name, &format!("figure 9 {}", row), wanted);
+    tests.asked(name, &format!("figures 9 0 {}", row), wanted);
     tests.asked(name, &format!("slack 99 99 {}", row), wanted);
     tests.asked(name, &format!("second 0 0 {}", row), "part 0");
     tests.asked(name, &format!("where 0 0 {}", row), "at 0 0");
@@ -371,6 +377,9 @@ fn judged(tests: &mut Tests, name: &str, plan: &Plan, wanted: &str) {
     tests.equal(name, &verdict_program(&file), &printed);
     tests.equal(name, &deep_program(&file), &printed);
     tests.equal(name, &explain_program(&file, b"x"), &printed);
+    let sheet = shelf_program(b"x", &|_| file.clone());
+    let printed = format!("{} x\n0 0 0\n1 0 0\n2 0 0\n3 0 0\n", wanted);
+    tests.equal(name, &String::from_utf8(sheet).unwrap(), &printed);
 }
 
 fn rules(tests: &mut Tests) {

@@ -10,6 +10,8 @@ mod cuts;
 mod cycle;
 mod examples;
 mod explain;
+mod figure_examples;
+mod figures;
 mod good;
 mod good01;
 mod lines;
@@ -22,6 +24,8 @@ mod plan;
 mod probe;
 mod questions;
 mod random;
+mod shelf;
+mod shelves;
 mod slack;
 mod tally;
 mod theorem;
@@ -38,16 +42,18 @@ oracle: document 01 once more, independent, simple and slow
   oracle deep                       the same up to k 3 whatever the size; for small plans alone
   oracle explain                    the program explain (plan.bin, a capture on standard input)
   oracle capture                    the capture of what oracle replay plays, to be explained
+  oracle shelf                      the program shelf (names of plan files on standard input)
   oracle test                       runs the examples of document 01 and more
   oracle generate SEED N            writes N random probe questions
   oracle kinds SEED N               counts event kinds and refusals in these N questions
   oracle compare SEED N -- COMMAND...
                                     asks COMMAND these N questions and compares the answers
-  oracle files SEED N DIR [NAME]    makes folders DIR/000001... with plan.bin, stdin and what
-                                    the program NAME (replay, verdict, deep or explain; replay) should print
+  oracle files SEED N DIR [NAME]    makes folders DIR/000001... with plan.bin (shelf: plan files),
+                                    stdin and what the program NAME (replay, verdict, deep, explain
+                                    or shelf; replay) should print
   oracle compare-program NAME SEED N [--cwd-root DIR] -- COMMAND...
                                     runs COMMAND in a folder for each of N cases and compares
-                                    what it prints with the program NAME (replay, verdict, deep, explain)
+                                    what it prints with the program NAME (the same)
   oracle bench-plan KIND SEED       writes a plan file for benchmarks; KIND is network or chain (64 links,
                                     64 slots, 32 messages), small or wide (as document 000 evaluates)
   oracle theorem SEED N             tries the promises about every replay on N random cases,
@@ -63,7 +69,8 @@ oracle: document 01 once more, independent, simple and slow
   oracle help                       this
 
 generate, kinds and compare take --without NAME (again and again), where NAME is read,
-write, replay, verdict, slack, second, where, explain or junk: such questions do not come up.
+write, replay, verdict, slack, second, where, explain, figure (figures too) or junk: such
+questions do not come up.
 SEED and N are decimals. A case follows from SEED, its index (from 0) and the --without
 names. The exit status is 0 if all is well, 1 for a difference or a failure, 2 for a wrong
 command line.
@@ -126,10 +133,12 @@ fn number_at(words: &Words, at: usize) -> Result<u64, String> {
     word.parse().map_err(|_| format!("{}: no number", word))
 }
 
+const PROGRAMS: [&str; 5] = ["replay", "verdict", "deep", "explain", "shelf"];
+
 fn name_at(words: &Words, at: usize) -> Result<String, String> {
     match words.plain.get(at) {
-        Some(name) if ["replay", "verdict", "deep", "explain"].contains(&name.as_str()) => Ok(name.clone()),
-        _ => Err(String::from("replay, verdict, deep or explain?")),
+        Some(name) if PROGRAMS.contains(&name.as_str()) => Ok(name.clone()),
+        _ => Err(format!("which of {}?", PROGRAMS.join(", "))),
     }
 }
 
@@ -148,6 +157,10 @@ fn run(arguments: &[String]) -> Result<bool, String> {
         }
         Some("capture") => {
             print_all(&lines::capture_program(&plan_file(), &standard_input()))
+        }
+        Some("shelf") => {
+            let open = |name: &[u8]| shelf::open_in(std::path::Path::new(""), name);
+            print_bytes(&shelf::shelf_program(&standard_input(), &open))
         }
         Some("test") => {
             let (passed, failed) = examples::run();
@@ -245,8 +258,12 @@ fn standard_input() -> Vec<u8> {
 }
 
 fn print_all(text: &str) -> Result<bool, String> {
+    print_bytes(text.as_bytes())
+}
+
+fn print_bytes(bytes: &[u8]) -> Result<bool, String> {
     let mut output = std::io::stdout();
-    output.write_all(text.as_bytes()).and_then(|_| output.flush()).map_err(|e| e.to_string())?;
+    output.write_all(bytes).and_then(|_| output.flush()).map_err(|e| e.to_string())?;
     Ok(true)
 }
 
@@ -288,6 +305,7 @@ fn kinds(seed: u64, number: u64, without: &[String]) -> Result<bool, String> {
     let mut asked = vec![0u64; cases::QUESTIONS.len()];
     let mut verdicts = vec![0u64; 5]; // resistant, then lists of 0, 1, 2, 3 pairs
     let mut captures = vec![0u64; 5]; // unexplained, then lists of 0, 1, 2, 3 pairs
+    let mut losses = [[0u64; 4]; 4]; // for each k: nothing lost, 1, 2, more
     let mut after_slot_0 = 0;
     let mut part_of_length_0 = 0;
     let of_paths = tally::numbers();
@@ -323,6 +341,12 @@ fn kinds(seed: u64, number: u64, without: &[String]) -> Result<bool, String> {
         } else if name == "explain" && words[0] == "ok" {
             let pairs = if words[1] == "list" { 1 + words[2].parse::<usize>().unwrap() } else { 0 };
             captures[pairs] += 1;
+        } else if name == "figure" && words[0] == "ok" {
+            let asked: Vec<&str> = line.split(' ').collect();
+            let k = asked[1].parse::<usize>().unwrap();
+            let figure = words.last().unwrap().parse::<usize>().unwrap();
+            let messages = probe::plan_of_question(&line).unwrap().messages.len();
+            losses[k][(messages - figure).min(3)] += 1;
         } else if name == "second" && words[1] == "0" {
             part_of_length_0 += 1;
         }
@@ -360,6 +384,12 @@ fn kinds(seed: u64, number: u64, without: &[String]) -> Result<bool, String> {
          {}, 3 pairs {}",
         captures[0], captures[1], captures[2], captures[3], captures[4]
     );
+    for (k, lost) in losses.iter().enumerate() {
+        println!(
+            "figures for k {}: with nothing lost {}, 1 message {}, 2 messages {}, more {}",
+            k, lost[0], lost[1], lost[2], lost[3]
+        );
+    }
     println!("second paths of length 0: {}", part_of_length_0);
     tally::print(&tallies);
     Ok(true)

@@ -59,6 +59,18 @@ fn answer_to_a_question(line: &[u8]) -> Option<String> {
             let (triples, row) = rest.split_at(count);
             Some(explain(k, room, triples, row))
         }
+        "figure" => {
+            let numbers = numbers(&words[1..])?;
+            let (k, row) = numbers.split_first()?;
+            Some(figure(*k as usize, row))
+        }
+        "figures" => {
+            let numbers = numbers(&words[1..])?;
+            if numbers.len() < 2 {
+                return None;
+            }
+            Some(figures(numbers[0] as usize, numbers[1] as usize, &numbers[2..]))
+        }
         "slack" => {
             let numbers = numbers(&words[1..])?;
             if numbers.len() < 2 {
@@ -92,11 +104,11 @@ pub fn plan_of_question(line: &str) -> Option<Plan> {
     }
     let numbers = numbers(&words[1..])?;
     let before = match words[0] {
-        "write" => 1,
+        "write" | "figure" => 1,
         "replay" => 2 + *numbers.get(1)? as usize,
         "verdict" => 3,
         "explain" => 3 + *numbers.get(2)? as usize,
-        "slack" | "second" | "where" => 2,
+        "slack" | "second" | "where" | "figures" => 2,
         _ => return None,
     };
     plan_of_row(numbers.get(before..)?).ok()
@@ -214,6 +226,24 @@ fn explain(k: usize, room: usize, triples: &[u16], row: &[u16]) -> String {
         Ok(Some(pairs)) => {
             (format!("ok list {}{}", pairs, spaced(&buffer[..2 * pairs])), 2 * pairs)
         }
+    };
+    with_spoilt(text, &buffer, written, NUMBER_BEFORE)
+}
+
+/// "`ok FIGURE`, the least number of arrivals".
+fn figure(k: usize, row: &[u16]) -> String {
+    match questions::figure(row, k) {
+        Err(refusal) => refused(refusal),
+        Ok(figure) => format!("ok {}", figure),
+    }
+}
+
+/// "`ok COUNT F0 F1 .. FK`".
+fn figures(k: usize, room: usize, row: &[u16]) -> String {
+    let mut buffer = vec![NUMBER_BEFORE; room];
+    let (text, written) = match questions::figures(row, k, &mut buffer) {
+        Err(refusal) => (refused(refusal), 0),
+        Ok(count) => (format!("ok {}{}", count, spaced(&buffer[..count])), count),
     };
     with_spoilt(text, &buffer, written, NUMBER_BEFORE)
 }

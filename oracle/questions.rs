@@ -6,6 +6,7 @@
 use crate::cuts::{cut_list_of_numbers, Pair};
 use crate::cycle;
 use crate::explain::{capture_of_numbers, explaining_list};
+use crate::figures::{figure as figure_of, figures as figures_of};
 use crate::good::good;
 use crate::plan::{file_of, plan_of_file, plan_of_row, refusal, row_of, Plan, Refusal};
 use crate::slack::slack_of;
@@ -111,6 +112,28 @@ pub fn explain(
             Ok(Some(list.len()))
         }
     }
+}
+
+/// Document 02, [2]. 11: k above 3.
+pub fn figure(row: &[u16], k: usize) -> Result<usize, Refusal> {
+    let plan = good_plan_of_row(row)?;
+    if k > 3 {
+        return Err(refusal(11, 0));
+    }
+    Ok(figure_of(&plan, k))
+}
+
+/// The figures for 0, 1, .. k. 11: k above 3; 13, for k + 1 numbers. Gives how many were written.
+pub fn figures(row: &[u16], k: usize, buffer: &mut [u16]) -> Result<usize, Refusal> {
+    let plan = good_plan_of_row(row)?;
+    if k > 3 {
+        return Err(refusal(11, 0));
+    }
+    if buffer.len() < k + 1 {
+        return Err(refusal(13, k + 1));
+    }
+    let figures: Vec<u16> = figures_of(&plan, k).iter().map(|figure| *figure as u16).collect();
+    lend(&figures, buffer)
 }
 
 /// The numbers of a cut list.
