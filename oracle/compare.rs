@@ -258,6 +258,57 @@ pub fn compare_program(
     Ok(true)
 }
 
+/// A name of a list of files, in which %20 and the like stand for bytes.
+fn unescaped(name: &str) -> Option<Vec<u8>> {
+    let mut parts = name.split('%');
+    let mut bytes = parts.next()?.as_bytes().to_vec();
+    for part in parts {
+        bytes.push(u8::from_str_radix(part.get(..2)?, 16).ok()?);
+        bytes.extend(part[2..].bytes());
+    }
+    Some(bytes)
+}
+
+/// A stored case of the program `shelf` (tests/run-stored says of what it is made); its sources are
+/// found from here.
+fn stored_shelf(folder: &Path) -> Result<ProgramCase, String> {
+    let read = |path: &Path| std::fs::read(path).map_err(|e| format!("{}: {}", path.display(), e));
+    let mut files = Vec::new();
+    let list = std::fs::read_to_string(folder.join("files")).unwrap_or_default();
+    for line in list.lines() {
+        let mut words = line.split(' ');
+        let name = words.next().and_then(unescaped).ok_or(format!("{}: no name", line))?;
+        let sources: Result<Vec<Vec<u8>>, String> = words.map(|word| read(Path::new(word))).collect();
+        let made = if name.ends_with(b"/") { Made::Folder } else { Made::File(sources?.concat()) };
+        files.push((name, made));
+    }
+    let input = std::fs::read(folder.join("stdin")).unwrap_or_default();
+    Ok(ProgramCase { files, input })
+}
+
+/// Shows the stored cases of the program `shelf`: the input, and how its files are opened. An error
+/// if what this program prints for one is not what is stored.
+pub fn stored_shelves(
+    folder: &str,
+    show: &mut dyn FnMut(&[u8], &dyn Fn(&[u8]) -> Vec<u8>),
+) -> Result<(), String> {
+    let tell = |error: std::io::Error| format!("{}: {}", folder, error);
+    let made = std::env::temp_dir().join(format!("oracle-{}-stored", std::process::id()));
+    for entry in std::fs::read_dir(folder).map_err(tell)? {
+        let stored = entry.map_err(tell)?.path();
+        let case = stored_shelf(&stored)?;
+        make_folder(&made, &case)?;
+        let open = |name: &[u8]| open_in(&made, name);
+        let right = std::fs::read(stored.join("stdout")).map_err(tell)?;
+        if shelf_program(&case.input, &open) != right {
+            return Err(format!("{}: another sheet is stored", stored.display()));
+        }
+        show(&case.input, &open);
+        std::fs::remove_dir_all(&made).map_err(tell)?;
+    }
+    Ok(())
+}
+
 /// Makes a folder for each case, with plan.bin (or none) or the files of a shelf, stdin, and what
 /// the program of this name prints in the file `expected`.
 pub fn files(name: &str, seed: u64, number: u64, folder: &str) -> Result<(), String> {

@@ -6,6 +6,7 @@ use crate::cycle::cycle;
 use crate::examples::{a, b, plan, row, Tests};
 use crate::figures::{figure, figures, game};
 use crate::lines::highest_k;
+use crate::misfigured;
 use crate::plan::{file_of, Plan};
 use crate::questions::{self, good_plan_of_row};
 use crate::random::Random;
@@ -20,6 +21,7 @@ pub fn run(tests: &mut Tests) {
     sheets(tests);
     names(tests);
     orders(tests);
+    wrong_ways(tests);
 }
 
 /// A plan with another timeout.
@@ -177,9 +179,9 @@ fn by_verdict_and_game(tests: &mut Tests) {
 
 // ----------------------------------------------------------------------------- sheets
 
-/// What is printed for this input on a shelf of A, B, some long plans and bad ones.
-fn printed(input: &[u8]) -> String {
-    let open = |name: &[u8]| match name {
+/// A shelf of A, B, some long plans and bad ones.
+fn open(name: &[u8]) -> Vec<u8> {
+    match name {
         b"a" => file_of(&a()),
         b"b" => file_of(&b()),
         b"chain" => file_of(&chain(4)),
@@ -193,7 +195,11 @@ fn printed(input: &[u8]) -> String {
             file_of(&plan)
         }
         _ => Vec::new(),
-    };
+    }
+}
+
+/// What is printed for this input on that shelf.
+fn printed(input: &[u8]) -> String {
     String::from_utf8_lossy(&shelf_program(input, &open)).to_string()
 }
 
@@ -318,4 +324,34 @@ fn orders(tests: &mut Tests) {
         sheets += 1;
     }
     tests.holds("the order of the names does not count", same && sheets > 20);
+}
+
+/// Each wrong way to find a figure or to print a sheet differs somewhere.
+fn wrong_ways(tests: &mut Tests) {
+    let ways = misfigured::WRONG.map(|(way, _, _)| way);
+    for seed in 1..=2 {
+        let found = misfigured::all_different(&ways, seed, 300);
+        for (way, name, within) in misfigured::WRONG {
+            let differs = found.iter().any(|(other, one)| *other == way && one.case < within);
+            tests.holds(&format!("{} differs, seed {}, {} plans", name, seed, within), differs);
+        }
+    }
+    // Exactly k cuts are not wrong where there are so many links: a cut more in the last slot never
+    // leaves more.
+    let mut same = true;
+    for case in 0..300 {
+        let (plan, k) = misfigured::small_question(3, case);
+        let exactly = misfigured::figure(misfigured::Way::ExactlyK, &plan, k);
+        same = same && (plan.links.len() < k || exactly == figure(&plan, k));
+    }
+    tests.holds("exactly k cuts, where there are so many links", same);
+    let shelves = [
+        &b""[..], b"a\n", b"a\nb", b"b\nb\n", b"68\n", b"none\n", b"path\na\n", b"a\n\n", b"\na\n",
+        b"a\r\n", b" a\n", b"a\0b\n", b"\xff\n", &b"a\n".repeat(250), &b"a\n".repeat(251),
+        &[b'x'; 255], &[b'x'; 256], &[&b"a\n".repeat(251)[..], b"\n"].concat(),
+    ];
+    for (way, name) in misfigured::WRONG_SHEETS {
+        let differs = shelves.iter().any(|input| misfigured::sheet_differs(way, input, &open));
+        tests.holds(&format!("{} differs on a sheet", name), differs);
+    }
 }

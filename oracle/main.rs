@@ -16,6 +16,7 @@ mod good;
 mod good01;
 mod lines;
 mod losses;
+mod misfigured;
 mod misjudged;
 mod named;
 mod path_examples;
@@ -64,8 +65,13 @@ oracle: document 01 once more, independent, simple and slow
                                     differ; with NAME, such questions, the KEEP shortest (10)
   oracle different-refusals SEED N [NAME [KEEP]]
                                     the same for N spoilt plans and wrong ways to refuse a path
+  oracle different-figures SEED N [NAME [KEEP]]
+                                    the same for N small plans and wrong ways to find a figure
   oracle differs NAME               whether this wrong way differs on each question of standard input;
-                                    NAME refusals: whether each to refuse a path does on six or more
+                                    NAME refusals: whether each to refuse a path does on six or more;
+                                    NAME figures: likewise each to find a figure
+  oracle differs sheets DIR         whether each wrong way to print a sheet differs on a stored case of
+                                    DIR, whose sources are found from here, and all print what is stored
   oracle help                       this
 
 generate, kinds and compare take --without NAME (again and again), where NAME is read,
@@ -218,12 +224,23 @@ fn run(arguments: &[String]) -> Result<bool, String> {
                 }
             }
         }
+        Some("different-figures") => {
+            let (seed, number) = (number_at(&words, 1)?, number_at(&words, 2)?);
+            match words.plain.get(3) {
+                None => count_different_figures(seed, number),
+                Some(name) => {
+                    let keep = if words.plain.len() > 4 { number_at(&words, 4)? } else { 10 };
+                    keep_different_figures(seed, number, name, keep as usize)
+                }
+            }
+        }
         Some("differs") => {
             let name = words.plain.get(1).ok_or("which way?")?;
-            if name == "refusals" {
-                every_way_to_refuse_differs()
-            } else {
-                differs(name)
+            match name.as_str() {
+                "refusals" => every_way_to_refuse_differs(),
+                "figures" => every_way_to_find_figures_differs(),
+                "sheets" => every_way_to_print_sheets_differs(words.plain.get(2).ok_or("which folder?")?),
+                _ => differs(name),
             }
         }
         Some("bench-plan") => {
@@ -459,14 +476,20 @@ fn way_to_refuse(name: &str) -> Result<misjudged::Way, String> {
     found.map(|(way, _, _)| *way).ok_or(format!("{}: no such way", name))
 }
 
-/// Whether this wrong way, to explain a capture or to refuse a path, differs on every question of
-/// standard input.
+fn way_to_find_figures(name: &str) -> Result<misfigured::Way, String> {
+    let found = misfigured::WRONG.iter().find(|(_, other, _)| *other == name);
+    found.map(|(way, _, _)| *way).ok_or(format!("{}: no such way", name))
+}
+
+/// Whether this wrong way, to explain a capture, to refuse a path or to find a figure, differs on
+/// every question of standard input.
 fn differs(name: &str) -> Result<bool, String> {
-    let differs_on: Box<dyn Fn(&str) -> Option<bool>> = match way_of(name) {
-        Ok(way) => Box::new(move |line| named::differs_on(way, line)),
-        Err(_) => {
-            let way = way_to_refuse(name)?;
-            Box::new(move |line| misjudged::differs_on(way, line))
+    let differs_on: Box<dyn Fn(&str) -> Option<bool>> = match (way_of(name), way_to_refuse(name)) {
+        (Ok(way), _) => Box::new(move |line| named::differs_on(way, line)),
+        (_, Ok(way)) => Box::new(move |line| misjudged::differs_on(way, line)),
+        _ => {
+            let way = way_to_find_figures(name)?;
+            Box::new(move |line| misfigured::differs_on(way, line))
         }
     };
     let (mut passed, mut failed) = (0, 0);
@@ -485,21 +508,80 @@ fn differs(name: &str) -> Result<bool, String> {
 
 /// Whether each wrong way to refuse a path differs on six questions of standard input or more.
 fn every_way_to_refuse_differs() -> Result<bool, String> {
+    let lines = lines_of_standard_input()?;
+    let ways = misjudged::WRONG.iter().map(|(way, name, _)| {
+        let differs = |line: &&String| misjudged::differs_on(*way, line) == Some(true);
+        (*name, lines.iter().filter(differs).count())
+    });
+    each_differs_on(6, ways)
+}
+
+/// The same of the wrong ways to find a figure.
+fn every_way_to_find_figures_differs() -> Result<bool, String> {
+    let lines = lines_of_standard_input()?;
+    let ways = misfigured::WRONG.iter().map(|(way, name, _)| {
+        let differs = |line: &&String| misfigured::differs_on(*way, line) == Some(true);
+        (*name, lines.iter().filter(differs).count())
+    });
+    each_differs_on(6, ways)
+}
+
+/// Whether each wrong way to print a sheet differs on one of the stored cases of a folder or more.
+fn every_way_to_print_sheets_differs(folder: &str) -> Result<bool, String> {
+    let mut numbers = vec![0; misfigured::WRONG_SHEETS.len()];
+    compare::stored_shelves(folder, &mut |input, open| {
+        for (at, (way, _)) in misfigured::WRONG_SHEETS.iter().enumerate() {
+            numbers[at] += usize::from(misfigured::sheet_differs(*way, input, open));
+        }
+    })?;
+    let names = misfigured::WRONG_SHEETS.iter().map(|(_, name)| *name);
+    each_differs_on(1, names.zip(numbers))
+}
+
+fn lines_of_standard_input() -> Result<Vec<String>, String> {
     let lines: Result<Vec<String>, _> = std::io::stdin().lock().lines().collect();
-    let lines = lines.map_err(|error| error.to_string())?;
+    lines.map_err(|error| error.to_string())
+}
+
+/// Says of each way whether the questions on which it differs are so many or more.
+fn each_differs_on<'a>(
+    least: usize,
+    ways: impl Iterator<Item = (&'a str, usize)>,
+) -> Result<bool, String> {
     let (mut passed, mut failed) = (0, 0);
-    for (way, name, _) in misjudged::WRONG {
-        let differs = |line: &&String| misjudged::differs_on(way, line) == Some(true);
-        let number = lines.iter().filter(differs).count();
-        if number >= 6 {
+    for (name, number) in ways {
+        if number >= least {
             passed += 1;
         } else {
             failed += 1;
-            println!("FAILED: {} differs on {} questions alone", name, number);
+            println!("FAILED: {} differs on {} alone", name, number);
         }
     }
     println!("{} passed, {} failed", passed, failed);
     Ok(failed == 0)
+}
+
+/// How often each wrong way to find a figure differs.
+fn count_different_figures(seed: u64, number: u64) -> Result<bool, String> {
+    let ways = misfigured::WRONG.map(|(way, _, _)| way);
+    let found = misfigured::all_different(&ways, seed, number);
+    println!("{} small plans of seed {}", number, seed);
+    for (way, name, _) in misfigured::WRONG {
+        let cases: Vec<u64> =
+            found.iter().filter(|(other, _)| *other == way).map(|(_, one)| one.case).collect();
+        println!("{:22} {:7}, the first {:?}", name, cases.len(), cases.first());
+    }
+    Ok(true)
+}
+
+/// The shortest questions on which this wrong way to find a figure differs; what it answers is said
+/// on standard error.
+fn keep_different_figures(seed: u64, number: u64, name: &str, keep: usize) -> Result<bool, String> {
+    for one in misfigured::to_keep(way_to_find_figures(name)?, seed, number, keep) {
+        eprintln!("seed {} case {}: {}, not {}", seed, one.case, one.right, one.wrong);
+        println!("{}", one.question);
+    }
+    Ok(true)
 }
 
 /// The shortest questions on which this wrong way differs; what it answers is said on

@@ -2,12 +2,12 @@
 //! name them, too many, too long and empty ones too.
 
 use crate::bad::{any_file, plan_that_breaks};
-use crate::cases::{search_is_quick, Made, ProgramCase};
+use crate::cases::{plan_for_figure, search_is_quick, Made, ProgramCase};
 use crate::good::ORDER;
 use crate::lines::highest_k;
 use crate::plan::{file_of, Plan};
 use crate::questions::good_plan_of_file;
-use crate::random::{good_plan, plan_for_capture, plan_for_verdict, Random, Size};
+use crate::random::{good_plan, plan_for_verdict, Random, Size};
 use crate::shelf::{LONGEST_NAME, MOST_NAMES};
 
 // ------------------------------------------------------------------------ plan files
@@ -21,8 +21,7 @@ fn is_quick(plan: &Plan, replays: usize) -> bool {
 fn quick_plan(r: &mut Random, replays: usize) -> Plan {
     loop {
         let mut plan = match r.below(20) {
-            0..=6 => plan_for_verdict(r, 24),
-            7..=12 => plan_for_capture(r, 24),
+            0..=12 => plan_for_figure(r, 24),
             13 => good_plan(r, Size::Tiny),
             14 => good_plan(r, Size::Small),
             15 => good_plan(r, Size::Middle),
@@ -130,9 +129,9 @@ fn name_of_none(r: &mut Random, files: &[(Vec<u8>, Made)]) -> Vec<u8> {
     name
 }
 
-/// A name of a file, sometimes in another way that leads there too.
+/// A name of a file, sometimes in another way that leads there too; the last one is a folder.
 fn name_to_open(r: &mut Random, files: &[(Vec<u8>, Made)]) -> Vec<u8> {
-    let name = &r.pick(files).0;
+    let name = &files[r.below(files.len() - 1)].0;
     match r.below(30) {
         0 => [b"./", &name[..]].concat(),
         1 => [b"folder/../", &name[..]].concat(),
@@ -179,8 +178,9 @@ pub fn shelf_case(seed: u64, case: u64) -> ProgramCase {
     let r = &mut random;
     let number = number_of_names(r);
     let replays = if number > 9 { 60 } else { 2000 };
-    let mut files: Vec<(Vec<u8>, Made)> = vec![(b"folder".to_vec(), Made::Folder)];
-    for _ in 0..r.between(1, if number > 9 { 4 } else { 8 }) {
+    let mut files: Vec<(Vec<u8>, Made)> = Vec::new();
+    let wanted = r.between(1, if number > 9 { 4 } else { 8 });
+    while files.len() < wanted {
         let name = name_of_file(r);
         // No file where another one or its folder is.
         let apart = |(other, _): &(Vec<u8>, Made)| {
@@ -194,6 +194,7 @@ pub fn shelf_case(seed: u64, case: u64) -> ProgramCase {
             files.push((name, if closed { Made::Closed(content) } else { Made::File(content) }));
         }
     }
+    files.push((b"folder".to_vec(), Made::Folder));
     let mut lines: Vec<Vec<u8>> = (0..number)
         .map(|_| if r.percent(12) { name_of_none(r, &files) } else { name_to_open(r, &files) })
         .collect();
