@@ -286,11 +286,11 @@ fn stored_shelf(folder: &Path) -> Result<ProgramCase, String> {
     Ok(ProgramCase { files, input })
 }
 
-/// Shows the stored cases of the program `shelf`: the input, and how its files are opened. An error
-/// if what this program prints for one is not what is stored.
+/// Shows the stored cases of the program `shelf`: the input, how its files are opened, and what is
+/// printed. An error if this program prints something else.
 pub fn stored_shelves(
     folder: &str,
-    show: &mut dyn FnMut(&[u8], &dyn Fn(&[u8]) -> Vec<u8>),
+    show: &mut dyn FnMut(&[u8], &dyn Fn(&[u8]) -> Vec<u8>, &[u8]),
 ) -> Result<(), String> {
     let tell = |error: std::io::Error| format!("{}: {}", folder, error);
     let made = std::env::temp_dir().join(format!("oracle-{}-stored", std::process::id()));
@@ -303,7 +303,7 @@ pub fn stored_shelves(
         if shelf_program(&case.input, &open) != right {
             return Err(format!("{}: another sheet is stored", stored.display()));
         }
-        show(&case.input, &open);
+        show(&case.input, &open, &right);
         std::fs::remove_dir_all(&made).map_err(tell)?;
     }
     Ok(())

@@ -10,7 +10,7 @@ use crate::misfigured;
 use crate::plan::{file_of, Plan};
 use crate::questions::{self, good_plan_of_row};
 use crate::random::Random;
-use crate::shelf::{names_of, shelf_program};
+use crate::shelf::{names_of, shelf_program, told_of_file};
 use crate::shelves::shelf_case;
 use crate::verdict::failing_list;
 
@@ -351,7 +351,9 @@ fn wrong_ways(tests: &mut Tests) {
         &[b'x'; 255], &[b'x'; 256], &[&b"a\n".repeat(251)[..], b"\n"].concat(),
     ];
     for (way, name) in misfigured::WRONG_SHEETS {
-        let differs = shelves.iter().any(|input| misfigured::sheet_differs(way, input, &open));
+        let differs = shelves.iter().any(|input| {
+            misfigured::wrong_sheet(way, input, &open, &told_of_file) != shelf_program(input, &open)
+        });
         tests.holds(&format!("{} differs on a sheet", name), differs);
     }
 }

@@ -32,6 +32,8 @@ mod tally;
 mod theorem;
 mod verdict;
 
+use std::cell::RefCell;
+use std::collections::HashMap;
 use std::io::{BufRead, BufWriter, Read, Write};
 
 const HELP: &str = "\
@@ -529,9 +531,16 @@ fn every_way_to_find_figures_differs() -> Result<bool, String> {
 /// Whether each wrong way to print a sheet differs on one of the stored cases of a folder or more.
 fn every_way_to_print_sheets_differs(folder: &str) -> Result<bool, String> {
     let mut numbers = vec![0; misfigured::WRONG_SHEETS.len()];
-    compare::stored_shelves(folder, &mut |input, open| {
+    // What is told of a file is found once.
+    let known = RefCell::new(HashMap::new());
+    let tell = |file: &[u8]| {
+        let mut known = known.borrow_mut();
+        known.entry(file.to_vec()).or_insert_with(|| shelf::told_of_file(file)).clone()
+    };
+    compare::stored_shelves(folder, &mut |input, open, right| {
         for (at, (way, _)) in misfigured::WRONG_SHEETS.iter().enumerate() {
-            numbers[at] += usize::from(misfigured::sheet_differs(*way, input, open));
+            let wrong = misfigured::wrong_sheet(*way, input, open, &tell);
+            numbers[at] += usize::from(wrong != right);
         }
     })?;
     let names = misfigured::WRONG_SHEETS.iter().map(|(_, name)| *name);

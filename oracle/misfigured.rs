@@ -10,7 +10,7 @@ use crate::plan::{plan_of_file, refusal, row_of, Plan};
 use crate::probe::spaced;
 use crate::questions::good_plan_of_row;
 use crate::random::{good_plan, Random, Size};
-use crate::shelf::{shelf_program, told_of_file, totals, words_of, Told, LONGEST_NAME, MOST_NAMES};
+use crate::shelf::{totals, words_of, Told, LONGEST_NAME, MOST_NAMES};
 use crate::verdict::{every_list, failing_list};
 
 // ---------------------------------------------------------------------------- figures
@@ -231,12 +231,15 @@ pub fn small_question(seed: u64, case: u64) -> (Plan, usize) {
         let plans: Vec<Plan> = (0..20).map(|_| good_plan(r, Size::Tiny)).collect();
         plans.into_iter().min_by_key(|plan| plan.links.len().max(2) * plan.timeout).unwrap()
     } else {
-        plan_for_figure(r, if k == 3 { 18 } else { 28 })
+        plan_for_figure(r, if k == 3 { 18 } else { SMALL })
     };
     (plan, k)
 }
 
-/// Whether a way differs on a question of the probe about a good plan and a k of at most 3.
+/// The largest E x t of the plans that the wrong ways are asked about; some take long on others.
+const SMALL: usize = 28;
+
+/// Whether a way differs on a question of the probe about a small good plan and a k of at most 3.
 pub fn differs_on(way: Way, question: &str) -> Option<bool> {
     let words: Vec<&str> = question.split(' ').collect();
     let numbers: Option<Vec<u16>> = words[1..].iter().map(|word| word.parse().ok()).collect();
@@ -248,6 +251,9 @@ pub fn differs_on(way: Way, question: &str) -> Option<bool> {
         _ => return None,
     };
     let plan = good_plan_of_row(row).ok()?;
+    if plan.links.len() * plan.timeout > SMALL {
+        return None;
+    }
     let right = figures(&plan, k);
     Some(asked.into_iter().any(|k| figure(way, &plan, k) != right[k]))
 }
@@ -278,17 +284,18 @@ pub fn all_different(ways: &[Way], seed: u64, number: u64) -> Vec<(Way, Differen
     all
 }
 
-/// Some of these questions to keep: the shortest ones, and as many as can be for each k.
+/// Some of these questions to keep: the shortest ones, and as many as can be for each k and figure.
 pub fn to_keep(way: Way, seed: u64, number: u64, keep: usize) -> Vec<Different> {
     let mut found: Vec<Different> =
         all_different(&[way], seed, number).into_iter().map(|(_, one)| one).collect();
     found.sort_by_key(|one| (one.question.split(' ').count(), one.case));
-    // The shortest of each k, then the next of each, and so on.
-    let mut seen = [0; 4];
+    // The shortest of each, then the next of each, and so on.
+    let mut seen: Vec<(usize, usize)> = Vec::new();
     let mut ranked = Vec::new();
     for one in found {
-        seen[one.k] += 1;
-        ranked.push((seen[one.k], one));
+        let both = (one.k, one.right);
+        ranked.push((seen.iter().filter(|other| **other == both).count(), one));
+        seen.push(both);
     }
     ranked.sort_by_key(|(rank, _)| *rank);
     ranked.into_iter().take(keep).map(|(_, one)| one).collect()
@@ -491,8 +498,14 @@ fn wrong_totals(
     right
 }
 
-/// What this way prints for a standard input and for files as `open` finds them.
-pub fn wrong_sheet(way: SheetWay, input: &[u8], open: &dyn Fn(&[u8]) -> Vec<u8>) -> Vec<u8> {
+/// What this way prints for a standard input, for files as `open` finds them, and for what `tell`
+/// says of each.
+pub fn wrong_sheet(
+    way: SheetWay,
+    input: &[u8],
+    open: &dyn Fn(&[u8]) -> Vec<u8>,
+    tell: &dyn Fn(&[u8]) -> Told,
+) -> Vec<u8> {
     let mut names = lines_of(way, input);
     let bad = bad_line(way, &names);
     let refused = bad.map(|line| {
@@ -519,7 +532,7 @@ pub fn wrong_sheet(way: SheetWay, input: &[u8], open: &dyn Fn(&[u8]) -> Vec<u8>)
         names = names.into_iter().zip(&found).filter(|two| *two.1).map(|two| two.0).collect();
         files.retain(|file| !file.is_empty());
     }
-    let told = |file: &Vec<u8>| match (way, told_of_file(file)) {
+    let told = |file: &Vec<u8>| match (way, tell(file)) {
         (SheetWay::ShortRefusal, Err(one)) => Err(refusal(one.number, one.place)),
         (SheetWay::AlwaysFour, Ok((messages, figures))) if figures.len() < 4 => {
             let least = figures[1];
@@ -550,9 +563,4 @@ pub fn wrong_sheet(way: SheetWay, input: &[u8], open: &dyn Fn(&[u8]) -> Vec<u8>)
         text.extend(format!("{} {} {}\n", k, nothing_lost, losses).bytes());
     }
     text
-}
-
-/// Whether this way prints something else than what is right.
-pub fn sheet_differs(way: SheetWay, input: &[u8], open: &dyn Fn(&[u8]) -> Vec<u8>) -> bool {
-    wrong_sheet(way, input, open) != shelf_program(input, open)
 }

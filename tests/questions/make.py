@@ -8,7 +8,8 @@ the second program played (target/oracle), and what is made of them here. Not ma
                          program (oracle/README.md): target/oracle different 1 100000 last-message 12
   explain-wait-is-dead   on which it matters that a message that waits names its link: target/oracle different 1 5000 wait-is-dead 12
   explain-wrong-ways     six for each other wrong way to explain a capture: target/oracle different 1 3000 NAME 6, in the order that it lists them
-  path-rules-wrong-ways  six for each wrong way to refuse a path: target/oracle different-refusals 1 5000 NAME 6, likewise"""
+  path-rules-wrong-ways  six for each wrong way to refuse a path: target/oracle different-refusals 1 5000 NAME 6, likewise
+  figure-wrong-ways      six for each wrong way to find a figure: target/oracle different-figures 1 3000 NAME 6, likewise"""
 import subprocess
 
 B = [1, 2, 2, 1, 3, 0, 1, 0, 2, 2, 1, 0, 0, 0, 1, 1, 1, 2, 0, 0, 1, 1, 1, 1, 2]
@@ -304,6 +305,19 @@ def questions_where():
     return [q.replace("second", "where", 1) for q in questions_second()] + ["where", "where 0"]
 
 
+# example 4.1 of document 000, with first paths that make all that its text claims true: at most two cuts before the cycle leave two messages, and
+# two cuts in slot 1 leave fewer
+def example_41():
+    net = [(0, 1), (1, 2), (2, 3), (1, 4), (1, 5), (1, 6), (1, 7), (7, 8), (8, 9), (9, 4), (4, 3), (0, 7), (8, 10), (10, 6), (0, 11), (11, 8), (9, 5), (0, 12), (12, 13), (13, 9)]
+    four = [
+        [(0, 0, None), (1, 1, [6, 7, 8, 9, 10]), (2, 2, None)],
+        [(0, 1, [17, 18, 19, 9]), (3, 2, None)],
+        [(0, 2, [14, 15, 8, 16]), (4, 3, None)],
+        [(0, 3, [11, 7, 12, 13]), (5, 4, None)],
+    ]
+    return line(14, 20, 4, 5, net, four)
+
+
 def questions_verdict():
     short = list(A)
     short[4] = 1
@@ -318,16 +332,7 @@ def questions_verdict():
     late = [1, 2, 2, 1, 2, 0, 1, 0, 2, 2, 1, 0, 0, 0, 1, 1, 1, 2, 0, 0, 2, 1, 1, 1, 2]
     order = [1, 2, 3, 2, 2, 0, 1, 0, 2, 2, 1, 1, 0, 0, 0, 0, 1, 1, 1, 2, 0, 0, 2, 1, 1, 1, 2, 0, 3, 0, 0]
     q += ["verdict 1 2 2 " + nums(late), "verdict 1 3 2 " + nums(order)]
-    # example 4.1 of document 000, with first paths that make all that its text claims true: at most two cuts before the cycle leave two
-    # messages, and two cuts in slot 1 leave fewer
-    net = [(0, 1), (1, 2), (2, 3), (1, 4), (1, 5), (1, 6), (1, 7), (7, 8), (8, 9), (9, 4), (4, 3), (0, 7), (8, 10), (10, 6), (0, 11), (11, 8), (9, 5), (0, 12), (12, 13), (13, 9)]
-    four = [
-        [(0, 0, None), (1, 1, [6, 7, 8, 9, 10]), (2, 2, None)],
-        [(0, 1, [17, 18, 19, 9]), (3, 2, None)],
-        [(0, 2, [14, 15, 8, 16]), (4, 3, None)],
-        [(0, 3, [11, 7, 12, 13]), (5, 4, None)],
-    ]
-    example = line(14, 20, 4, 5, net, four)
+    example = example_41()
     q += ["verdict %d %d 6 %s" % (k, l, nums(example)) for k in range(4) for l in range(5)]
     # the accident of the mission: no cut before the cycle does harm, and one in slot 3 does
     accident = [int(x) for x in open("../../samples/accident/row.txt").read().split()]
@@ -462,6 +467,73 @@ def questions_explain():
     return q
 
 
-for name, made in (("explain", questions_explain()), ("replay", questions_replay()), ("slack", questions_slack()), ("verdict", questions_verdict()), ("files", questions_files()), ("rows", questions_rows()), ("rules", questions_rules()), ("path-rules", questions_path_rules()), ("second", questions_second()), ("where", questions_where())):
+def questions_figure():
+    def both(plan, k, room=None):
+        return ["figure %d %s" % (k, nums(plan)), "figures %d %d %s" % (k, k + 1 if room is None else room, nums(plan))]
+
+    def until(plan, t):
+        return plan[:4] + [t - 1] + plan[5:]
+
+    def sample(name):
+        return [int(x) for x in open("../../samples/%s/row.txt" % name).read().split()]
+
+    q = []
+    # each k and each room
+    for plan in (A, B):
+        for k in range(6):
+            q.append("figure %d %s" % (k, nums(plan)))
+            q += ["figures %d %d %s" % (k, room, nums(plan)) for room in (0, 1, k, k + 1, k + 2, 9, 300)]
+        q += both(plan, 65535, 9)
+    # A and B with fewer slots and more; with E x t 64 and next to it
+    for plan, times in ((A, (2, 3, 5, 15, 16, 17)), (B, (2, 3, 5, 21, 22))):
+        for t in times:
+            q += both(until(plan, t), 1) + both(until(plan, t), 3)
+    # cuts before the cycle do no harm, and one in slot 2 does; and an order by slot before link
+    late = [1, 2, 2, 1, 2, 0, 1, 0, 2, 2, 1, 0, 0, 0, 1, 1, 1, 2, 0, 0, 2, 1, 1, 1, 2]
+    order = [1, 2, 3, 2, 2, 0, 1, 0, 2, 2, 1, 1, 0, 0, 0, 0, 1, 1, 1, 2, 0, 0, 2, 1, 1, 1, 2, 0, 3, 0, 0]
+    # the plans of other questions: a message a link; two that differ at once; a queue; three starts and a hub
+    chain = line(5, 4, 4, 3, [(0, 1), (1, 2), (2, 3), (3, 4)], [[(i, 1, None)] for i in range(4)])
+    foremost = line(4, 5, 2, 4, [(0, 1), (1, 2), (0, 2), (3, 2), (3, 0)], [[(0, 2, [2]), (1, 3, None)], [(3, 3, [4, 2])]])
+    queue = line(3, 3, 4, 6, [(0, 1), (0, 2), (2, 1)], [[(0, i, [1, 2])] for i in (5, 4, 3, 2)])
+    hub = line(5, 7, 3, 6, [(1, 0), (2, 0), (3, 0), (1, 4), (2, 4), (3, 4), (4, 0)], [[(i, 0, [3 + i, 6])] for i in range(3)])
+    for plan in (late, order, chain, foremost, queue, hub, sample("accident"), sample("mended")):
+        for k in range(4):
+            q += both(plan, k)
+    for k in range(3):
+        q += both(example_41(), k)
+    # the smallest plans: one link, one slot; one link and every slot; two links, three; a link that none uses
+    for t in (1, 2, 63, 64):
+        for slot in sorted({0, t - 1}):
+            for k in range(4):
+                q.append(both(line(2, 1, 1, t, [(0, 1)], [[(0, slot, None)]]), k)[k % 2])
+    for n in (2, 3):
+        many = line(n + 1, n, n, 1, [(i, i + 1) for i in range(n)], [[(i, 0, None)] for i in range(n)])
+        unused = line(n + 1, n, 1, 2, [(i, i + 1) for i in range(n)], [[(n - 1, 1, None)]])
+        q += [both(plan, k)[k % 2] for plan in (many, unused) for k in range(4)]
+    # 32 messages: on one link; on 32 links in one slot; on one link with a second path that all share; the largest plans
+    queue_of_32 = line(2, 1, 32, 64, [(0, 1)], [[(0, 2 * i, None)] for i in range(32)])
+    links_32 = line(33, 32, 32, 1, [(i, i + 1) for i in range(32)], [[(i, 0, None)] for i in range(32)])
+    shared = line(3, 3, 32, 64, [(0, 1), (0, 2), (2, 1)], [[(0, i, [1, 2])] for i in range(32)])
+    for plan in (queue_of_32, links_32, shared):
+        for k in range(4):
+            q += both(plan, k) if k != 2 else both(plan, k)[:1]
+    for k in (0, 1):
+        q += both(sample("large"), k)[k : k + 1]
+    q.append("figure 0 " + open("../plans/longest.row").read().strip())
+    # the largest number of links and of slots
+    ring_64 = line(*ring(64, 1, 64))
+    q += ["figure 0 " + nums(ring_64), "figures 1 2 " + nums(ring_64), "figures 2 3 " + nums(line(*ring(64, 1, 1)))]
+    # every refusal of a row comes before 11 and 13
+    rows = [[2] + A[1:], [65535], [], A[:-1], A[:1] + [64] + A[2:], A + [0], A[:6] + [0] + A[7:], A[:7] + A[5:7] + A[9:]]
+    rows += [short_paths(change) for change in ((2, [0, 1, 63]), (2, [0, 1, 3]), (2, [0, 1, 13]), (2, "slots", [12, 13, 13, 14]), (2, "slots", [6, 7, 8, 9]))]
+    rows += [short_paths(change) for change in ((2, 1, [8, 63]), (2, 2, [9, 6, 7]), (2, 3, [10, 5]), (2, 1, [11, 0, 8, 27]), (2, 0, [0, 1, 2, 3]))]
+    for row in rows:
+        q += [(each % nums(row)).rstrip() for each in ("figure 9 %s", "figures 9 0 %s", "figure 2 %s", "figures 2 0 %s", "figures 2 3 %s")]
+    q += ["figure", "figure ", "figure x", "figure 1 x", "figure 01 " + nums(B), "figure 65536 " + nums(B), "figure 1  " + nums(B), "figure 1 " + nums(B) + " "]
+    q += ["figures", "figures 1", "figures 1 ", "figures 1 x " + nums(B), "figures 1 02 " + nums(B), "figures 1 65536 " + nums(B), "figures 1 2 " + nums(B) + " 65536"]
+    return q
+
+
+for name, made in (("figure", questions_figure()), ("explain", questions_explain()), ("replay", questions_replay()), ("slack", questions_slack()), ("verdict", questions_verdict()), ("files", questions_files()), ("rows", questions_rows()), ("rules", questions_rules()), ("path-rules", questions_path_rules()), ("second", questions_second()), ("where", questions_where())):
     with open(name + ".questions", "w") as f:
         f.write("\n".join(made) + "\n")
