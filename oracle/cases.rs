@@ -205,15 +205,12 @@ fn explain_question(r: &mut Random) -> String {
 /// A plan for figures, with E x t at most `product`: every other time the one of several that loses
 /// the least to a single cut, for most plans lose something to it and all to two or three.
 pub fn plan_for_figure(r: &mut Random, product: usize) -> Plan {
-    let mut any = || {
+    let number = if r.percent(50) { 1 } else { 6 };
+    let plans = (0..number).map(|_| {
         if r.percent(50) { plan_for_verdict(r, product) } else { plan_for_capture(r, product) }
-    };
-    let mut plans: Vec<Plan> = (0..8).map(|_| any()).collect();
-    if r.percent(50) {
-        plans.truncate(1);
-    }
+    });
     let lost = |plan: &Plan| plan.messages.len() - figure(plan, 1);
-    plans.into_iter().min_by_key(|plan| (lost(plan), 32 - plan.messages.len())).unwrap()
+    plans.min_by_key(|plan| (lost(plan), 32 - plan.messages.len())).unwrap()
 }
 
 fn figure_question(r: &mut Random) -> String {

@@ -152,7 +152,7 @@ fn refused(tests: &mut Tests) {
 /// "The figure for k is at least l exactly when the verdict for k and l says resistant": it is the
 /// highest such l. And it is what the game ends with.
 fn by_verdict_and_game(tests: &mut Tests) {
-    let (mut as_verdict, mut as_game, mut falls, mut all_at_first) = (true, true, true, true);
+    let (mut as_verdict, mut as_game, mut falls, mut two_lose) = (true, true, true, true);
     let mut kinds = Vec::new();
     for case in 0..400 {
         let plan = plan_for_figure(&mut Random::of_case(14, case), 20);
@@ -165,13 +165,14 @@ fn by_verdict_and_game(tests: &mut Tests) {
             as_game = as_game && game(&plan, k) == found[k] && figure(&plan, k) == found[k];
         }
         falls = falls && found.windows(2).all(|two| two[0] >= two[1]);
-        all_at_first = all_at_first && found[0] == messages;
+        two_lose = two_lose && found[0] == messages && found[2] < messages;
         kinds.push(found);
     }
     tests.holds("the figure is the highest l that is resistant", as_verdict);
     tests.holds("the figure is the game's", as_game);
     tests.holds("more cuts never leave more", falls);
-    tests.holds("k 0 loses nothing", all_at_first);
+    // The link that a message begins with, and the one that its second path there begins with.
+    tests.holds("no cut loses nothing, and two lose something", two_lose);
     kinds.sort();
     kinds.dedup();
     tests.holds("figures of many kinds", kinds.len() > 20);
