@@ -501,6 +501,14 @@ def questions_figure():
             q += both(plan, k)
     for k in range(3):
         q += both(example_41(), k)
+    # those of slack, of rules and of path-rules
+    own = [1, 3, 3, 0, 3, 0, 1, 1, 3, 0, 2, 2, 1, 1, 0, 0, 1, 2, 2, 3, 1, 1, 2, 0]
+    twice = [1, 3, 4, 1, 7, 0, 1, 1, 2, 0, 3, 3, 2, 1, 3, 1, 0, 0, 1, 1, 2, 3, 1, 1, 1, 1, 4, 3, 1, 0, 1, 1, 1, 2, 3, 1, 2, 0]
+    for k in range(4):
+        q += both(own, k) + both(twice, k)
+    whole = {0: [16, *range(18, 32), 32], 15: [17, *range(18, 32), 32]}
+    for plan in (short_paths(), long_paths(0, range(16), whole), long_paths(31, range(16), whole), line(*ring(64, 32, 64))):
+        q += both(plan, 0)[:1] + both(plan, 1)[1:]
     # the smallest plans: one link, one slot; one link and every slot; two links, three; a link that none uses
     for t in (1, 2, 63, 64):
         for slot in sorted({0, t - 1}):
@@ -527,7 +535,7 @@ def questions_figure():
     rows = [[2] + A[1:], [65535], [], A[:-1], A[:1] + [64] + A[2:], A + [0], A[:6] + [0] + A[7:], A[:7] + A[5:7] + A[9:]]
     rows += [short_paths(change) for change in ((2, [0, 1, 63]), (2, [0, 1, 3]), (2, [0, 1, 13]), (2, "slots", [12, 13, 13, 14]), (2, "slots", [6, 7, 8, 9]))]
     rows += [short_paths(change) for change in ((2, 1, [8, 63]), (2, 2, [9, 6, 7]), (2, 3, [10, 5]), (2, 1, [11, 0, 8, 27]), (2, 0, [0, 1, 2, 3]))]
-    for row in rows:
+    for row in rows + [sample("refused")]:
         q += [(each % nums(row)).rstrip() for each in ("figure 9 %s", "figures 9 0 %s", "figure 2 %s", "figures 2 0 %s", "figures 2 3 %s")]
     q += ["figure", "figure ", "figure x", "figure 1 x", "figure 01 " + nums(B), "figure 65536 " + nums(B), "figure 1  " + nums(B), "figure 1 " + nums(B) + " "]
     q += ["figures", "figures 1", "figures 1 ", "figures 1 x " + nums(B), "figures 1 02 " + nums(B), "figures 1 65536 " + nums(B), "figures 1 2 " + nums(B) + " 65536"]
