@@ -1,7 +1,7 @@
 //! Examples of document 02, [2]: figures and sheets found by hand, the figure as the verdict and the
 //! game have it on random plans, names of every length and number.
 
-use crate::cases::plan_for_figure;
+use crate::cases::{plan_for_figure, ProgramCase};
 use crate::cycle::cycle;
 use crate::examples::{a, b, plan, row, Tests};
 use crate::figures::{figure, figures, game};
@@ -13,6 +13,8 @@ use crate::random::Random;
 use crate::shelf::{names_of, shelf_program, told_of_file};
 use crate::shelves::shelf_case;
 use crate::verdict::failing_list;
+use std::cell::RefCell;
+use std::collections::HashMap;
 
 pub fn run(tests: &mut Tests) {
     by_hand(tests);
@@ -298,6 +300,12 @@ fn names(tests: &mut Tests) {
     tests.holds("every plan is read", opened.get() == 3);
 }
 
+/// What the file of this very name holds, on a random shelf.
+fn content_of(shelf: &ProgramCase, name: &[u8]) -> Vec<u8> {
+    let found = shelf.files.iter().find(|(other, _)| other == name);
+    found.map_or(Vec::new(), |(_, made)| made.content().to_vec())
+}
+
 /// The order of the names changes the order of their lines alone.
 fn orders(tests: &mut Tests) {
     let (mut same, mut sheets) = (true, 0);
@@ -307,10 +315,7 @@ fn orders(tests: &mut Tests) {
             Ok(names) if names.len() > 1 && names.len() < 20 => names,
             _ => continue,
         };
-        let open = |name: &[u8]| {
-            let found = shelf.files.iter().find(|(other, _)| other == name);
-            found.map_or(Vec::new(), |(_, made)| made.content().to_vec())
-        };
+        let open = |name: &[u8]| content_of(&shelf, name);
         let lines_of = |names: &[&[u8]]| -> (Vec<Vec<u8>>, Vec<Vec<u8>>) {
             let sheet = shelf_program(&names.join(&b'\n'), &open);
             let lines = sheet.split(|byte| *byte == b'\n').map(|line| line.to_vec());
@@ -356,5 +361,24 @@ fn wrong_ways(tests: &mut Tests) {
             misfigured::wrong_sheet(way, input, &open, &told_of_file) != shelf_program(input, &open)
         });
         tests.holds(&format!("{} differs on a sheet", name), differs);
+    }
+    // And on as many random shelves as are compared with another program.
+    let known = RefCell::new(HashMap::new());
+    let tell = |file: &[u8]| {
+        let mut known = known.borrow_mut();
+        known.entry(file.to_vec()).or_insert_with(|| told_of_file(file)).clone()
+    };
+    let mut found = [0; misfigured::WRONG_SHEETS.len()];
+    for case in 0..300 {
+        let shelf = shelf_case(1, case);
+        let open = |name: &[u8]| content_of(&shelf, name);
+        let right = shelf_program(&shelf.input, &open);
+        for (at, (way, _)) in misfigured::WRONG_SHEETS.iter().enumerate() {
+            let wrong = misfigured::wrong_sheet(*way, &shelf.input, &open, &tell);
+            found[at] += usize::from(wrong != right);
+        }
+    }
+    for ((_, name), number) in misfigured::WRONG_SHEETS.iter().zip(found) {
+        tests.holds(&format!("{} differs on a random shelf", name), number > 0);
     }
 }
