@@ -1,5 +1,5 @@
 -- What a plan file adds to the sheet, by what reading it gives: its rating, its text, its line.
-use Prim.Native.Nat.{ℕ, zero, suc, _+_, _*_, _≤_}
+use Prim.Native.Nat.{ℕ, _+_, _*_, _≤_}
 use mathlib.Core.Path.{_≡_, refl, ap}
 use mathlib.Core.Bool.{Bool, true, false, cond}
 use mathlib.Core.List.{List, [], _++_}
@@ -10,11 +10,12 @@ use Rattle.scope.specs.declared.Refusal.{Refusal}
 use Rattle.scope.specs.Limits.{longestRow}
 use Rattle.scope.specs.Outcome.{Outcome, gives, refused}
 use Rattle.scope.specs.File.{rowOf}
-use Rattle.scope.specs.Plan.{Plan, planOf}
+use Rattle.scope.specs.Plan.{planOf}
 use Rattle.scope.specs.Questions.{readFile}
 use Rattle.scope.specs.Game.{figures}
 use Rattle.scope.specs.Lines.{parted, refusedText, highestK}
 use Rattle.scope.specs.Shelf.{Rated, rate, ratedText, planLine}
+use Rattle.order.proofs.Game.{figures-length}
 use Rattle.sheet_lines.specs.Sheet.{nameEnding, figuresLine, refusedPlan}
 use Rattle.sheet_lines.specs.Tally.{rated, sums}
 
@@ -46,12 +47,7 @@ module _ (file : List ℕ) where
     pub line-given : (name : List ℕ) → planLine (record { name = name; file = file }) ≡ figuresLine (rate file .figures) name
     line-given name = ap (λ (text : List ℕ). text ++ nameEnding name) text-given
 
--- there are so many figures, and a plan has no more than there are k
-pub figures-length : (plan : Plan) (k n : ℕ) → length (figures plan k n) ≡ n
-unfolding figures
-figures-length plan k zero = refl
-figures-length plan k (suc n) = ap suc (figures-length plan (k + 1) n)
-
+-- a plan has no more figures than there are k
 pub figures-few : (file : List ℕ) → length (rate file .figures) ≤ sums
 figures-few file = by (readFile file longestRow) refl
   where

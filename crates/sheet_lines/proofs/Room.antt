@@ -1,7 +1,7 @@
 -- How many bytes the lines of the sheet can have. A number has at most 20 digits, so that up to four figures have no more bytes than a refusal.
 use Prim.Native.Nat.{ℕ, zero, suc, _+_, _*_, _^_, _≤_, _<_}
 use mathlib.Core.Path.{_≡_, refl, ap}
-use mathlib.Core.List.{List, [], _∷_, map}
+use mathlib.Core.List.{List, [], _∷_}
 use native.Mathlib.Omega.{arith}
 use lib.ListN.{length, getD, length-append}
 use Rattle.scope.specs.declared.Refusal.{Refusal}
@@ -14,7 +14,7 @@ use Rattle.scope.specs.Shelf.{unharmed, lossSum, sumLine, sumLines, ratings, sh
 use Rattle.text.specs.Text.{Told}
 use Rattle.text.proofs.Decimal.{decimal-all}
 use Rattle.text.proofs.Refused.{refused-text-size}
-use Rattle.sheet_lines.specs.Sheet.{nameEnding, figuresLine, refusedPlan, sumsLine, tallyLines}
+use Rattle.sheet_lines.specs.Sheet.{nameEnding, figuresLine, refusedPlan, sumsLine, tallyLines, namesOn}
 use Rattle.sheet_lines.specs.Tally.{sums}
 use Rattle.sheet_lines.specs.declared.Tally.{Tally}
 use Rattle.sheet_lines.proofs.Rated.{text-refused, text-given, figures-few}
@@ -81,9 +81,6 @@ plan-line-size s h =
     omega arith
 
 -- The lines of all plans of a shelf, whose names are short.
-abbrev pub namesOn : List Shelved → List (List ℕ)
-namesOn shelf = map (λ s. s .name) shelf
-
 abbrev pub Short : List (List ℕ) → Type 0
 Short names = (i : ℕ) → i < length names → length (nameOf names i) ≤ longestName
 

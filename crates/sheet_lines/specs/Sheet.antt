@@ -1,10 +1,15 @@
 -- The lines of the sheet, each from what it tells.
 use Prim.Native.Nat.{ℕ, zero, suc, _+_}
-use mathlib.Core.List.{List, [], _++_}
+use mathlib.Core.List.{List, [], _++_, map}
 use lib.ListN.{getD}
 use Rattle.scope.specs.declared.Refusal.{Refusal}
 use Rattle.scope.specs.Lines.{space, lineFeed, decimal, parted, refusedText}
+use Rattle.scope.specs.Shelf.{Shelved}
 use Rattle.sheet_lines.specs.declared.Tally.{Tally}
+
+-- the names on a shelf
+abbrev pub namesOn : List Shelved → List (List ℕ)
+namesOn shelf = map (λ s. s .name) shelf
 
 -- "then a space and the name as it was given"
 abbrev pub nameEnding : List ℕ → List ℕ
