@@ -4,8 +4,8 @@ use native.Mathlib.Omega.{arith}
 use mathlib.Core.Path.{_≡_, refl, sym, _∙_, ap}
 use mathlib.Core.Bool.{Bool, true, false, cond}
 use mathlib.Core.List.{List, [], _∷_, _++_, append-assoc}
-use lib.ListN.{length, getD, drop}
-use lib.Seq.{getD-at}
+use lib.ListN.{length, getD, take, drop}
+use lib.Seq.{getD-at, take-at}
 use lib.Dec.{ltb}
 use borrow.Author.Tests.{lt-ltb, le-ltb, le-leb, lt-leb, ltb-false}
 use Rattle.scope.specs.declared.Answer.{Answer}
@@ -52,6 +52,18 @@ module _ (row : List ℕ) (k : ℕ) (entry : List ℕ) (g : GoodRow row) where
               filled ∙ ap (λ (n : ℕ). figures (planOf row) 0 (k + 1) ++ drop n entry) (sym (figures-length (planOf row) 0 (k + 1))) ∙
               ap (λ (x : Outcome). after x (figures (planOf row) 0 (k + 1)) entry) (sym o);
         }
+
+-- of a good row and such a k, with room, the figures stand at the front
+pub good-told : (row : List ℕ) (k : ℕ) (entry exit : List ℕ) (a : Answer) → GoodRow row → k ≤ 3 → k + 1 ≤ length entry →
+    FiguresAll row k entry exit a → take (k + 1) exit ≡ figures (planOf row) 0 (k + 1)
+unfolding figuresOf after
+good-told row k entry exit a g few enough told =
+    let o : figuresOf row k (length entry) ≡ gives (k + 1) = rw (judged row g, le-ltb 3 k few, le-leb (k + 1) (length entry) enough) in
+    let is : exit ≡ figures (planOf row) 0 (k + 1) ++ drop (length (figures (planOf row) 0 (k + 1))) entry =
+    told .buffer ∙ ap (λ (x : Outcome). after x (figures (planOf row) 0 (k + 1)) entry) o in
+    ap (take (k + 1)) is ∙
+    take-at (figures (planOf row) 0 (k + 1)) (drop (length (figures (planOf row) 0 (k + 1))) entry) (k + 1) (figures-length (planOf row) 0 (k +
+    1))
 
 -- one figure is asked for as all are, into room enough for four
 module _ (row : List ℕ) (k : ℕ) where

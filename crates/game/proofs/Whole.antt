@@ -20,7 +20,7 @@ use Rattle.game.proofs.Leaving.{is-least}
 module _ (row table touchSets stripSets weights most : List ℕ) (z : Sizes) (ps : Standing) (k least : ℕ)
     (m : MayPlay row table touchSets stripSets weights most z ps k least) (p : Picked) (is : p ≡ noPair) where
   pub begins : (hits : Hits) (left : ℕ) → hits ≡ noHits → AreAway (ps .positions) (z .messages) left →
-      MayBreak row table touchSets stripSets weights most z hits ps left p k 0 0 least
+      MayBreak row table touchSets stripSets weights most z hits ps left p k (p .slot) (p .link) least
   begins hits left none are =
       record {
         turn =
@@ -30,16 +30,16 @@ module _ (row table touchSets stripSets weights most : List ℕ) (z : Sizes) (ps
               covers = rw (is, none) (covers-none row);
               stand = rw is (m .stand);
               few = rw is (omega (arith, m .few));
-              from = rw is (omega arith);
-              early = m .some;
+              from = omega arith;
+              early = rw is (m .some);
               low = m .low;
             };
         away = are;
-        link = omega arith;
-        later = rw is (omega arith);
+        link = rw is (omega arith);
+        later = omega arith;
       }
 
-  pub ends-least : (r : ℕ) → Turned row p k (code 0 0) least r → IsLeast (planOf row) k r × (r ≤ least)
+  pub ends-least : (r : ℕ) → Turned row p k (code (p .slot) (p .link)) least r → IsLeast (planOf row) k r × (r ≤ least)
   ends-least r turned =
       let t : Turned row noPair k (code 0 0) least r = rw is at turned in
       let none : 0 + k ≡ k = omega arith in (

@@ -236,8 +236,8 @@ pub fn play(
         left,
         p,
         k,
-        0,
-        0,
+        p.slot,
+        p.link,
         least,
     )
 }

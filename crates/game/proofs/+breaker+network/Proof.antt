@@ -175,12 +175,14 @@ breaker-next-link-requires : (t : ℕ) → breaker-lts.Need-next-link-requires (
 breaker-next-link-requires t c κs = (
   may-try _ _ _ _ _ _ _ _ _ _ _ _ _ _ _ (c .before .before .before .before .before .before .before .before .before .before .before .before
       .before .before .before .before .before .before .pre .1) _ _ _ (c .before .before .before .before .before .before .before .before .before
-      .at-risk .ensures) (c .before .before .before .before .before .before .before .before .wanting .ensures) (c .before .before .before .before
+      .at-risk .ensures) (c .before .before .before .before .before .before .before .before .wanting .ensures) (c .before .before .before
+      .before
       .before .before .before .losses .ensures) _ (c .before .before .before .before .before .before .before .before .before .before .needed
       .ensures .1),
   from-within _ _ _ _ _ _ _ _ _ _ _ _ _ _ _ (c .before .before .before .before .before .before .before .before .before .before
       .before .before .before .before .before .before .before .before .pre .1) _ _ _ (c .before .before .before .before .before .before .before
-      .before .before .at-risk .ensures) (c .before .before .before .before .before .before .before .before .wanting .ensures) (c .before .before
+      .before .before .at-risk .ensures) (c .before .before .before .before .before .before .before .before .wanting .ensures) (c .before
+      .before
       .before .before .before .before .before .losses .ensures) _ _ _ (c .before .before .before .before .before .before .before .before .before
       .before .needed .ensures .0) (c .before .before .before .before .before .first-worth .ensures) (c .before .before .before .before .worth
       .ensures) _ (c .later .ensures),
@@ -239,7 +241,8 @@ breaker-add-breaker t c =
       arith,
       c .before .before .loop-test .taken,
       c .before .before .before .before .before .before .before .before .before .before
-          .before .before .before .before .before .before .before .before .before .before .before .before .before .pre .1 .turn .board .play .few,
+          .before .before .before .before .before .before .before .before .before .before .before .before .before .pre .1 .turn .board .play
+          .few,
     )
 
 breaker-breaker-requires : (t : ℕ) → breaker-lts.Need-breaker-requires (breaker-calls t) (breaker-at t) breaker.Post breaker-Inv-loop
@@ -287,7 +290,8 @@ breaker-add-next-link t c =
       arith,
       c .before .before .before .before .before .loop-test .taken,
       c .before .before .before .before .before .before .before
-          .before .before .before .before .before .before .before .before .before .before .before .before .before .before .before .before .before
+          .before .before .before .before .before .before .before .before .before .before .before .before .before .before .before .before
+          .before
           .before .before .pre .1 .turn .board .play .few,
     )
 
@@ -338,7 +342,8 @@ breaker-network-requires t c κs = (
       .before .before .before .before .before .before .before .before .before .before .wanting .ensures) (c .before .before .before .before
       .before .before .before .before .before .before .losses .ensures) _ _ _ (c .before .before .before .before .before .before .before .before
       .before .before .before .before .before .needed .ensures .0) (c .before .before .before .before .before .before .before .before
-      .first-worth .ensures) (c .before .before .before .before .before .before .before .worth .ensures) _ _ (c .before .loop .inv) (c .loop-test
+      .first-worth .ensures) (c .before .before .before .before .before .before .before .worth .ensures) _ _ (c .before .loop .inv) (c
+      .loop-test
       .left),
 )
 
