@@ -5,8 +5,8 @@ use mathlib.Core.List.{List}
 use lib.ListN.{length}
 use Rattle.probe_questions.proofs.Once.{one-verdict, one-explanation}
 use Rattle.probe_dispatch.specs.declared.Question.{Question}
-use Rattle.probe_dispatch.specs.declared.Question.the-variants.{Read, Write, Replay, Verdict, Explain, Slack, Second, Where, Spoil}
-use Rattle.probe_dispatch.specs.declared.Question.the-variants.{Unknown}
+use Rattle.probe_dispatch.specs.declared.Question.the-variants.{Read, Write, Replay, Verdict, Explain, Figures, Figure, Slack}
+use Rattle.probe_dispatch.specs.declared.Question.the-variants.{Second, Where, Spoil, Unknown}
 use Rattle.probe_dispatch.specs.Line.{wordOf, questionOf, numbersIn, Says, Answers}
 
 one-saying : (q : Question) (line given : List ℕ) (lent file : ℕ) (said said′ : List ℕ) → Says q line given lent file said →
@@ -16,6 +16,8 @@ one-saying Write line given lent file said said′ a b = a ∙ sym b
 one-saying Replay line given lent file said said′ a b = a ∙ sym b
 one-saying Verdict line given lent file said said′ a b = one-verdict lent given said said′ a b
 one-saying Explain line given lent file said said′ a b = one-explanation lent given said said′ a b
+one-saying Figures line given lent file said said′ a b = a ∙ sym b
+one-saying Figure line given lent file said said′ a b = a ∙ sym b
 one-saying Slack line given lent file said said′ a b = a ∙ sym b
 one-saying Second line given lent file said said′ a b = a ∙ sym b
 one-saying Where line given lent file said said′ a b = a ∙ sym b

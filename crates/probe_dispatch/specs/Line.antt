@@ -9,27 +9,30 @@ use Rattle.text.specs.Reading.{stands}
 use Rattle.probe_words.specs.Words.{isNumber, numberNext, numberValue, numbersFrom, areAll, lastWord, isBytes, bytesIn}
 use Rattle.probe_lines.specs.Answers.{unknownLine}
 use Rattle.probe_questions.specs.declared.OfPlace.the-variants as OfPlace·
-use Rattle.probe_questions.specs.Asked.{readAnswer, writeAnswer, replayAnswer, Judges, Explains, placeAnswer, spoilAnswer}
+use Rattle.probe_questions.specs.Asked.{readAnswer, writeAnswer, replayAnswer, Judges, Explains, figuresAnswer, figureAnswer}
+use Rattle.probe_questions.specs.Asked.{placeAnswer, spoilAnswer}
 use Rattle.probe_dispatch.specs.declared.Question.{Question}
-use Rattle.probe_dispatch.specs.declared.Question.the-variants.{Read, Write, Replay, Verdict, Explain, Slack, Second, Where, Spoil}
-use Rattle.probe_dispatch.specs.declared.Question.the-variants.{Unknown}
+use Rattle.probe_dispatch.specs.declared.Question.the-variants.{Read, Write, Replay, Verdict, Explain, Figures, Figure, Slack}
+use Rattle.probe_dispatch.specs.declared.Question.the-variants.{Second, Where, Spoil, Unknown}
 
--- the word that a question begins with: read, write, replay, verdict, explain, slack, second, where, spoil
+-- the word that a question begins with: read, write, replay, verdict, explain, figures, figure, slack, second, where, spoil
 abbrev pub wordOf : Question → List ℕ
 wordOf Read = 114 ∷ 101 ∷ 97 ∷ 100 ∷ []
 wordOf Write = 119 ∷ 114 ∷ 105 ∷ 116 ∷ 101 ∷ []
 wordOf Replay = 114 ∷ 101 ∷ 112 ∷ 108 ∷ 97 ∷ 121 ∷ []
 wordOf Verdict = 118 ∷ 101 ∷ 114 ∷ 100 ∷ 105 ∷ 99 ∷ 116 ∷ []
 wordOf Explain = 101 ∷ 120 ∷ 112 ∷ 108 ∷ 97 ∷ 105 ∷ 110 ∷ []
+wordOf Figures = 102 ∷ 105 ∷ 103 ∷ 117 ∷ 114 ∷ 101 ∷ 115 ∷ []
+wordOf Figure = 102 ∷ 105 ∷ 103 ∷ 117 ∷ 114 ∷ 101 ∷ []
 wordOf Slack = 115 ∷ 108 ∷ 97 ∷ 99 ∷ 107 ∷ []
 wordOf Second = 115 ∷ 101 ∷ 99 ∷ 111 ∷ 110 ∷ 100 ∷ []
 wordOf Where = 119 ∷ 104 ∷ 101 ∷ 114 ∷ 101 ∷ []
 wordOf Spoil = 115 ∷ 112 ∷ 111 ∷ 105 ∷ 108 ∷ []
 wordOf Unknown = []
 
--- which of them a line is: the one whose word it begins with
+-- which of them a line is: the first whose word it begins with, so that `figures` comes before `figure`
 abbrev pub questions : List Question
-questions = Read ∷ Write ∷ Replay ∷ Verdict ∷ Explain ∷ Slack ∷ Second ∷ Where ∷ Spoil ∷ []
+questions = Read ∷ Write ∷ Replay ∷ Verdict ∷ Explain ∷ Figures ∷ Figure ∷ Slack ∷ Second ∷ Where ∷ Spoil ∷ []
 
 abbrev pub firstOf : List ℕ → List Question → Question
 firstOf line [] = Unknown
@@ -56,6 +59,8 @@ Says Write line given lent file said = said ≡ writeAnswer file given
 Says Replay line given lent file said = said ≡ replayAnswer lent given
 Says Verdict line given lent file said = Judges lent given said
 Says Explain line given lent file said = Explains lent given said
+Says Figures line given lent file said = said ≡ figuresAnswer lent given
+Says Figure line given lent file said = said ≡ figureAnswer given
 Says Slack line given lent file said = said ≡ placeAnswer OfPlace·.Slack given
 Says Second line given lent file said = said ≡ placeAnswer OfPlace·.Second given
 Says Where line given lent file said = said ≡ placeAnswer OfPlace·.Where given

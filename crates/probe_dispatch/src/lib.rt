@@ -19,6 +19,8 @@ pub enum Question {
     Replay,
     Verdict,
     Explain,
+    Figures,
+    Figure,
     Slack,
     Second,
     Where,
@@ -45,6 +47,12 @@ fn which(line: &[u8]) -> Question
     if stands(line, 0, b"explain") {
         return Question::Explain;
     }
+    if stands(line, 0, b"figures") {
+        return Question::Figures;
+    }
+    if stands(line, 0, b"figure") {
+        return Question::Figure;
+    }
     if stands(line, 0, b"slack") {
         return Question::Slack;
     }
@@ -70,6 +78,8 @@ fn size(question: Question) -> usize
         Question::Replay => 6,
         Question::Verdict => 7,
         Question::Explain => 7,
+        Question::Figures => 7,
+        Question::Figure => 6,
         Question::Slack => 5,
         Question::Second => 6,
         Question::Where => 5,
@@ -117,6 +127,8 @@ fn asked(
         Question::Replay => probe_questions::replay(given, lent, out, at),
         Question::Verdict => probe_questions::verdict(given, lent, out, at),
         Question::Explain => probe_questions::explain(given, lent, out, at),
+        Question::Figures => probe_questions::figures(given, lent, out, at),
+        Question::Figure => probe_questions::figure(given, out, at),
         Question::Slack => of_place(OfPlace::Slack, given, out, at),
         Question::Second => of_place(OfPlace::Second, given, out, at),
         Question::Where => of_place(OfPlace::Where, given, out, at),

@@ -17,7 +17,8 @@ use Rattle.explanations.specs.declared.Explanation.{Explanation}
 use Rattle.explanations.specs.Explained as Explained·
 use Rattle.probe_words.specs.Words.{filler16}
 use Rattle.probe_lines.specs.Answers.{unknownLine, told, Near}
-use Rattle.probe_questions.specs.Asked.{atLeast, lentAfter, replayLine, rulingLine, Ruled, Asks, explanationLine, Explained}
+use Rattle.probe_questions.specs.Asked.{atLeast, lentAfter, replayLine, figuresLine, rulingLine, Ruled, Asks}
+use Rattle.probe_questions.specs.Asked.{explanationLine, Explained}
 
 -- a question has so many numbers, or is none
 module _ (least least′ n : ℕ) (line : List ℕ) (e : least ≡ least′) where
@@ -176,3 +177,9 @@ replayed given cuts room e f =
     let n : cuts + 2 - 2 ≡ at given 1 = omega arith in
     ap₂ (λ (s t : List ℕ). replayLine s t room) row (ap (λ (k : ℕ). take k (drop 2 given)) n)
     ∙ ap (replayLine (drop (at given 1 + 2) given) (take (at given 1) (drop 2 given))) f
+
+-- a row's figures
+pub figured : (given : List ℕ) (k room : ℕ) → k ≡ at given 0 → room ≡ at given 1 →
+    figuresLine (take (length given - 2) (drop 2 given)) k room ≡ figuresLine (drop 2 given) (at given 0) (at given 1)
+figured given k room e f =
+    ap (λ (s : List ℕ). figuresLine s k room) (behind given 2) ∙ ap₂ (figuresLine (drop 2 given)) e f

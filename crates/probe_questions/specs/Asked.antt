@@ -2,16 +2,17 @@
 use Prim.Native.Nat.{ℕ, _+_, _*_, _≤_, _<_}
 use mathlib.Core.Path.{_≡_}
 use mathlib.Core.Bool.{cond}
-use mathlib.Core.List.{List, _++_}
+use mathlib.Core.List.{List, [], _++_}
 use lib.ListN.{length, take, drop, set, replicate}
 use lib.IntN.{ℤ}
 use lib.Dec.{ltb, eqb}
 use Rattle.scope.specs.Outcome.{Outcome, gives, refused, result}
-use Rattle.scope.specs.Questions.{after, readFile, writeFile, replay, maySpare, slack, secondPath}
+use Rattle.scope.specs.Questions.{after, readFile, writeFile, replay, figureOf, figuresOf, maySpare, slack, secondPath}
 use Rattle.scope.specs.File.{rowOf, fileOf}
 use Rattle.scope.specs.Lines.{refusedLine}
 use Rattle.scope.specs.Plan.{at, planOf, timeoutOf, messageCount}
 use Rattle.scope.specs.Cycle.{eventRow}
+use Rattle.scope.specs.Game.{figures}
 use Rattle.text.specs.Text.{Puts}
 use Rattle.plan.specs.Answers.{shownIndex}
 use Rattle.verdicts.specs.declared.Ruling.{Ruling}
@@ -63,9 +64,13 @@ placeAnswer asks given = atLeast 2 (length given) (ofPlace asks (drop 2 given) (
 abbrev pub lentAfter : Outcome → List ℕ → ℕ → ℕ → List ℕ
 lentAfter outcome written fill room = after outcome written (replicate room fill) ++ replicate 16 fill
 
+-- an outcome that gives how many numbers it wrote, with these numbers
+abbrev pub countedLine : Outcome → List ℕ → ℕ → List ℕ
+countedLine outcome written room = told outcome (result outcome) (lentAfter outcome written filler16 room)
+
 -- `read`: the numbers of a file; `size` is the length of the buffer
 abbrev pub readLine : List ℕ → ℕ → List ℕ
-readLine file room = told (readFile file room) (result (readFile file room)) (lentAfter (readFile file room) (rowOf file) filler16 room)
+readLine file room = countedLine (readFile file room) (rowOf file) room
 
 abbrev pub readAnswer : ℕ → List ℕ → ℕ → List ℕ
 readAnswer size file room = atLeast (room + 16) size (readLine file room)
@@ -125,6 +130,21 @@ abbrev pub Explains : ℕ → List ℕ → List ℕ → Type 0
 Explains size given =
     Asks (at given 2 + 3) (at given 1) size given
     (Explained (drop (at given 2 + 3) given) (take (at given 2) (drop 3 given)) (at given 0) (at given 1))
+
+-- `figure`, K ROW...: the figure; nothing is lent
+abbrev pub figureLine : List ℕ → ℕ → List ℕ
+figureLine row k = told (figureOf row k) 0 []
+
+abbrev pub figureAnswer : List ℕ → List ℕ
+figureAnswer given = atLeast 1 (length given) (figureLine (drop 1 given) (at given 0))
+
+-- `figures`, K ROOM ROW...: the figures for 0 to k
+abbrev pub figuresLine : List ℕ → ℕ → ℕ → List ℕ
+figuresLine row k room = countedLine (figuresOf row k room) (figures (planOf row) 0 (k + 1)) room
+
+abbrev pub figuresAnswer : ℕ → List ℕ → List ℕ
+figuresAnswer size given =
+    atLeast 2 (length given) (atLeast (at given 1 + 16) size (figuresLine (drop 2 given) (at given 0) (at given 1)))
 
 -- `spoil`, BITS INDEX: 16 numbers or bytes, filled, and one of them changed
 abbrev pub spoiltRow : ℕ → ℕ → List ℕ

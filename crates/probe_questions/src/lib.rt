@@ -9,8 +9,9 @@ ghost use Rattle.scope.specs.Plan.{timeoutOf, messageCount};
 ghost use Rattle.text.specs.Text.{Puts};
 ghost use Rattle.probe_words.specs.Words.{filler, filler16};
 ghost use Rattle.probe_lines.specs.Answers.{Near};
-ghost use Rattle.probe_questions.specs.Asked.{Lays, Judges, Explains, rulingLine, explanationLine, readAnswer, writeAnswer, replayAnswer, placeAnswer};
-ghost use Rattle.probe_questions.specs.Asked.{secondLine, whereLine, spareLine, spoilAnswer, spoiltRow, spoiltBytes};
+ghost use Rattle.probe_questions.specs.Asked.{Lays, Judges, Explains, rulingLine, explanationLine, readAnswer, writeAnswer, replayAnswer};
+ghost use Rattle.probe_questions.specs.Asked.{figureAnswer, figuresAnswer, placeAnswer, secondLine, whereLine, spareLine};
+ghost use Rattle.probe_questions.specs.Asked.{spoilAnswer, spoiltRow, spoiltBytes};
 use explanations::Explanation;
 use probe_lines::told;
 use probe_lines::told_bytes;
@@ -157,6 +158,38 @@ pub fn explain(given: &[u16], lent: &mut [u16], out: &mut [u8], at: usize) -> us
         &mut lent[..room],
     );
     told_explanation(explanation, &lent[..all], out, at)
+}
+
+// K ROW...
+pub fn figure(given: &[u16], out: &mut [u8], at: usize) -> usize
+    requires { ⌜ at ≤ 2 ^ 63 ⌝ }
+    ensures { λ r. ⌜ Puts (figureAnswer (now (given .entry))) (now (out .entry)) (now (out .exit)) at r ⌝ }
+{
+    let k = rows::number(given, 0);
+    if given.len() < 1 {
+        return unknown(out, at);
+    }
+    let answer = figures::figure(&given[1..], k);
+    told(answer, 0, &given[..0], out, at)
+}
+
+// K ROOM ROW...
+pub fn figures(given: &[u16], lent: &mut [u16], out: &mut [u8], at: usize) -> usize
+    requires { ⌜ at ≤ 2 ^ 63 ⌝ }
+    ensures { λ r. ⌜ Puts (figuresAnswer (length (now (lent .entry))) (now (given .entry))) (now (out .entry)) (now (out .exit)) at r ⌝ }
+{
+    let k = rows::number(given, 0);
+    let room = rows::number(given, 1);
+    let all = room + MARGIN;
+    if given.len() < 2 {
+        return unknown(out, at);
+    }
+    if lent.len() < all {
+        return unknown(out, at);
+    }
+    probe_words::fill_16(&mut lent[..all]);
+    let answer = figures::figures(&given[2..], k, &mut lent[..room]);
+    told(answer, count(answer), &lent[..all], out, at)
 }
 
 // A second path, which has at most 16 links.
