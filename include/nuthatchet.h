@@ -8,7 +8,7 @@
        its first path, and `step` which link there is at fault; beside every other refusal `at` and `step` are 0;
      - the result, 0 beside a refusal.
    A refusal changes no buffer; a success changes only the part that it writes. Nothing is kept between calls, and no memory is asked for; a
-   call takes less than 100 kB of stack.
+   call takes less than 100 kB of stack, one that asks for figures less than 200 kB.
 
    Rows, cut lists, captures and events are as in README.md. Everything counts from 0. */
 #ifndef NUTHATCHET_H
@@ -21,12 +21,13 @@
 extern "C" {
 #endif
 
-/* What is always enough room: a plan file, a row, the events of a replay, a list of cuts that is handed over, all answers for one k. */
+/* What is always enough room: a plan file, a row, the events of a replay, a list of cuts that is handed over, all answers for one k, all figures. */
 #define NUTHATCHET_FILE 7348
 #define NUTHATCHET_ROW 10405
 #define NUTHATCHET_EVENTS 4096
 #define NUTHATCHET_LIST 6
 #define NUTHATCHET_ANSWERS 231
+#define NUTHATCHET_FIGURES 4
 
 /* Refusals 1 to 10 and 14 to 19 of a row. Result: how many numbers it has. */
 size_t nuthatchet_judge(const uint16_t *row, size_t row_len, size_t *place, size_t *at, size_t *step, size_t *result);
@@ -57,6 +58,12 @@ size_t nuthatchet_explain(const uint16_t *row, size_t row_len, size_t k, const u
 /* All answers for k at once, seven numbers for each l from 0 to M: 0 where the plan is resistant, else one more than the pairs of the first
    failing list, then its numbers, and zeros; refusals 1 to 10, 14 to 19, 11, 13. Result: how many numbers. */
 size_t nuthatchet_all_answers(const uint16_t *row, size_t row_len, size_t k, uint16_t *out, size_t out_len, size_t *place, size_t *at, size_t *step, size_t *result);
+
+/* The figure for k: the least number of messages that arrive, over every list of at most k cuts; refusals 1 to 10, 14 to 19, 11. Result: the figure. */
+size_t nuthatchet_figure(const uint16_t *row, size_t row_len, size_t k, size_t *place, size_t *at, size_t *step, size_t *result);
+
+/* The figures for 0 to k at once, one behind another at the front; refusals 1 to 10, 14 to 19, 11, 13. Result: how many there are, k + 1. */
+size_t nuthatchet_figures(const uint16_t *row, size_t row_len, size_t k, uint16_t *out, size_t out_len, size_t *place, size_t *at, size_t *step, size_t *result);
 
 /* The slack of the second path of message m from place p, -1,535 to 63; refusals 1 to 10, 14 to 19, 11. */
 size_t nuthatchet_slack(const uint16_t *row, size_t row_len, size_t m, size_t p, size_t *place, size_t *at, size_t *step, int32_t *slots);

@@ -1,6 +1,6 @@
 /* The probe of docs/TESTING.md once more, through include/nuthatchet.h: a question a line, an answer a line. `judge` and `all_answers`, which the
-   probe does not ask, are asked beside `write` and `verdict`, and an answer that does not fit says so. With words it lays out a text: `face replay PLAN`
-   and `face pack` take standard input, `face row PLAN` does not; `face paths` asks of a small plan with a fault at a time (tests/face_paths.h).
+   probe does not ask, are asked beside `write` and `verdict`, the figures beside `verdict` too, and an answer that does not fit says so. With words it
+   lays out a text: `face replay PLAN` and `face pack` take standard input, `face row PLAN` does not; `face paths` asks of a small plan with a fault at a time (tests/face_paths.h).
    Compiled with -DFAULT=n, it asks a library with a fault (tests/face_faults.h). */
 #include "../include/nuthatchet.h"
 
@@ -94,10 +94,29 @@ static int fits_in(size_t lent, const uint16_t *row, size_t many, size_t k, size
     return fit;
 }
 
-/* with room for the most, and with one number too few for this plan */
+/* the figures for 0 to k likewise: their refusal fits the verdict's for l or is 13; else the count is right, each is the figure that is told alone, and
+   nothing stands behind them. The figure for k is refused as the verdict for l is, or at least l exactly if that says resistant */
+static int figures_fit_in(size_t lent, const uint16_t *row, size_t many, size_t k, size_t l, size_t number, size_t pairs) {
+    uint16_t out[NUTHATCHET_FIGURES + 8];
+    for (size_t i = 0; i < NUTHATCHET_FIGURES + 8; i++) out[i] = 0xA5A5;
+    size_t p = 1, q = 1, s = 1, n = 1, written = 0, said = nuthatchet_figures(row, many, k, out, lent, &p, &q, &s, &n);
+    int asks_l = number != 13 && !(number == 11 && k <= 3), bad = asks_l && number != 0, fit;
+    if (bad) fit = said == number && p == place && q == at && s == step && n == 0;
+    else if (lent < k + 1) fit = said == 13 && p == k + 1 && q == 0 && s == 0 && n == 0;
+    else fit = said == 0 && p == 0 && q == 0 && s == 0 && n == (written = k + 1);
+    for (size_t i = written; i < NUTHATCHET_FIGURES + 8; i++) fit &= out[i] == 0xA5A5;
+    for (size_t i = 0; i < written; i++) fit &= nuthatchet_figure(row, many, i, &p, &q, &s, &n) == 0 && n == out[i];
+    p = q = s = n = 1;
+    said = nuthatchet_figure(row, many, k, &p, &q, &s, &n);
+    if (bad) return fit && said == number && p == place && q == at && s == step && n == 0;
+    return fit && said == 0 && p == 0 && q == 0 && s == 0 && (!asks_l || (n >= l) == (pairs == 0));
+}
+
+/* with room for the most, and with one number too few for this plan and this k */
 static int fits(const uint16_t *row, size_t many, size_t k, size_t l, size_t number, size_t pairs) {
     size_t few = many > 3 && row[3] < 32 ? 7 * ((size_t)row[3] + 2) - 1 : 0;
-    return fits_in(NUTHATCHET_ANSWERS, row, many, k, l, number, pairs) && fits_in(few, row, many, k, l, number, pairs);
+    return fits_in(NUTHATCHET_ANSWERS, row, many, k, l, number, pairs) && fits_in(few, row, many, k, l, number, pairs)
+        && figures_fit_in(NUTHATCHET_FIGURES, row, many, k, l, number, pairs) && figures_fit_in(k <= 3 ? k : 0, row, many, k, l, number, pairs);
 }
 
 static void answer(void) {
@@ -132,11 +151,20 @@ static void answer(void) {
     } else if (strncmp(line, "verdict ", 8) == 0 && read_numbers(line + 7) >= 3) {
         lend(room = numbers[2]);
         number = nuthatchet_verdict(numbers + 3, count - 3, numbers[0], numbers[1], row16, room, &place, &at, &step, &result);
-        if (!fits(numbers + 3, count - 3, numbers[0], numbers[1], number, result)) printf("all answers differ ");
+        if (!fits(numbers + 3, count - 3, numbers[0], numbers[1], number, result)) printf("all answers or figures differ ");
         if (refused(number)) { put_end(0, room, 1); return; }
         if (result == 0) printf("ok resistant");
         else printf("ok failing %zu", result), put_numbers(row16, 2 * result);
         put_end(2 * result, room, 1);
+    } else if (strncmp(line, "figure ", 7) == 0 && read_numbers(line + 6) >= 1) {
+        if (!refused(nuthatchet_figure(numbers + 1, count - 1, numbers[0], &place, &at, &step, &result))) printf("ok %zu", result);
+        puts("");
+    } else if (strncmp(line, "figures ", 8) == 0 && read_numbers(line + 7) >= 2) {
+        lend(room = numbers[1]);
+        if (refused(nuthatchet_figures(numbers + 2, count - 2, numbers[0], row16, room, &place, &at, &step, &result))) { put_end(0, room, 1); return; }
+        printf("ok %zu", result);
+        put_numbers(row16, result);
+        put_end(result, room, 1);
     } else if (strncmp(line, "explain ", 8) == 0 && read_numbers(line + 7) >= 3 && numbers[2] <= count - 3) {
         lend(room = numbers[1]);
         uint16_t *row = numbers + 3 + numbers[2];

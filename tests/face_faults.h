@@ -95,12 +95,31 @@ static size_t faulty_refusal_text(size_t n, size_t p, size_t q, size_t s, uint8_
     return faulty_step(48, before, number, at, step);
 }
 
+static size_t faulty_figure(const uint16_t *row, size_t row_len, size_t k, size_t *place, size_t *at, size_t *step, size_t *result) {
+    size_t before = *step, number = nuthatchet_figure(row, row_len, k, place, at, step, result);
+    if ((FAULT == 50 || FAULT == 51) && number == 0 && k == 1 && *result > 0) --*result; /* one too low, in fault 51 among all figures too */
+    if (FAULT == 52 && number != 0) *result = 1; /* a result beside a refusal */
+    return faulty_step(57, before, number, at, step);
+}
+
+static size_t faulty_figures(const uint16_t *row, size_t row_len, size_t k, uint16_t *out, size_t out_len, size_t *place, size_t *at, size_t *step, size_t *result) {
+    size_t before = *step, number = nuthatchet_figures(row, row_len, k, out, out_len, place, at, step, result);
+    if (FAULT == 51 && number == 0 && k >= 1 && out[1] > 0) --out[1];
+    if (FAULT == 53 && number == 0) ++*result; /* a count one too high */
+    if (FAULT == 54 && number == 0 && *result < out_len) out[*result] = 0; /* a number behind the last */
+    if (FAULT == 55 && number != 0 && out_len > 0) out[0] = 0; /* a buffer changed on a refusal */
+    if (FAULT == 56 && number == 13) --*place; /* a room that is one too small is told */
+    return faulty_step(59, before, number, at, step);
+}
+
 #define nuthatchet_read_file faulty_read_file
 #define nuthatchet_write_file faulty_write_file
 #define nuthatchet_replay faulty_replay
 #define nuthatchet_verdict faulty_verdict
 #define nuthatchet_refusal_text faulty_refusal_text
 #define nuthatchet_all_answers faulty_all_answers
+#define nuthatchet_figure faulty_figure
+#define nuthatchet_figures faulty_figures
 #define nuthatchet_second_path faulty_second_path
 #define nuthatchet_replay_text faulty_replay_text
 #define nuthatchet_row_text faulty_row_text
@@ -108,4 +127,4 @@ static size_t faulty_refusal_text(size_t n, size_t p, size_t q, size_t s, uint8_
 #define nuthatchet_judge faulty_judge
 #define nuthatchet_slack faulty_slack
 #define nuthatchet_explain faulty_explain
-enum { FAULTS = 49 };
+enum { FAULTS = 60 };

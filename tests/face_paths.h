@@ -65,7 +65,7 @@ static void put_file(const uint16_t *row) {
     long_plan = (long_plan + 7) / 8;
 }
 
-enum { QUESTIONS = 11 };
+enum { QUESTIONS = 13 };
 
 static size_t ask(size_t which, const uint16_t *row) {
     uint16_t list[2 * NUTHATCHET_LIST];
@@ -79,13 +79,15 @@ static size_t ask(size_t which, const uint16_t *row) {
     case 3: return nuthatchet_verdict(row, SMALL, 1, 1, list, NUTHATCHET_LIST, &place, &at, &step, &result);
     case 4: return nuthatchet_explain(row, SMALL, 1, NULL, 0, list, NUTHATCHET_LIST, &place, &at, &step, &result);
     case 5: return nuthatchet_all_answers(row, SMALL, 1, row16, MOST, &place, &at, &step, &result);
-    case 6:
+    case 6: return nuthatchet_figure(row, SMALL, 1, &place, &at, &step, &result);
+    case 7: return nuthatchet_figures(row, SMALL, 1, row16, MOST, &place, &at, &step, &result);
+    case 8:
         number = nuthatchet_slack(row, SMALL, 1, 0, &place, &at, &step, &slots);
         result = number != 0 && slots != 0;
         return number;
-    case 7: return nuthatchet_read_file(plan, long_plan, row16, MOST, &place, &at, &step, &result);
-    case 8: return nuthatchet_replay_text(plan, long_plan, NULL, 0, text, MOST, &place, &at, &step, &result);
-    case 9: return nuthatchet_row_text(plan, long_plan, text, MOST, &place, &at, &step, &result);
+    case 9: return nuthatchet_read_file(plan, long_plan, row16, MOST, &place, &at, &step, &result);
+    case 10: return nuthatchet_replay_text(plan, long_plan, NULL, 0, text, MOST, &place, &at, &step, &result);
+    case 11: return nuthatchet_row_text(plan, long_plan, text, MOST, &place, &at, &step, &result);
     default: return nuthatchet_pack_text(input, long_input, row8, MOST, &place, &at, &step, &result);
     }
 }

@@ -1,5 +1,5 @@
 /* Which lists of at most K cuts a plan survives, at any slots: `verdict [PLAN [K]]`, plan.bin and 1 if not given. It prints a line for each l,
-   as the verdict program does. */
+   as the verdict program does, and the figure: how many messages arrive at least. */
 #include "../../include/nuthatchet.h"
 
 #include <stdio.h>
@@ -10,7 +10,7 @@ int main(int argc, char **argv) {
     static uint16_t row[NUTHATCHET_ROW];
     uint16_t list[NUTHATCHET_LIST];
     uint8_t text[98]; /* room for the line of every refusal */
-    size_t place, at, step, numbers, pairs, bytes_said;
+    size_t place, at, step, numbers, pairs, figure, bytes_said;
 
     FILE *plan = fopen(argc > 1 ? argv[1] : "plan.bin", "rb");
     size_t bytes = plan ? fread(file, 1, sizeof file, plan) : 0;
@@ -25,6 +25,8 @@ int main(int argc, char **argv) {
         for (size_t i = 0; i < 2 * pairs; i++) printf(" %u", (unsigned)list[i]);
         printf("\n");
     }
+    if (refused == 0) refused = nuthatchet_figure(row, numbers, k, &place, &at, &step, &figure);
+    if (refused == 0) printf("figure %zu %zu\n", k, figure);
     if (refused != 0) {
         nuthatchet_refusal_text(refused, place, at, step, text, sizeof text, &place, &at, &step, &bytes_said);
         fwrite(text, 1, bytes_said, stdout);

@@ -9,6 +9,8 @@ extern "C" {
     fn nuthatchet_verdict(row: *const u16, row_len: usize, k: usize, l: usize, list: *mut u16, list_len: usize, place: *mut usize, at: *mut usize, step: *mut usize, pairs: *mut usize) -> usize;
     fn nuthatchet_explain(row: *const u16, row_len: usize, k: usize, capture: *const u16, capture_len: usize, list: *mut u16, list_len: usize, place: *mut usize, at: *mut usize, step: *mut usize, result: *mut usize) -> usize;
     fn nuthatchet_all_answers(row: *const u16, row_len: usize, k: usize, out: *mut u16, out_len: usize, place: *mut usize, at: *mut usize, step: *mut usize, result: *mut usize) -> usize;
+    fn nuthatchet_figure(row: *const u16, row_len: usize, k: usize, place: *mut usize, at: *mut usize, step: *mut usize, result: *mut usize) -> usize;
+    fn nuthatchet_figures(row: *const u16, row_len: usize, k: usize, out: *mut u16, out_len: usize, place: *mut usize, at: *mut usize, step: *mut usize, result: *mut usize) -> usize;
     fn nuthatchet_slack(row: *const u16, row_len: usize, m: usize, p: usize, place: *mut usize, at: *mut usize, step: *mut usize, slots: *mut i32) -> usize;
     fn nuthatchet_replay_text(file: *const u8, file_len: usize, input: *const u8, input_len: usize, out: *mut u8, out_len: usize, place: *mut usize, at: *mut usize, step: *mut usize, result: *mut usize) -> usize;
     fn nuthatchet_row_text(file: *const u8, file_len: usize, out: *mut u8, out_len: usize, place: *mut usize, at: *mut usize, step: *mut usize, result: *mut usize) -> usize;
@@ -22,6 +24,7 @@ pub const ROW: usize = 10405;
 pub const EVENTS: usize = 4096;
 pub const LIST: usize = 6;
 pub const ANSWERS: usize = 231;
+pub const FIGURES: usize = 4;
 
 /// Of a rule of paths (7, 10 and 14 to 19) `place` is the message, `at` the place on its first path, and `step` which link there is at fault; of
 /// every other refusal `at` and `step` are 0.
@@ -82,6 +85,16 @@ pub fn all_answers(row: &[u16], k: usize, out: &mut [u16]) -> Result<usize, Refu
     told(|place, at, step, result| unsafe {
         nuthatchet_all_answers(row.as_ptr(), row.len(), k, out.as_mut_ptr(), out.len(), place, at, step, result)
     })
+}
+
+/// The least number of messages that arrive, over every list of at most k cuts.
+pub fn figure(row: &[u16], k: usize) -> Result<usize, Refusal> {
+    told(|place, at, step, result| unsafe { nuthatchet_figure(row.as_ptr(), row.len(), k, place, at, step, result) })
+}
+
+/// How many figures there are, those for 0 to k, at the front of `out`.
+pub fn figures(row: &[u16], k: usize, out: &mut [u16]) -> Result<usize, Refusal> {
+    told(|place, at, step, result| unsafe { nuthatchet_figures(row.as_ptr(), row.len(), k, out.as_mut_ptr(), out.len(), place, at, step, result) })
 }
 
 pub fn slack(row: &[u16], m: usize, p: usize) -> Result<i32, Refusal> {

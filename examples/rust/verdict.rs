@@ -1,5 +1,5 @@
 //! Which lists of at most K cuts a plan survives, at any slots: `verdict [PLAN [K]]`, plan.bin and 1 if not given. It prints a line for each l,
-//! as the verdict program does.
+//! as the verdict program does, and the figure: how many messages arrive at least.
 
 #[allow(dead_code)]
 mod nuthatchet;
@@ -20,6 +20,7 @@ fn lines(file: &[u8], k: usize) -> Result<(), Refusal> {
             }
         }
     }
+    println!("figure {k} {}", nuthatchet::figure(&row[..numbers], k)?);
     Ok(())
 }
 

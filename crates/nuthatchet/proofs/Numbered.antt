@@ -18,8 +18,9 @@ use Rattle.scope.specs.Rules.{rules}
 use Rattle.scope.specs.Cuts.{pairs, badPair, checkCuts}
 use Rattle.scope.specs.Cycle.{eventRow, arrivals}
 use Rattle.scope.specs.Capture.{triples, badTriple, checkCapture}
+use Rattle.scope.specs.Game.{figure}
 use Rattle.scope.specs.Spare.{noSecond}
-use Rattle.scope.specs.Questions.{judge, readFile, writeFile, replay, mayJudge, mayExplain, maySpare}
+use Rattle.scope.specs.Questions.{judge, readFile, writeFile, replay, mayJudge, figureOf, figuresOf, mayExplain, maySpare}
 use Rattle.scope.specs.Limits.{longestRow, longestEvents}
 use Rattle.scope.specs.Lines.{cutsOf}
 use Rattle.replay_text.specs.Text.{mayList}
@@ -136,6 +137,18 @@ answer-named row k lent =
     (λ n e. pick (ltb 3 k) (refuse 11 0) (room (needed (planOf row)) lent) (named 11 0 (λ e. omega arith))
     (room-named (needed (planOf row)) lent))
 
+figure-named : (row : List ℕ) (k : ℕ) → Numbered (figureOf row k)
+unfolding figureOf
+figure-named row k =
+    chain (judge row) _ (judged row)
+    (λ n e. pick (ltb 3 k) (refuse 11 0) (gives (figure (planOf row) k)) (named 11 0 (λ e. omega arith)) (given (figure (planOf row) k)))
+
+figures-named : (row : List ℕ) (k lent : ℕ) → Numbered (figuresOf row k lent)
+unfolding figuresOf
+figures-named row k lent =
+    chain (judge row) _ (judged row)
+    (λ n e. pick (ltb 3 k) (refuse 11 0) (room (k + 1) lent) (named 11 0 (λ e. omega arith)) (room-named (k + 1) lent))
+
 spare-named : (row : List ℕ) (m q : ℕ) → Numbered (maySpare row m q)
 unfolding maySpare
 spare-named row m q =
@@ -160,6 +173,8 @@ zero-says-none =
       rules = rule-named;
       explains = explain-named;
       answers = answer-named;
+      oneFigure = figure-named;
+      allFigures = figures-named;
       spares = spare-named;
       lists = list-named;
       prints = λ file needed lent. chain (readFile file longestRow) (λ _. room needed lent) (read-named file longestRow)

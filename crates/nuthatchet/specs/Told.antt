@@ -1,6 +1,6 @@
--- What a caller in another language is told: five numbers, and the lent buffer. Each question is the one that document 01 asks, by the
--- definitions that the Rattle functions cite.
-use Prim.Native.Nat.{ℕ}
+-- What a caller in another language is told: five numbers, and the lent buffer. Each question is one that documents 01 and 02 ask, by
+-- the definitions that the Rattle functions cite.
+use Prim.Native.Nat.{ℕ, _+_}
 use mathlib.Core.Path.{_≡_}
 use mathlib.Core.List.{List}
 use lib.ListN.{length}
@@ -10,7 +10,8 @@ use Rattle.scope.specs.Outcome.{Outcome, refused, number, place, pathPlace, pat
 use Rattle.scope.specs.File.{rowOf, fileOf}
 use Rattle.scope.specs.Plan.{planOf}
 use Rattle.scope.specs.Cycle.{eventRow}
-use Rattle.scope.specs.Questions.{after, judge, readFile, writeFile, replay, mayJudge, mayExplain, maySpare, slack}
+use Rattle.scope.specs.Game.{figures}
+use Rattle.scope.specs.Questions.{after, judge, readFile, writeFile, replay, mayJudge, figureOf, figuresOf, mayExplain, maySpare, slack}
 use Rattle.scope.specs.Limits.{longestRow}
 use Rattle.replay_text.specs.Text.{mayList}
 use Rattle.spare.specs.Slack.{unlessRefused}
@@ -56,6 +57,10 @@ pub record TellsAll (row : List ℕ) (k : ℕ) (entry exit : List ℕ) (n p q s 
   pub told : Told (mayAnswer row k (length entry)) n p q s v
   pub buffer : After (mayAnswer row k (length entry)) (planOf row) k entry exit
 
+-- the figures of a row for 0 to k
+abbrev pub TellsFigures : List ℕ → ℕ → List ℕ → List ℕ → ℕ → ℕ → ℕ → ℕ → ℕ → Type 0
+TellsFigures row k entry exit n p q s v = Tells (figuresOf row k (length entry)) (figures (planOf row) 0 (k + 1)) entry exit n p q s v
+
 -- the slack z of the second path of message m from place i
 pub record TellsSlack (row : List ℕ) (m i n p q s : ℕ) (z : ℤ) : Type 0 where
   pub refusal : Refuses (maySpare row m i) n p q s
@@ -73,6 +78,8 @@ pub record ZeroSaysNone : Type 0 where
   pub rules : (row : List ℕ) (k l lent : ℕ) → Numbered (mayJudge row k l lent)
   pub explains : (row : List ℕ) (k : ℕ) (capture : List ℕ) (lent : ℕ) → Numbered (mayExplain row k capture lent)
   pub answers : (row : List ℕ) (k lent : ℕ) → Numbered (mayAnswer row k lent)
+  pub oneFigure : (row : List ℕ) (k : ℕ) → Numbered (figureOf row k)
+  pub allFigures : (row : List ℕ) (k lent : ℕ) → Numbered (figuresOf row k lent)
   pub spares : (row : List ℕ) (m i : ℕ) → Numbered (maySpare row m i)
   pub lists : (file input : List ℕ) (needed lent : ℕ) → Numbered (andThen (mayList file input) (λ _. room needed lent))
   pub prints : (file : List ℕ) (needed lent : ℕ) → Numbered (andThen (readFile file longestRow) (λ _. room needed lent))

@@ -13,11 +13,11 @@ ghost use mathlib.Core.Path.{_≡_};
 ghost use Rattle.scope.specs.Limits.{longestRow, mostCuts};
 ghost use Rattle.scope.specs.Lines.{replayText, refusedLine};
 ghost use Rattle.scope.specs.Outcome.{outcomeOf, gives, refused, refusalOn};
-ghost use Rattle.scope.specs.Questions.{judge, readFile};
+ghost use Rattle.scope.specs.Questions.{judge, readFile, figureOf};
 ghost use Rattle.replay_text.specs.Text.{mayList};
 ghost use Rattle.row_text.specs.Rows.{rowText, numbersOf};
 ghost use Rattle.nuthatchet.specs.Told.{Refuses, Told, TellsRead, TellsWritten, TellsReplay, TellsText};
-ghost use Rattle.nuthatchet.specs.Told.{TellsAll, TellsSlack};
+ghost use Rattle.nuthatchet.specs.Told.{TellsAll, TellsFigures, TellsSlack};
 ghost use Rattle.nuthatchet.specs.Part.{TellsPart};
 ghost use Rattle.nuthatchet.specs.Ruled.{ruled, TellsRuling};
 ghost use Rattle.nuthatchet.specs.Explained.{explained, Few, TellsExplanation};
@@ -268,6 +268,41 @@ pub extern "C" fn nuthatchet_all_answers(
         (now (place .exit)) (now (at .exit)) (now (step .exit)) (now (result .exit)) ⌝ }
 {
     let answer = all_verdicts::all_answers(row, k, out);
+    tell(answer, place, at, step, result)
+}
+
+// The figure of a row for k, the least number of arrivals over all cut lists of at most k pairs; or refusal 1 to 10, 14 to 19, 11.
+#[no_mangle]
+pub extern "C" fn nuthatchet_figure(
+    row: &[u16],
+    k: usize,
+    place: &mut usize,
+    at: &mut usize,
+    step: &mut usize,
+    result: &mut usize,
+) -> usize
+    ensures { λ r. ⌜ Told (figureOf (now (row .entry)) k) r
+        (now (place .exit)) (now (at .exit)) (now (step .exit)) (now (result .exit)) ⌝ }
+{
+    let answer = figures::figure(row, k);
+    tell(answer, place, at, step, result)
+}
+
+// The figures of a row for 0 to k: how many there are, or refusal 1 to 10, 14 to 19, 11, 13.
+#[no_mangle]
+pub extern "C" fn nuthatchet_figures(
+    row: &[u16],
+    k: usize,
+    out: &mut [u16],
+    place: &mut usize,
+    at: &mut usize,
+    step: &mut usize,
+    result: &mut usize,
+) -> usize
+    ensures { λ r. ⌜ TellsFigures (now (row .entry)) k (now (out .entry)) (now (out .exit)) r
+        (now (place .exit)) (now (at .exit)) (now (step .exit)) (now (result .exit)) ⌝ }
+{
+    let answer = figures::figures(row, k, out);
     tell(answer, place, at, step, result)
 }
 
