@@ -1,10 +1,11 @@
 /* The questions of `crates/bench` in plain C, with the same algorithms as far as they are known, compiled for the same target: reading a
    plan file into a row with every rule, judging a row, one replay, the verdict for one l and all answers for one k by the same search, in
-   place, and which cuts explain the capture on standard input, a byte a number. `bench QUESTION N [L]` prints a checksum of the answers,
-   of the row and of the numbers that the last one wrote. `bench countK 1` tells instead, for each walk of the search, l, how many pairs
-   its lists have, how many lists it plays, how many slots it plays, and the arrivals of the list it finds, or -. `bench slotsK 1` tells the
-   pairs of the list that explains the capture, or -, and how many slots were played for it. `bench record 1` has a list of cuts on
-   standard input instead, and tells the capture of its replay, a line a triple. No header is used, since the kit has none. */
+   place, the figures up to one k by the same game, and which cuts explain the capture on standard input, a byte a number.
+   `bench QUESTION N [L]` prints a checksum of the answers, of the row and of the numbers that the last one wrote. `bench countK 1` tells
+   instead, for each walk of the search, l, how many pairs its lists have, how many lists it plays, how many slots it plays, and the arrivals
+   of the list it finds, or -. `bench slotsK 1` tells the pairs of the list that explains the capture, or -, and how many slots were played
+   for it. `bench record 1` has a list of cuts on standard input instead, and tells the capture of its replay, a line a triple. No header is
+   used, since the kit has none. */
 typedef unsigned char u8;
 typedef unsigned short u16;
 typedef unsigned long usize;
@@ -481,6 +482,60 @@ static int verdict(int k) { /* all answers: how many numbers they are */
     return 7 * (M + 1);
 }
 
+static void need_fewer(void) { /* no list leaves fewer than none */
+    need = least ? M + 1 - least : 65536;
+}
+
+static void breaker(const position *, unsigned, int, int, int, harm);
+
+static void network(const position *ps, int n, int s, harm by) { /* the network's turn in slot s: all messages move */
+    position now[32];
+    copy(now, ps);
+    slot(now, s);
+    if (s + 1 < T) {
+        breaker(now, away(now), n, s + 1, 0, by);
+        return;
+    }
+    int home = arrived(now);
+    if (home < least) {
+        least = home;
+        need_fewer();
+    }
+}
+
+/* The breaker's turn in slot s, with n pairs more, from link e on. Once no link of a slot weighs enough, none of a later one does: the pairs
+   picked are all, and where they lose too few the game is over. */
+static void breaker(const position *ps, unsigned left, int n, int s, int e, harm by) {
+    int x = __builtin_popcount(by.touched & left), y = __builtin_popcount(by.stripped & left);
+    int f = n ? next_link(n, s, 0, need - x, need - y) : E;
+    if (f == E) {
+        if (__builtin_popcount(by.touched & by.stripped & left) < need) return;
+        n = 0;
+    } else
+        for (e = next_link(n, s, e > f ? e : f, need - x, need - y); e < E; e = next_link(n, s, e + 1, need - x, need - y)) {
+            harm all = {by.touched | touches[s * 64 + e], by.stripped | strips[s * 64 + e]};
+            cut_from[e] = s;
+            breaker(ps, left, n - 1, s, e + 1, all);
+            cut_from[e] = 65535;
+        }
+    network(ps, n, s, by);
+}
+
+/* The least number of arrivals for 0 to k pairs: how many numbers they are. Each game begins with the least of the one before. */
+static int figures(int k) {
+    int r = prepare();
+    if (r) return small(r, 0);
+    if (k > 3) return small(refuse(11, 0), 0);
+    harm none = {0, 0};
+    least = M;
+    for (int n = 0; n <= k; n++) {
+        need_fewer();
+        breaker(start, away(start), n, 0, 0, none);
+        out[n] = least;
+    }
+    return k + 1;
+}
+
 /* Which cuts explain a capture: by slot and message the link that it has crossed, plus one, or 0. */
 static u8 crossed[64 * 32], input[6144];
 static int given; /* how many numbers were read */
@@ -624,6 +679,7 @@ static int ask(char what, int k, int l) {
     if (what == 'd') return small(judge(), count);
     if (what == 'p') return replay();
     if (what == 'l') return only(k, l);
+    if (what == 'g') return figures(k);
     if (what == 'f') return explain(k);
     if (what == 'o') return told(k);
     if (what == 'c') return crossings();

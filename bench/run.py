@@ -3,7 +3,9 @@
 
   bench/run.py ORACLE OURS... -- C...      the second program, which makes the plans, and the words that start each program
 
-With NUTHATCHET_BENCH=captures in the environment it asks about captures alone, with NUTHATCHET_BENCH=judge it reads files and judges rows alone.
+With NUTHATCHET_BENCH=captures in the environment it asks about captures alone, with NUTHATCHET_BENCH=figures for figures alone, and with
+NUTHATCHET_BENCH=judge it reads files and judges rows alone. With NUTHATCHET_SHARE=N it takes one turn in N of each question but those about
+captures, since an emulator is that much slower.
 
 Times are processor seconds. Both programs print a checksum of all answers, and it has to be the same. docs/BENCHMARKS.md has what this printed."""
 import collections, math, os, random, shutil, subprocess, sys, tempfile
@@ -23,7 +25,8 @@ mid = repetitions // 2
 rounds = 9  # of all captures
 solver = shutil.which('z3')
 unsolved = 'no table of the solver: z3 is not on the PATH (Debian, Ubuntu: apt-get install z3)'
-parts = os.environ.get('NUTHATCHET_BENCH')
+parts = os.environ.get('NUTHATCHET_BENCH', '')
+share = int(os.environ.get('NUTHATCHET_SHARE', '1'))
 limit = 120  # seconds for one question to the solver
 asked = [
     ('large', 'read', 20000),
@@ -69,9 +72,10 @@ asked = [
     ('grid-2', 'verdict3', 40),
     ('grid-3', 'verdict3', 400),
 ]
+asked = [(plan, question, max(1, turns // share)) for plan, question, turns in asked]
 if parts == 'judge':
     asked = [each for each in asked if each[1] in ('read', 'judge')]
-searched = [plan for plan, question, _ in asked if question == 'verdict3']
+searched = {plan: turns for plan, question, turns in asked if question == 'verdict3'}
 captured = ['%s-%d' % (kind, seed) for kind in ('network', 'chain', 'wide', 'own', 'gadget', 'dual', 'grid', 'wait') for seed in (1, 2, 3)]
 solved = '3 cuts', 'late 3', '4 cuts', 'removed', 'empty'  # the captures that the solver is asked about
 
@@ -102,7 +106,7 @@ def note(text):
 
 
 def make_plans():
-    for plan in dict.fromkeys(searched + captured):
+    for plan in dict.fromkeys([*searched, *captured]):
         if '-' in plan:
             os.makedirs(folder(plan), exist_ok=True)
             with open(os.path.join(folder(plan), 'plan.bin'), 'wb') as file:
@@ -141,6 +145,26 @@ def against_c(goals):
         )
         note('%d of %d' % (number + 1, len(asked)))
     return each
+
+
+def figured(goals):
+    """The table of figures: those for k 0 to 3 against all answers for k 3, both ours, and against C."""
+    heads = 'plan', 'turns', 'figures3, ms', 'verdict3, ms', 'figures3 / verdict3', 'ours / C, figures3'
+    print('\n%-10s %5s %12s %12s   %-21s   %s' % heads + ' (lowest to highest of %d)' % repetitions, flush=True)
+    for number, (plan, turns) in enumerate(searched.items()):
+        taken = []
+        for _ in range(repetitions):
+            verdict = ask(ours, plan, 'verdict3', turns)[1]
+            said, mine = ask(ours, plan, 'figures3', turns)
+            other, theirs = ask(c, plan, 'figures3', turns)
+            if said != other:
+                sys.exit('%s figures3: ours says %s and C says %s' % (plan, said, other))
+            taken.append((1000 * mine / turns, 1000 * verdict / turns, mine / verdict, mine / theirs))
+        mine, verdict, above, ratios = (sorted(column) for column in zip(*taken))
+        goals['figures3 / verdict3, ours'].append((above[mid], plan))
+        spread = ['%.2f (%.2f to %.2f)' % (column[mid], column[0], column[-1]) for column in (above, ratios)]
+        print('%-10s %5d %12.3f %12.3f   %-21s   %s' % (plan, turns, mine[mid], verdict[mid], *spread), flush=True)
+        note('figures: %d of %d' % (number + 1, len(searched)))
 
 
 def plan_of(plan):
@@ -339,6 +363,7 @@ def against_goals(goals):
         ('k 3, every l, ours / C', 'at most 2.5', max),
         ('k 3, every l, ours, s', 'at most 1', max),
         ('k 3, one l, solver / ours', 'at least 100', min),
+        ('figures3 / verdict3, ours', 'at most 3', max),
         ('k 3, capture, ours / C', 'at most 2.5', max),
         ('k 3, capture, ours, s', 'at most 0.2', max),
         ('k 3, capture, solver / ours', 'at least 100', min),
@@ -349,15 +374,17 @@ def against_goals(goals):
 
 
 goals = collections.defaultdict(list)
-if not solver and parts != 'judge':
+if not solver and parts in ('', 'captures'):
     note(unsolved)
 make_plans()
-if parts != 'captures':
+if parts in ('', 'judge'):
     times = against_c(goals)
 if not parts:
     edges = lists_played()
     each_walk()
     against_solver(times, edges, goals)
-if parts != 'judge':
+if parts in ('', 'figures'):
+    figured(goals)
+if parts in ('', 'captures'):
     explained_by_solver(explained(goals), goals)
 against_goals(goals)

@@ -1,6 +1,7 @@
 // Asks one question of the plan in `plan.bin` many times, for `./nuthatchet bench`: `bench read N`, `bench judge N` (the row), `bench replay N`
-// (link 0 cut in slot 0), `bench onlyK N L` (the verdict for k K and l L), `bench verdictK N` (all answers for k K) and `bench inferK N` (at most
-// K cuts that explain the capture on standard input, a byte a number); a space stands before N and L. It prints a checksum of the answers, of the row and of the numbers that the last one wrote, which the C program beside it
+// (link 0 cut in slot 0), `bench onlyK N L` (the verdict for k K and l L), `bench verdictK N` (all answers for k K), `bench figuresK N` (the
+// figures for 0 to K) and `bench inferK N` (at most K cuts that explain the capture on standard input, a byte a number); a space stands before
+// N and L. It prints a checksum of the answers, of the row and of the numbers that the last one wrote, which the C program beside it
 // (bench/bench.c) prints too.
 ghost use Prim.Native.Nat.{_≤_, _<_};
 ghost use lib.ListN.{length};
@@ -14,7 +15,7 @@ use verdicts::Ruling;
 const CAPTURE: usize = 3 * scope::limits::CROSSED;
 
 // What is asked: the third letter of its word, which tells questions apart (reAd, juDge, rePlay, onLy, veRdict,
-// inFer), k and l, and how many numbers the capture has.
+// fiGures, inFer), k and l, and how many numbers the capture has.
 struct Question {
     what: u8,
     k: usize,
