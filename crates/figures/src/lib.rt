@@ -1,6 +1,7 @@
-// The figures of a plan: for each k the least number of arrivals over all cut lists of at most k pairs (document 02, [2]). `figure` and `figures`
-// take anything and ask nothing; `figures_good` takes a row that is known to be good. Each game begins with the figure for one pair less, which
-// is the least that is known then. They lean on `plan` for refusals 1 to 10, on `verdicts` for what a game is lent and on `game` for the least.
+// The figures of a plan: for each k the least number of arrivals over all cut lists of at most k pairs (document 02, [2]). `figure` and
+// `figures` take anything and ask nothing; `figures_good` takes a row that is known to be good. Each game begins with the figure for one
+// pair less, which is the least that is known then. They lean on `plan` for refusals 1 to 10, on `verdicts` for what a game is lent and on
+// `game` for the least.
 use scope::Answer;
 use scope::limits::CUTS;
 use scope::limits::PLANE;

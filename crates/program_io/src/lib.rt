@@ -1,6 +1,7 @@
-// What the programs read and write: the file `plan.bin`, files by name, standard input, standard output, and what they say on standard error. No contract
-// can say which bytes were read or written; that each count lies within its buffer and came from a read that did not fail is proved. It
-// leans on `io`, `os` and `libc`, whose calls of C are assumed. Nothing else here writes, and only `print` writes standard output.
+// What the programs read and write: the file `plan.bin`, files by name, standard input, standard output, and what they say on standard
+// error. No contract can say which bytes were read or written; that each count lies within its buffer and came from a read that did not
+// fail is proved. It leans on `io`, `os` and `libc`, whose calls of C are assumed. Nothing else here writes, and only `print` writes
+// standard output.
 ghost use Prim.Native.Nat.{_≤_, _<_};
 ghost use mathlib.Core.Path.{_≡_};
 ghost use lib.ListN.{length};

@@ -1,6 +1,7 @@
-// The line of one plan on the sheet that the program `shelf` prints, from the bytes of its file, laid into lent bytes from an index on: document
-// 02, [2]. It leans on `plan` (the row of a file), `figures` (what the line says) and `sheet_lines` (the line itself, and the sums). That the
-// first bytes of a plan file decide its line is in proofs/Fronts, and that every sheet has room in `ROOM` bytes in proofs/Room.
+// The line of one plan on the sheet that the program `shelf` prints, from the bytes of its file, laid into lent bytes from an index on:
+// document 02, [2]. It leans on `plan` (the row of a file), `figures` (what the line says) and `sheet_lines` (the line itself, and the
+// sums). That the first bytes of a plan file decide its line is in proofs/Fronts, and that every sheet has room in `ROOM` bytes in
+// proofs/Room.
 ghost use Rattle.plan.specs.Answers.{GoodRow};
 ghost use Rattle.shelf_text.specs.Lines.{MayLay, Rates, Lays};
 use scope::Answer;

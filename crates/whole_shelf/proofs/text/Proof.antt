@@ -1,9 +1,9 @@
--- `shelf::text` meets its contract: what came shows what all of standard input and the whole plan files show.
+-- `whole_shelf::text` meets its contract: what came shows what all of standard input and the whole plan files show.
 use Rattle.program_io.proofs.Fits.{came-whole}
-use Rattle.shelf.proofs.Program.{may-read, shown-sheet, shown-refused}
+use Rattle.whole_shelf.proofs.Program.{may-read, shown-sheet, shown-refused}
 use borrow.Author.Needs.{needs}
-use Rattle.shelf.proofs.text.Statement.{statement}
-use Rattle.shelf.proofs.text.Tie as tie
+use Rattle.whole_shelf.proofs.text.Statement.{statement}
+use Rattle.whole_shelf.proofs.text.Tie as tie
 
 slice-aggregate-check-names : tie.Need-slice-aggregate-check-names
 slice-aggregate-check-names c =
@@ -24,7 +24,8 @@ sheet-requires c κs = (
   may-read (c .before .before .before .before .before .before .before .before .before .args .input .now) (c .before .before .before .before
       .before .before .before .before .before .args .n) (c .before .before .before .before .before .before .before .before .before .args .out
       .now) (c .before .before .before .before .before .before .before .before .before .args .out .now) (c .before .before .before .before
-      .before .before .before .before .before .pre .1) (c .before .before .before .before .before .before .before .before .before .pre .2) _ _ (c
+      .before .before .before .before .before .pre .1) (c .before .before .before .before .before .before .before .before .before .pre
+      .2) _ _ (c
       .before .before .before .before .before .check-names .ensures) (c .before .before .before .checked .given .1),
   c .before .before .before
       .before .before .before .before .before .before .pre .2,

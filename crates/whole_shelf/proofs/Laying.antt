@@ -19,7 +19,7 @@ use Rattle.sheet_lines.proofs.Lines.{tally-lines}
 use Rattle.sheet_lines.proofs.Room.{Short, plan-lines-size, sums-told}
 use Rattle.shelf_text.specs.declared.Laid.{Laid}
 use Rattle.shelf_text.specs.Lines.{MayLay}
-use Rattle.shelf.specs.Shown.{AllCame, none, more, ReadAndLaid, MayRead, Sheets}
+use Rattle.whole_shelf.specs.Shown.{AllCame, none, more, ReadAndLaid, MayRead, Sheets}
 
 -- the names before an index are passed
 pub record Laying (input entry out : List ℕ) (t : Tally) (next from done : ℕ) : Type 0 where

@@ -23,7 +23,7 @@ use Rattle.sheet_lines.specs.Sheet.{namesOn}
 use Rattle.sheet_lines.proofs.Room.{Short, sheet-size}
 use Rattle.shelf_text.specs.Room.{sheetRoom}
 use Rattle.shelf_text.proofs.Fronts.{same-sheet}
-use Rattle.shelf.specs.Shown.{none, MayRead, Sheets, Shown}
+use Rattle.whole_shelf.specs.Shown.{none, MayRead, Sheets, Shown}
 
 text-refused : (input : List ℕ) (shelf : List Shelved) (x : Refusal) → checkNames (namesOf input) ≡ refused x → shelfText input shelf ≡
     refusedLine x

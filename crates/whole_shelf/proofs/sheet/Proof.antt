@@ -1,12 +1,12 @@
--- `shelf::sheet` meets its contract: the names before an index are passed.
+-- `whole_shelf::sheet` meets its contract: the names before an index are passed.
 use Prim.Native.Nat.{_+_, _-_}
 use native.Mathlib.Omega.{arith}
 use mathlib.Core.Path.{refl}
 use lib.ListN.{length}
 use borrow.Author.Needs.{needs}
-use Rattle.shelf.proofs.Laying.{Laying, laying-first, same-room, few, may-sum, laid-all, end-within, end-after, may-lay, laying-on}
-use Rattle.shelf.proofs.sheet.Statement.{statement}
-use Rattle.shelf.proofs.sheet.Tie as tie
+use Rattle.whole_shelf.proofs.Laying.{Laying, laying-first, same-room, few, may-sum, laid-all, end-within, end-after, may-lay, laying-on}
+use Rattle.whole_shelf.proofs.sheet.Statement.{statement}
+use Rattle.whole_shelf.proofs.sheet.Tie as tie
 
 abbrev Inv-loop : tie.InvT-loop
 Inv-loop input count out₀ tally₀ next₀ from₀ done₀ last₀ out tally next from done last =
@@ -68,7 +68,8 @@ add-done c =
       arith,
       c .before .before .before .before .before .before .before .before .loop .inv .count,
       few _ _ (c .before .before .before
-          .before .before .before .before .before .before .before .before .before .before .pre .0) _ _ _ _ _ _ (c .before .before .before .before
+          .before .before .before .before .before .before .before .before .before .before .pre .0) _ _ _ _ _ _ (c .before .before .before
+          .before
           .before .before .before .before .loop .inv),
     )
 
@@ -81,8 +82,10 @@ loop-less c =
       arith,
       c .before .before .before .before .before .before .before .before .loop-test .taken,
       end-after _ _ (c .before .before .before
-          .before .before .before .before .before .before .before .before .before .before .before .pre .0) _ _ _ _ _ _ (c .before .before .before
-          .before .before .before .before .before .before .loop .inv) (c .before .before .before .before .before .before .before .before .loop-test
+          .before .before .before .before .before .before .before .before .before .before .before .pre .0) _ _ _ _ _ _ (c .before .before
+          .before
+          .before .before .before .before .before .before .loop .inv) (c .before .before .before .before .before .before .before .before
+          .loop-test
           .taken) _ (c .before .before .before .before .before .before .before .name-end .ensures),
     )
 
