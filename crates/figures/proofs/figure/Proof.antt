@@ -9,17 +9,16 @@ use Rattle.figures.proofs.figure.Tie as tie
 
 returns : tie.Need-returns
 returns c =
-    sym
-    (one-refused (c .before .before .before .before .before .before .before .args .row .now) (c .before .before .before .before .before .before
-    .before .args .k) (replicate 4 0) _ refl
-    (refused-as _ (c .before .answer .given .1) (c .before .before .before .before .figures .ensures .answer)))
+    let start = c .before .before .before .before .before .before .before in
+    sym (one-refused (start .args .row .now) (start .args .k) (replicate 4 0) _ refl (refused-as _ (c .before .answer .given .1) (c
+    .before .before .before .before .figures .ensures .answer)))
 
 returns-2 : tie.Need-returns-2
 returns-2 c =
-    one-given (c .before .before .before .before .before .before .before .before .args .row .now) (c .before .before .before .before .before
-    .before .before .before .args .k) (replicate 4 0) _ _ _ refl
-    (gave _ (c .before .before .enum-told .given .1) (c .before .before .before .before .before .figures .ensures .answer)) (c .before .before
-    .before .before .before .figures .ensures .buffer) (c .number .ensures .is)
+    let f′ = c .before .before .before .before .before in
+    let start = f′ .before .before .before in
+    one-given (start .args .row .now) (start .args .k) (replicate 4 0) _ _ _ refl (gave _ (c .before .before .enum-told .given .1) (f′
+    .figures .ensures .answer)) (f′ .figures .ensures .buffer) (c .number .ensures .is)
 
 pub figure-spec : {M : Type 1} → statement M
 figure-spec =

@@ -10,9 +10,9 @@ figures-good-requires c κs = good-row _ _ (gave _ (c .before .enum-told .given 
 
 returns : tie.Need-returns
 returns c =
-    bad-row (c .before .before .before .before .before .before .args .row .now) (c .before .before .before .before .before .before .args .k) (c
-    .before .before .before .before .before .before .args .out .now) _
-    (refused-as _ (c .before .judged .given .1) (c .before .before .before .judge .ensures))
+    let start = c .before .before .before .before .before .before in
+    bad-row (start .args .row .now) (start .args .k) (start .args .out .now) _ (refused-as _ (c .before .judged .given .1) (c .before
+    .before .before .judge .ensures))
 
 pub figures-spec : {M : Type 1} → statement M
 figures-spec =

@@ -8,14 +8,15 @@ returns : tie.Need-returns
 returns c = k-too-large _ _ _ (c .before .before .before .before .pre) _ (c .before .if1 .taken) (c .refuse .ensures)
 
 returns-2 : tie.Need-returns-2
-returns-2 c = too-short _ _ _ (c .before .before .before .before .before .pre) (c .before .before .if1 .left) _ (c .before .if2 .taken) (c
-    .refuse2 .ensures)
+returns-2 c =
+    too-short _ _ _ (c .before .before .before .before .before .pre) (c .before .before .if1 .left) _ (c .before .if2 .taken) (c .refuse2
+    .ensures)
 
 returns-3 : tie.Need-returns-3
 returns-3 c =
-    all-told _ _ (c .before .before .before .before .before .before .before .before .args .out .now) (c .before .before .before .before .before
-    .before .before .before .pre) (c .before .before .before .before .before .if1 .left) _ (c .before .before .before .before .if2 .left) (c
-    .before .before .fill .ensures)
+    let start = c .before .before .before .before .before .before .before .before in
+    all-told _ _ (start .args .out .now) (start .pre) (c .before .before .before .before .before .if1 .left) _ (c .before .before .before
+    .before .if2 .left) (c .before .before .fill .ensures)
 
 pub figures-good-spec : {M : Type 1} → statement M
 figures-good-spec =

@@ -14,51 +14,33 @@ abbrev μ-loop : tie.MeasureT-loop
 
 loop-holds : tie.Need-loop-holds Inv-loop μ-loop
 loop-holds c =
-    rises-first _ _ _ _ _ _ _ _ _ (c .before .before .before .before .before .before .before .before .before .pre) _ refl
+    let start = c .before .before .before .before .before .before .before .before .before in
+    rises-first _ _ _ _ _ _ _ _ _ (start .pre) _ refl
 
 play-requires : tie.Need-play-requires Inv-loop μ-loop
 play-requires c κs =
-    may-play _ _ _ _ _ _ _ _ (c .before .before .before .before .before .before .before .before .before .before .before .args .out .now) (c
-    .before .before .before .before .before .before .before .before .before .before .before .pre) _ refl _ refl _ _ _ (c .before .loop .inv) (c
-    .loop-test .taken)
+    let start = c .before .before .before .before .before .before .before .before .before .before .before in
+    may-play _ _ _ _ _ _ _ _ (start .args .out .now) (start .pre) _ refl _ refl _ _ _ (c .before .loop .inv) (c .loop-test .taken)
 
 cast-out : tie.Need-cast-out Inv-loop μ-loop
 cast-out c =
-    omega (
-      arith,
-      c .play .ensures .1,
-      c .before .before .loop .inv .low,
-      c .before .before .before .before .before .before .before .before
-          .before .before .before .before .pre .lent .many,
-    )
+    let start = c .before .before .before .before .before .before .before .before .before .before .before .before in
+    omega (arith, c .play .ensures .1, c .before .before .loop .inv .low, start .pre .lent .many)
 
 mul-out : tie.Need-mul-out Inv-loop μ-loop
 mul-out c =
-    omega (
-      arith,
-      c .before .loop-test .taken,
-      c .before .before .before .before .before .before .before .before .before .before .before
-          .before .pre .few,
-    )
+    let start = c .before .before .before .before .before .before .before .before .before .before .before .before in
+    omega (arith, c .before .loop-test .taken, start .pre .few)
 
 slice-write-out : tie.Need-slice-write-out Inv-loop μ-loop
 slice-write-out c =
-    omega (
-      arith,
-      c .before .loop-test .taken,
-      c .before .before .loop .inv .long,
-      c .before .before .before .before .before .before .before
-          .before .before .before .before .before .pre .enough,
-    )
+    let start = c .before .before .before .before .before .before .before .before .before .before .before .before in
+    omega (arith, c .before .loop-test .taken, c .before .before .loop .inv .long, start .pre .enough)
 
 add-j : tie.Need-add-j Inv-loop μ-loop
 add-j c =
-    omega (
-      arith,
-      c .before .loop-test .taken,
-      c .before .before .before .before .before .before .before .before .before .before .before
-          .before .pre .few,
-    )
+    let start = c .before .before .before .before .before .before .before .before .before .before .before .before in
+    omega (arith, c .before .loop-test .taken, start .pre .few)
 
 loop-less : tie.Need-loop-less Inv-loop μ-loop
 loop-less c =
@@ -66,9 +48,9 @@ loop-less c =
 
 loop-again : tie.Need-loop-again Inv-loop μ-loop
 loop-again c =
-    rises-on _ _ _ _ _ _ _ _ _ (c .before .before .before .before .before .before .before .before .before .before .before .before .pre) _ refl
-    (c .before .before .before .before .before .before .before .before .before .before .before .before .args .o .standing) refl _ _ _ (c
-    .before .before .loop .inv) (c .before .loop-test .taken) _ (c .play .ensures)
+    let start = c .before .before .before .before .before .before .before .before .before .before .before .before in
+    rises-on _ _ _ _ _ _ _ _ _ (start .pre) _ refl (start .args .o .standing) refl _ _ _ (c .before .before .loop .inv) (c .before
+    .loop-test .taken) _ (c .play .ensures)
 
 same-length : tie.Need-same-length Inv-loop μ-loop
 same-length c =
@@ -76,8 +58,8 @@ same-length c =
 
 returns : tie.Need-returns Inv-loop μ-loop
 returns c =
-    rises-over _ _ _ _ _ _ _ _ _ (c .before .before .before .before .before .before .before .before .before .before .before .pre) _ _ _ _ (c
-    .before .loop .inv) (c .loop-test .left)
+    let start = c .before .before .before .before .before .before .before .before .before .before .before in
+    rises-over _ _ _ _ _ _ _ _ _ (start .pre) _ _ _ _ (c .before .loop .inv) (c .loop-test .left)
 
 pub rise-spec : {M : Type 1} → statement M
 rise-spec =

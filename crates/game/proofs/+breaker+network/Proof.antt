@@ -107,129 +107,113 @@ breaker-μ-loop row table touches strips weights most z hits ps left p n s e lea
 
 breaker-needed-requires : (t : ℕ) → breaker-lts.Need-needed-requires (breaker-calls t) (breaker-at t) breaker.Post breaker-Inv-loop
     breaker-μ-loop
-breaker-needed-requires t c κs = (
-  c .before .before .before .before .before .before .before .pre .1 .turn .low,
-  c .before .before .before .before .before .before .before
-      .pre .1 .turn .board .many,
-)
+breaker-needed-requires t c κs =
+    let start = c .before .before .before .before .before .before .before in
+    (start .pre .1 .turn .low, start .pre .1 .turn .board .many)
 
 breaker-at-risk-requires : (t : ℕ) → breaker-lts.Need-at-risk-requires (breaker-calls t) (breaker-at t) breaker.Post breaker-Inv-loop
     breaker-μ-loop
-breaker-at-risk-requires t c κs =
-    search needs
+breaker-at-risk-requires t c κs = search needs
 
 breaker-wanting-requires : (t : ℕ) → breaker-lts.Need-wanting-requires (breaker-calls t) (breaker-at t) breaker.Post breaker-Inv-loop
     breaker-μ-loop
-breaker-wanting-requires t c κs =
-    search needs
+breaker-wanting-requires t c κs = search needs
 
 breaker-losses-requires : (t : ℕ) → breaker-lts.Need-losses-requires (breaker-calls t) (breaker-at t) breaker.Post breaker-Inv-loop
     breaker-μ-loop
 breaker-losses-requires t c κs =
-    may-weigh-rest _ _ _ _ _ _ _ _ _ _ _ _ _ _ _ (c .before .before .before .before .before .before .before .before .before .before .pre .1) _
-    _ (c .before .at-risk .ensures) (c .wanting .ensures)
+    let start = c .before .before .before .before .before .before .before .before .before .before in
+    may-weigh-rest _ _ _ _ _ _ _ _ _ _ _ _ _ _ _ (start .pre .1) _ _ (c .before .at-risk .ensures) (c .wanting .ensures)
 
 breaker-slice-aggregate-first-worth : (t : ℕ) → breaker-lts.Need-slice-aggregate-first-worth (breaker-calls t) (breaker-at t) breaker.Post
     breaker-Inv-loop breaker-μ-loop
 breaker-slice-aggregate-first-worth t c =
-    sym (c .before .before .before .before .before .before .before .before .before .before .before .before .pre .1 .turn .holding .size)
+    let start = c .before .before .before .before .before .before .before .before .before .before .before .before in
+    sym (start .pre .1 .turn .holding .size)
 
 breaker-first-worth-requires : (t : ℕ) → breaker-lts.Need-first-worth-requires (breaker-calls t) (breaker-at t) breaker.Post breaker-Inv-loop
     breaker-μ-loop
-breaker-first-worth-requires t c κs = (
-  may-try _ _ _ _ _ _ _ _ _ _ _ _ _ _ _ (c .before .before .before .before .before .before .before .before .before .before .before .before
-      .pre .1) _ _ _ (c .before .before .before .at-risk .ensures) (c .before .before .wanting .ensures) (c .before .losses .ensures) _ (c
-      .before .before .before .before .needed .ensures .1),
-  c .before .before .before .before .before .before .before .before .before .before
-      .before .before .pre .1 .turn .board .play .few,
-)
+breaker-first-worth-requires t c κs =
+    let start = c .before .before .before .before .before .before .before .before .before .before .before .before in (
+      may-try _ _ _ _ _ _ _ _ _ _ _ _ _ _ _ (start .pre .1) _ _ _ (c .before .before .before .at-risk .ensures) (c .before .before
+          .wanting .ensures) (c .before .losses .ensures) _ (c .before .before .before .before .needed .ensures .1),
+      start .pre .1 .turn .board
+          .play .few,
+    )
 
 breaker-worth-requires : (t : ℕ) → breaker-lts.Need-worth-requires (breaker-calls t) (breaker-at t) breaker.Post breaker-Inv-loop breaker-μ-loop
-breaker-worth-requires t c κs =
-    search needs
+breaker-worth-requires t c κs = search needs
 
 breaker-over-requires : (t : ℕ) → breaker-lts.Need-over-requires (breaker-calls t) (breaker-at t) breaker.Post breaker-Inv-loop breaker-μ-loop
-breaker-over-requires t c κs =
-    search needs
+breaker-over-requires t c κs = search needs
 
 breaker-returns : (t : ℕ) → breaker-lts.Need-returns (breaker-calls t) (breaker-at t) breaker.Post breaker-Inv-loop breaker-μ-loop
 breaker-returns t c =
-    over-turned _ _ _ _ _ _ _ _ _ _ _ _ _ _ _ (c .before .before .before .before .before .before .before .before .before .before .before
-    .before .before .before .before .before .pre .1) _ _ _ (c .before .before .before .before .before .before .before .at-risk .ensures) (c
-    .before .before .before .before .before .before .wanting .ensures) (c .before .before .before .before .before .losses .ensures) _ _ _ (c
-    .before .before .before .before .before .before .before .before .needed .ensures .0) (c .before .before .before .first-worth .ensures) (c
-    .before .before .worth .ensures) _ (c .before .over .ensures) (c .if1 .taken)
+    let start = c .before .before .before .before .before .before .before .before .before .before .before .before .before .before .before
+    .before in
+    over-turned _ _ _ _ _ _ _ _ _ _ _ _ _ _ _ (start .pre .1) _ _ _ (c .before .before .before .before .before .before .before .at-risk
+    .ensures) (c .before .before .before .before .before .before .wanting .ensures) (c .before .before .before .before .before .losses
+    .ensures) _ _ _ (c .before .before .before .before .before .before .before .before .needed .ensures .0) (c .before .before .before
+    .first-worth .ensures) (c .before .before .worth .ensures) _ (c .before .over .ensures) (c .if1 .taken)
 
 breaker-slice-aggregate-next-link : (t : ℕ) → breaker-lts.Need-slice-aggregate-next-link (breaker-calls t) (breaker-at t) breaker.Post
     breaker-Inv-loop breaker-μ-loop
 breaker-slice-aggregate-next-link t c =
-    sym (c .before .before .before .before .before .before .before .before .before .before .before .before .before .before .before .before
-    .before .pre .1 .turn .holding .size)
+    let start = c .before .before .before .before .before .before .before .before .before .before .before .before .before .before .before
+    .before .before in
+    sym (start .pre .1 .turn .holding .size)
 
 breaker-later-requires : (t : ℕ) → breaker-lts.Need-later-requires (breaker-calls t) (breaker-at t) breaker.Post breaker-Inv-loop breaker-μ-loop
-breaker-later-requires t c κs =
-    search needs
+breaker-later-requires t c κs = search needs
 
 breaker-next-link-requires : (t : ℕ) → breaker-lts.Need-next-link-requires (breaker-calls t) (breaker-at t) breaker.Post breaker-Inv-loop
     breaker-μ-loop
-breaker-next-link-requires t c κs = (
-  may-try _ _ _ _ _ _ _ _ _ _ _ _ _ _ _ (c .before .before .before .before .before .before .before .before .before .before .before .before
-      .before .before .before .before .before .before .pre .1) _ _ _ (c .before .before .before .before .before .before .before .before .before
-      .at-risk .ensures) (c .before .before .before .before .before .before .before .before .wanting .ensures) (c .before .before .before
-      .before
-      .before .before .before .losses .ensures) _ (c .before .before .before .before .before .before .before .before .before .before .needed
-      .ensures .1),
-  from-within _ _ _ _ _ _ _ _ _ _ _ _ _ _ _ (c .before .before .before .before .before .before .before .before .before .before
-      .before .before .before .before .before .before .before .before .pre .1) _ _ _ (c .before .before .before .before .before .before .before
-      .before .before .at-risk .ensures) (c .before .before .before .before .before .before .before .before .wanting .ensures) (c .before
-      .before
-      .before .before .before .before .before .losses .ensures) _ _ _ (c .before .before .before .before .before .before .before .before .before
-      .before .needed .ensures .0) (c .before .before .before .before .before .first-worth .ensures) (c .before .before .before .before .worth
-      .ensures) _ (c .later .ensures),
-  c .before .before .before .before .before .before .before .before .before .before .before .before .before
-      .before .before .before .before .before .pre .1 .turn .board .play .few,
-)
+breaker-next-link-requires t c κs =
+    let w = c .before .before .before .before .before .before .before in
+    let w′ = w .before in
+    let k = w′ .before in
+    let d = k .before in
+    let start = d .before .before .before .before .before .before .before .before in (
+      may-try _ _ _ _ _ _ _ _ _ _ _ _ _ _ _ (start .pre .1) _ _ _ (k .at-risk .ensures) (w′ .wanting .ensures) (w .losses .ensures) _ (d
+          .needed .ensures .1),
+      from-within _ _ _ _ _ _ _ _ _ _ _ _ _ _ _ (start .pre .1) _ _ _ (k .at-risk .ensures) (w′ .wanting .ensures) (w
+          .losses .ensures) _ _ _ (d .needed .ensures .0) (c .before .before .before .before .before .first-worth .ensures) (c .before .before
+          .before .before .worth .ensures) _ (c .later .ensures),
+      start .pre .1 .turn .board .play .few,
+    )
 
 breaker-loop-holds : (t : ℕ) → breaker-lts.Need-loop-holds (breaker-calls t) (breaker-at t) breaker.Post breaker-Inv-loop breaker-μ-loop
 breaker-loop-holds t c =
-    breaks-first _ _ _ _ _ _ _ _ _ _ _ _ _ _ _ (c .before .before .before .before .before .before .before .before .before .before .before
-    .before .before .before .before .before .before .before .before .pre .1) _ _ _ (c .before .before .before .before .before .before .before
-    .before .before .before .at-risk .ensures) (c .before .before .before .before .before .before .before .before .before .wanting .ensures) (c
-    .before .before .before .before .before .before .before .before .losses .ensures) _ _ _ (c .before .before .before .before .before .before
-    .before .before .before .before .before .needed .ensures .0) (c .before .before .before .before .before .before .first-worth .ensures) (c
-    .before .before .before .before .before .worth .ensures) _ (c .before .later .ensures) _ (c .next-link .ensures)
+    let w′ = c .before .before .before .before .before .before .before .before .before in
+    let k = w′ .before in
+    let d = k .before in
+    let start = d .before .before .before .before .before .before .before .before in
+    breaks-first _ _ _ _ _ _ _ _ _ _ _ _ _ _ _ (start .pre .1) _ _ _ (k .at-risk .ensures) (w′ .wanting .ensures) (c .before .before
+    .before .before .before .before .before .before .losses .ensures) _ _ _ (d .needed .ensures .0) (c .before .before .before .before
+    .before .before .first-worth .ensures) (c .before .before .before .before .before .worth .ensures) _ (c .before .later .ensures) _ (c
+    .next-link .ensures)
 
 breaker-pick-requires : (t : ℕ) → breaker-lts.Need-pick-requires (breaker-calls t) (breaker-at t) breaker.Post breaker-Inv-loop breaker-μ-loop
-breaker-pick-requires t c κs = (
-  room _ _ _ _ _ _ _ _ _ _ _ _ _ _ _ (c .before .before .before .before .before .before .before .before .before .before .before .before
-      .before .before .before .before .before .before .before .before .before .pre .1) _ _ _ (c .before .before .before .before .before .before
-      .before .before .before .before .before .before .at-risk .ensures) (c .before .before .before .before .before .before .before .before
-      .before .before .before .wanting .ensures) (c .before .before .before .before .before .before .before .before .before .before .losses
-      .ensures) _ _ (c .before .loop .inv) (c .loop-test .taken),
-  omega (
-    arith,
-    c .before .before .before .before .before .before .before .before
-        .before .before .before .before .before .before .before .before .before .before .before .before .before .pre .1 .turn .early,
-    c .before
-        .before .before .before .before .before .before .before .before .before .before .before .before .before .before .before .before .before
-        .before .before .before .pre .1 .turn .board .play .short,
-  ),
-  omega (
-    arith,
-    c .loop-test .taken,
-    c .before .before .before .before .before
-        .before .before .before .before .before .before .before .before .before .before .before .before .before .before .before .before .pre .1
-        .turn .board .play .few,
-  ),
-)
+breaker-pick-requires t c κs =
+    let w = c .before .before .before .before .before .before .before .before .before .before in
+    let w′ = w .before in
+    let k = w′ .before in
+    let start = k .before .before .before .before .before .before .before .before .before in (
+      room _ _ _ _ _ _ _ _ _ _ _ _ _ _ _ (start .pre .1) _ _ _ (k .at-risk .ensures) (w′ .wanting .ensures) (w .losses .ensures) _ _ (c
+          .before .loop .inv) (c .loop-test .taken),
+      omega (arith, start .pre .1 .turn .early, start .pre .1 .turn .board .play .short),
+      omega
+          (arith, c .loop-test .taken, start .pre .1 .turn .board .play .few),
+    )
 
 breaker-hit-requires : (t : ℕ) → breaker-lts.Need-hit-requires (breaker-calls t) (breaker-at t) breaker.Post breaker-Inv-loop breaker-μ-loop
 breaker-hit-requires t c κs =
-    may-hit _ _ _ _ _ _ _ _ _ _ _ _ _ _ _ (c .before .before .before .before .before .before .before .before .before .before .before .before
-    .before .before .before .before .before .before .before .before .before .before .pre .1) _ _ _ (c .before .before .before .before .before
-    .before .before .before .before .before .before .before .before .at-risk .ensures) (c .before .before .before .before .before .before
-    .before .before .before .before .before .before .wanting .ensures) (c .before .before .before .before .before .before .before .before
-    .before .before .before .losses .ensures) _ _ (c .before .before .loop .inv) (c .before .loop-test .taken)
+    let w = c .before .before .before .before .before .before .before .before .before .before .before in
+    let w′ = w .before in
+    let k = w′ .before in
+    let start = k .before .before .before .before .before .before .before .before .before in
+    may-hit _ _ _ _ _ _ _ _ _ _ _ _ _ _ _ (start .pre .1) _ _ _ (k .at-risk .ensures) (w′ .wanting .ensures) (w .losses .ensures) _ _ (c
+    .before .before .loop .inv) (c .before .loop-test .taken)
 
 breaker-sub-breaker : (t : ℕ) → breaker-lts.Need-sub-breaker (breaker-calls t) (breaker-at t) breaker.Post breaker-Inv-loop breaker-μ-loop
 breaker-sub-breaker t c =
@@ -237,81 +221,62 @@ breaker-sub-breaker t c =
 
 breaker-add-breaker : (t : ℕ) → breaker-lts.Need-add-breaker (breaker-calls t) (breaker-at t) breaker.Post breaker-Inv-loop breaker-μ-loop
 breaker-add-breaker t c =
-    omega (
-      arith,
-      c .before .before .loop-test .taken,
-      c .before .before .before .before .before .before .before .before .before .before
-          .before .before .before .before .before .before .before .before .before .before .before .before .before .pre .1 .turn .board .play
-          .few,
-    )
+    let start = c .before .before .before .before .before .before .before .before .before .before .before .before .before .before .before
+    .before .before .before .before .before .before .before .before in
+    omega (arith, c .before .before .loop-test .taken, start .pre .1 .turn .board .play .few)
 
 breaker-breaker-requires : (t : ℕ) → breaker-lts.Need-breaker-requires (breaker-calls t) (breaker-at t) breaker.Post breaker-Inv-loop
     breaker-μ-loop
-breaker-breaker-requires t c κs = (
-  omega (
-    arith,
-    c .before .before .before .before .before .before .before .before .before .before .before .before .before .before .before
-        .before .before .before .before .before .before .before .before .pre .0,
-    c .before .before .loop-test .taken,
-    c .before .before .before
-        .loop .inv .start,
-  ),
-  may-cut _ _ _ _ _ _ _ _ _ _ _ _ _ _ _ (c .before .before .before .before .before .before .before .before .before
-      .before .before .before .before .before .before .before .before .before .before .before .before .before .before .pre .1) _ _ _ (c .before
-      .before .before .before .before .before .before .before .before .before .before .before .before .before .at-risk .ensures) (c .before
-      .before .before .before .before .before .before .before .before .before .before .before .before .wanting .ensures) (c .before .before
-      .before .before .before .before .before .before .before .before .before .before .losses .ensures) _ _ (c .before .before .before .loop
-      .inv) (c .before .before .loop-test .taken) _ (c .before .pick .ensures) _ (c .hit .ensures),
-)
+breaker-breaker-requires t c κs =
+    let w = c .before .before .before .before .before .before .before .before .before .before .before .before in
+    let w′ = w .before in
+    let k = w′ .before in
+    let start = k .before .before .before .before .before .before .before .before .before in (
+      omega (arith, start .pre .0, c .before .before .loop-test .taken, c .before .before .before .loop .inv .start),
+      may-cut _ _ _ _ _ _
+          _ _ _ _ _ _ _ _ _ (start .pre .1) _ _ _ (k .at-risk .ensures) (w′ .wanting .ensures) (w .losses .ensures) _ _ (c .before .before
+          .before .loop .inv) (c .before .before .loop-test .taken) _ (c .before .pick .ensures) _ (c .hit .ensures),
+    )
 
 breaker-needed-requires-2 : (t : ℕ) → breaker-lts.Need-needed-requires-2 (breaker-calls t) (breaker-at t) breaker.Post breaker-Inv-loop
     breaker-μ-loop
-breaker-needed-requires-2 t c κs = (
-  still-low _ _ _ _ _ _ _ _ _ _ _ _ _ _ _ (c .before .before .before .before .before .before .before .before .before .before .before .before
-      .before .before .before .before .before .before .before .before .before .before .before .before .pre .1) _ _ _ (c .before .before .before
-      .before .before .before .before .before .before .before .before .before .before .before .before .at-risk .ensures) (c .before .before
-      .before .before .before .before .before .before .before .before .before .before .before .before .wanting .ensures) (c .before .before
-      .before .before .before .before .before .before .before .before .before .before .before .losses .ensures) _ _ (c .before .before .before
-      .before .loop .inv) (c .before .before .before .loop-test .taken) _ (c .before .before .pick .ensures) _ (c .breaker .ensures),
-  c .before
-      .before .before .before .before .before .before .before .before .before .before .before .before .before .before .before .before .before
-      .before .before .before .before .before .before .pre .1 .turn .board .many,
-)
+breaker-needed-requires-2 t c κs =
+    let w = c .before .before .before .before .before .before .before .before .before .before .before .before .before in
+    let w′ = w .before in
+    let k = w′ .before in
+    let start = k .before .before .before .before .before .before .before .before .before in (
+      still-low _ _ _ _ _ _ _ _ _ _ _ _ _ _ _ (start .pre .1) _ _ _ (k .at-risk .ensures) (w′ .wanting .ensures) (w .losses .ensures) _ _
+          (c .before .before .before .before .loop .inv) (c .before .before .before .loop-test .taken) _ (c .before .before .pick .ensures) _
+          (c .breaker .ensures),
+      start .pre .1 .turn .board .many,
+    )
 
 breaker-slice-aggregate-next-link-2 : (t : ℕ) → breaker-lts.Need-slice-aggregate-next-link-2 (breaker-calls t) (breaker-at t) breaker.Post
     breaker-Inv-loop breaker-μ-loop
 breaker-slice-aggregate-next-link-2 t c =
-    sym (c .before .before .before .before .before .before .before .before .before .before .before .before .before .before .before .before
-    .before .before .before .before .before .before .before .before .before .before .pre .1 .turn .holding .size)
+    let start = c .before .before .before .before .before .before .before .before .before .before .before .before .before .before .before
+    .before .before .before .before .before .before .before .before .before .before .before in
+    sym (start .pre .1 .turn .holding .size)
 
 breaker-add-next-link : (t : ℕ) → breaker-lts.Need-add-next-link (breaker-calls t) (breaker-at t) breaker.Post breaker-Inv-loop breaker-μ-loop
 breaker-add-next-link t c =
-    omega (
-      arith,
-      c .before .before .before .before .before .loop-test .taken,
-      c .before .before .before .before .before .before .before
-          .before .before .before .before .before .before .before .before .before .before .before .before .before .before .before .before
-          .before
-          .before .before .pre .1 .turn .board .play .few,
-    )
+    let start = c .before .before .before .before .before .before .before .before .before .before .before .before .before .before .before
+    .before .before .before .before .before .before .before .before .before .before .before in
+    omega (arith, c .before .before .before .before .before .loop-test .taken, start .pre .1 .turn .board .play .few)
 
 breaker-next-link-requires-2 : (t : ℕ) → breaker-lts.Need-next-link-requires-2 (breaker-calls t) (breaker-at t) breaker.Post breaker-Inv-loop
     breaker-μ-loop
-breaker-next-link-requires-2 t c κs = (
-  may-try _ _ _ _ _ _ _ _ _ _ _ _ _ _ _ (c .before .before .before .before .before .before .before .before .before .before .before .before
-      .before .before .before .before .before .before .before .before .before .before .before .before .before .before .pre .1) _ _ _ (c .before
-      .before .before .before .before .before .before .before .before .before .before .before .before .before .before .before .before .at-risk
-      .ensures) (c .before .before .before .before .before .before .before .before .before .before .before .before .before .before .before
-      .before .wanting .ensures) (c .before .before .before .before .before .before .before .before .before .before .before .before .before
-      .before .before .losses .ensures) _ (c .before .needed2 .ensures .1),
-  omega (
-    arith,
-    c .before .before .before .before .before .loop-test
-        .taken,
-  ),
-  c .before .before .before .before .before .before .before .before .before .before .before .before .before .before .before .before
-      .before .before .before .before .before .before .before .before .before .before .pre .1 .turn .board .play .few,
-)
+breaker-next-link-requires-2 t c κs =
+    let w = c .before .before .before .before .before .before .before .before .before .before .before .before .before .before .before in
+    let w′ = w .before in
+    let k = w′ .before in
+    let start = k .before .before .before .before .before .before .before .before .before in (
+      may-try _ _ _ _ _ _ _ _ _ _ _ _ _ _ _ (start .pre .1) _ _ _ (k .at-risk .ensures) (w′ .wanting .ensures) (w .losses .ensures) _ (c
+          .before .needed2 .ensures .1),
+      omega (arith, c .before .before .before .before .before .loop-test .taken),
+      start .pre .1 .turn .board
+          .play .few,
+    )
 
 breaker-loop-less : (t : ℕ) → breaker-lts.Need-loop-less (breaker-calls t) (breaker-at t) breaker.Post breaker-Inv-loop breaker-μ-loop
 breaker-loop-less t c =
@@ -319,44 +284,41 @@ breaker-loop-less t c =
 
 breaker-loop-again : (t : ℕ) → breaker-lts.Need-loop-again (breaker-calls t) (breaker-at t) breaker.Post breaker-Inv-loop breaker-μ-loop
 breaker-loop-again t c =
-    breaks-on _ _ _ _ _ _ _ _ _ _ _ _ _ _ _ (c .before .before .before .before .before .before .before .before .before .before .before .before
-    .before .before .before .before .before .before .before .before .before .before .before .before .before .before .before .pre .1) _ _ _ (c
-    .before .before .before .before .before .before .before .before .before .before .before .before .before .before .before .before .before
-    .before .at-risk .ensures) (c .before .before .before .before .before .before .before .before .before .before .before .before .before
-    .before .before .before .before .wanting .ensures) (c .before .before .before .before .before .before .before .before .before .before
-    .before .before .before .before .before .before .losses .ensures) _ _ (c .before .before .before .before .before .before .before .loop
-    .inv) (c .before .before .before .before .before .before .loop-test .taken) _ (c .before .before .before .before .before .pick .ensures) _
-    (c .before .before .before .breaker .ensures) _ _ (c .before .before .needed2 .ensures .0) (c .next-link2 .ensures)
+    let w = c .before .before .before .before .before .before .before .before .before .before .before .before .before .before .before .before in
+    let w′ = w .before in
+    let k = w′ .before in
+    let start = k .before .before .before .before .before .before .before .before .before in
+    breaks-on _ _ _ _ _ _ _ _ _ _ _ _ _ _ _ (start .pre .1) _ _ _ (k .at-risk .ensures) (w′ .wanting .ensures) (w .losses .ensures) _ _
+    (c .before .before .before .before .before .before .before .loop .inv) (c .before .before .before .before .before .before .loop-test
+    .taken) _ (c .before .before .before .before .before .pick .ensures) _ (c .before .before .before .breaker .ensures) _ _ (c .before
+    .before .needed2 .ensures .0) (c .next-link2 .ensures)
 
 breaker-network-requires : (t : ℕ) → breaker-lts.Need-network-requires (breaker-calls t) (breaker-at t) breaker.Post breaker-Inv-loop
     breaker-μ-loop
-breaker-network-requires t c κs = (
-  omega (
-    arith,
-    c .before .before .before .before .before .before .before .before .before .before .before .before .before .before .before
-        .before .before .before .before .before .before .pre .0,
-  ),
-  may-pass _ _ _ _ _ _ _ _ _ _ _ _ _ _ _ (c .before .before .before .before .before
-      .before .before .before .before .before .before .before .before .before .before .before .before .before .before .before .before .pre .1) _
-      _ _ (c .before .before .before .before .before .before .before .before .before .before .before .before .at-risk .ensures) (c .before
-      .before .before .before .before .before .before .before .before .before .before .wanting .ensures) (c .before .before .before .before
-      .before .before .before .before .before .before .losses .ensures) _ _ _ (c .before .before .before .before .before .before .before .before
-      .before .before .before .before .before .needed .ensures .0) (c .before .before .before .before .before .before .before .before
-      .first-worth .ensures) (c .before .before .before .before .before .before .before .worth .ensures) _ _ (c .before .loop .inv) (c
-      .loop-test
-      .left),
-)
+breaker-network-requires t c κs =
+    let w = c .before .before .before .before .before .before .before .before .before .before in
+    let w′ = w .before in
+    let k = w′ .before in
+    let d = k .before in
+    let start = d .before .before .before .before .before .before .before .before in (
+      omega (arith, start .pre .0),
+      may-pass _ _ _ _ _ _ _ _ _ _ _ _ _ _ _ (start .pre .1) _ _ _ (k .at-risk .ensures) (w′ .wanting
+          .ensures) (w .losses .ensures) _ _ _ (d .needed .ensures .0) (c .before .before .before .before .before .before .before .before
+          .first-worth .ensures) (c .before .before .before .before .before .before .before .worth .ensures) _ _ (c .before .loop .inv) (c
+          .loop-test .left),
+    )
 
 breaker-returns-2 : (t : ℕ) → breaker-lts.Need-returns-2 (breaker-calls t) (breaker-at t) breaker.Post breaker-Inv-loop breaker-μ-loop
 breaker-returns-2 t c =
-    passed-on _ _ _ _ _ _ _ _ _ _ _ _ _ _ _ (c .before .before .before .before .before .before .before .before .before .before .before .before
-    .before .before .before .before .before .before .before .before .before .before .pre .1) _ _ _ (c .before .before .before .before .before
-    .before .before .before .before .before .before .before .before .at-risk .ensures) (c .before .before .before .before .before .before
-    .before .before .before .before .before .before .wanting .ensures) (c .before .before .before .before .before .before .before .before
-    .before .before .before .losses .ensures) _ _ _ (c .before .before .before .before .before .before .before .before .before .before .before
-    .before .before .before .needed .ensures .0) (c .before .before .before .before .before .before .before .before .before .first-worth
-    .ensures) (c .before .before .before .before .before .before .before .before .worth .ensures) _ _ (c .before .before .loop .inv) (c .before
-    .loop-test .left) _ (c .network .ensures)
+    let f′ = c .before .before .before .before .before .before .before .before .before in
+    let w = f′ .before .before in
+    let w′ = w .before in
+    let k = w′ .before in
+    let d = k .before in
+    let start = d .before .before .before .before .before .before .before .before in
+    passed-on _ _ _ _ _ _ _ _ _ _ _ _ _ _ _ (start .pre .1) _ _ _ (k .at-risk .ensures) (w′ .wanting .ensures) (w .losses .ensures) _ _ _
+    (d .needed .ensures .0) (f′ .first-worth .ensures) (c .before .before .before .before .before .before .before .before .worth
+    .ensures) _ _ (c .before .before .loop .inv) (c .before .loop-test .left) _ (c .network .ensures)
 
 network-advance-requires : (t : ℕ) → network-lts.Need-advance-requires (network-calls t) (network-at t) network.Post
 network-advance-requires t c κs =
@@ -364,46 +326,35 @@ network-advance-requires t c κs =
 
 network-add-next : (t : ℕ) → network-lts.Need-add-next (network-calls t) (network-at t) network.Post
 network-add-next t c =
-    omega (
-      arith,
-      c .before .before .before .before .before .before .before .pre .1 .early,
-      c .before .before .before .before .before .before
-          .before .pre .1 .board .play .short,
-    )
+    let start = c .before .before .before .before .before .before .before in
+    omega (arith, start .pre .1 .early, start .pre .1 .board .play .short)
 
 network-count-home-requires : (t : ℕ) → network-lts.Need-count-home-requires (network-calls t) (network-at t) network.Post
 network-count-home-requires t c κs =
-    c .before .before .before .before .before .before .before .before .before .pre .1 .board .many
+    let start = c .before .before .before .before .before .before .before .before .before in
+    start .pre .1 .board .many
 
 network-fewer-requires : (t : ℕ) → network-lts.Need-fewer-requires (network-calls t) (network-at t) network.Post
-network-fewer-requires t c κs =
-    search needs
+network-fewer-requires t c κs = search needs
 
 network-returns : (t : ℕ) → network-lts.Need-returns (network-calls t) (network-at t) network.Post
 network-returns t c =
-    ends _ _ _ _ _ _ _ _ _ _ _ _ _ (c .before .before .before .before .before .before .before .before .before .before .before .pre .1) _ (c
-    .before .before .before .before .advance .ensures) _ _ (c .before .before .if1 .taken) (c .before .count-home .ensures _) (c .fewer
-    .ensures)
+    let start = c .before .before .before .before .before .before .before .before .before .before .before in
+    ends _ _ _ _ _ _ _ _ _ _ _ _ _ (start .pre .1) _ (c .before .before .before .before .advance .ensures) _ _ (c .before .before .if1
+    .taken) (c .before .count-home .ensures _) (c .fewer .ensures)
 
 network-away-requires : (t : ℕ) → network-lts.Need-away-requires (network-calls t) (network-at t) network.Post
 network-away-requires t c κs =
-    c .before .before .before .before .before .before .before .before .before .pre .1 .board .many
+    let start = c .before .before .before .before .before .before .before .before .before in
+    start .pre .1 .board .many
 
 network-breaker-requires : (t : ℕ) → network-lts.Need-breaker-requires (network-calls t) (network-at t) network.Post
-network-breaker-requires t c κs = (
-  omega (
-    arith,
-    c .before .before .before .before .before .before .before .before .before .before .pre .0,
-    c .before .if1 .left,
-    c .before
-        .before .before .before .before .before .before .before .before .before .pre .1 .early,
-    c .before .before .before .before .before .before
-        .before .before .before .before .pre .1 .board .play .few,
-  ),
-  may-break _ _ _ _ _ _ _ _ _ _ _ _ _ (c .before .before .before .before .before
-      .before .before .before .before .before .pre .1) _ (c .before .before .before .advance .ensures) _ (c .away .ensures) (c .before .if1
-      .left),
-)
+network-breaker-requires t c κs =
+    let start = c .before .before .before .before .before .before .before .before .before .before in (
+      omega (arith, start .pre .0, c .before .if1 .left, start .pre .1 .early, start .pre .1 .board .play .few),
+      may-break _ _ _ _ _ _ _ _
+          _ _ _ _ _ (start .pre .1) _ (c .before .before .before .advance .ensures) _ (c .away .ensures) (c .before .if1 .left),
+    )
 
 network-returns-2 : (t : ℕ) → network-lts.Need-returns-2 (network-calls t) (network-at t) network.Post
 network-returns-2 t c =

@@ -31,47 +31,41 @@ slice-aggregate-figures-line c =
     sym (length-take-le _ _ (omega (
       arith,
       fits _ _ (c .before .before .before .before .before .highest .ensures),
-      c .before .before .before
-          .figures-good .kept,
+      c .before .before
+          .before .figures-good .kept,
     )))
 
 figures-line-requires : tie.Need-figures-line-requires
 figures-line-requires c κs =
-    may-tell _ _ _ _ (c .before .before .before .before .before .before .before .before .before .pre .0) (c .before .before .before .before
-    .before .before .before .before .before .pre .1) _ (c .before .before .before .before .before .highest .ensures) _ (good-told _ _
-    (replicate 4 0) _ _ (c .before .before .before .before .before .before .before .before .before .pre .0) (highest-few _ _ (c .before .before
-    .before .before .before .highest .ensures)) (fits _ _ (c .before .before .before .before .before .highest .ensures)) (c .before .before
-    .before .figures-good .ensures))
+    let h′ = c .before .before .before .before .before in
+    let start = h′ .before .before .before .before in
+    may-tell _ _ _ _ (start .pre .0) (start .pre .1) _ (h′ .highest .ensures) _ (good-told _ _ (replicate 4 0) _ _ (start .pre .0)
+    (highest-few _ _ (h′ .highest .ensures)) (fits _ _ (h′ .highest .ensures)) (c .before .before .before .figures-good .ensures))
 
 messages-requires : tie.Need-messages-requires
 messages-requires c κs = search needs
 
 array-share-prefix-all-2 : tie.Need-array-share-prefix-all-2
 array-share-prefix-all-2 c =
-    omega (
-      arith,
-      fits _ _ (c .before .before .before .before .before .before .before .before .before .highest .ensures),
-      c .before .before
-          .before .before .before .before .before .figures-good .kept,
-    )
+    let h′ = c .before .before .before .before .before .before .before .before .before in
+    omega (arith, fits _ _ (h′ .highest .ensures), c .before .before .before .before .before .before .before .figures-good .kept)
 
 slice-aggregate-add : tie.Need-slice-aggregate-add
 slice-aggregate-add c =
+    let h′ = c .before .before .before .before .before .before .before .before .before .before in
     sym (length-take-le _ _ (omega (
       arith,
-      fits _ _ (c .before .before .before .before .before .before .before .before .before .before .highest
-          .ensures),
-      c .before .before .before .before .before .before .before .before .figures-good .kept,
+      fits _ _ (h′ .highest .ensures),
+      c .before .before .before .before .before .before .before
+          .before .figures-good .kept,
     )))
 
 add-requires : tie.Need-add-requires
 add-requires c κs =
-    may-add _ _ _ _ (c .before .before .before .before .before .before .before .before .before .before .before .before .before .before .pre .0)
-    (c .before .before .before .before .before .before .before .before .before .before .before .before .before .before .pre .1) _ (c .before
-    .before .before .before .before .before .before .before .before .before .highest .ensures) _ (good-told _ _ (replicate 4 0) _ _ (c .before
-    .before .before .before .before .before .before .before .before .before .before .before .before .before .pre .0) (highest-few _ _ (c
-    .before .before .before .before .before .before .before .before .before .before .highest .ensures)) (fits _ _ (c .before .before .before
-    .before .before .before .before .before .before .before .highest .ensures)) (c .before .before .before .before .before .before .before
+    let h′ = c .before .before .before .before .before .before .before .before .before .before in
+    let start = h′ .before .before .before .before in
+    may-add _ _ _ _ (start .pre .0) (start .pre .1) _ (h′ .highest .ensures) _ (good-told _ _ (replicate 4 0) _ _ (start .pre .0)
+    (highest-few _ _ (h′ .highest .ensures)) (fits _ _ (h′ .highest .ensures)) (c .before .before .before .before .before .before .before
     .before .figures-good .ensures)) _ (c .before .messages .ensures .is)
 
 same-length : tie.Need-same-length
@@ -79,14 +73,12 @@ same-length c = search needs
 
 returns : tie.Need-returns
 returns c =
-    rates _ _ _ _ (c .before .before .before .before .before .before .before .before .before .before .before .before .before .before .before
-    .pre .0) (c .before .before .before .before .before .before .before .before .before .before .before .before .before .before .before .pre
-    .1) _ (c .before .before .before .before .before .before .before .before .before .before .before .highest .ensures) _ (good-told _ _
-    (replicate 4 0) _ _ (c .before .before .before .before .before .before .before .before .before .before .before .before .before .before
-    .before .pre .0) (highest-few _ _ (c .before .before .before .before .before .before .before .before .before .before .before .highest
-    .ensures)) (fits _ _ (c .before .before .before .before .before .before .before .before .before .before .before .highest .ensures)) (c
-    .before .before .before .before .before .before .before .before .before .figures-good .ensures)) _ _ _ _ (c .before .before .messages
-    .ensures .is) (c .before .before .before .before .before .figures-line .ensures) (c .add .ensures)
+    let f′ = c .before .before .before .before .before .before .before .before .before in
+    let h′ = f′ .before .before in
+    let start = h′ .before .before .before .before in
+    rates _ _ _ _ (start .pre .0) (start .pre .1) _ (h′ .highest .ensures) _ (good-told _ _ (replicate 4 0) _ _ (start .pre .0)
+    (highest-few _ _ (h′ .highest .ensures)) (fits _ _ (h′ .highest .ensures)) (f′ .figures-good .ensures)) _ _ _ _ (c .before .before
+    .messages .ensures .is) (c .before .before .before .before .before .figures-line .ensures) (c .add .ensures)
 
 pub rated-spec : {M : Type 1} → statement M
 rated-spec =

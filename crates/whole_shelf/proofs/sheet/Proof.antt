@@ -31,8 +31,8 @@ name-end-requires c κs = search needs
 
 sub-shelve : tie.Need-sub-shelve Inv-loop μ-loop
 sub-shelve c =
-    end-after _ _ (c .before .before .before .before .before .before .before .pre .0) _ _ _ _ _ _ (c .before .before .loop .inv) (c .before
-    .loop-test .taken) _ (c .name-end .ensures)
+    end-after _ _ (c .before .before .before .before .before .before .before .pre .0) _ _ _ _ _ _ (c .before .before .loop .inv) (c
+    .before .loop-test .taken) _ (c .name-end .ensures)
 
 part-shelve-start : tie.Need-part-shelve-start Inv-loop μ-loop
 part-shelve-start c =
@@ -40,61 +40,59 @@ part-shelve-start c =
 
 part-shelve-end : tie.Need-part-shelve-end Inv-loop μ-loop
 part-shelve-end c =
+    let start = c .before .before .before .before .before .before .before in
     omega (
       arith,
-      end-after _ _ (c .before .before .before .before .before .before .before .pre .0) _ _ _ _ _ _ (c .before .before .loop .inv)
-          (c .before .loop-test .taken) _ (c .name-end .ensures),
-      end-within _ _ (c .before .before .before .before .before .before .before .pre .0)
-          _ _ _ _ _ _ (c .before .before .loop .inv) (c .before .loop-test .taken) _ (c .name-end .ensures),
+      end-after _ _ (start .pre .0) _ _ _ _ _ _ (c .before .before .loop .inv) (c .before .loop-test .taken) _ (c .name-end
+          .ensures),
+      end-within _ _ (start .pre .0) _ _ _ _ _ _ (c .before .before .loop .inv) (c .before .loop-test .taken) _ (c .name-end
+          .ensures),
     )
 
 shelve-requires : tie.Need-shelve-requires Inv-loop μ-loop
 shelve-requires c κs =
-    may-lay _ _ (c .before .before .before .before .before .before .before .before .before .pre .0) _ _ _ _ _ _ (c .before .before .before
-    .before .loop .inv) (c .before .before .before .loop-test .taken) _ (c .before .before .name-end .ensures) _ refl
+    let start = c .before .before .before .before .before .before .before .before .before in
+    may-lay _ _ (start .pre .0) _ _ _ _ _ _ (c .before .before .before .before .loop .inv) (c .before .before .before .loop-test .taken)
+    _ (c .before .before .name-end .ensures) _ refl
 
 add-from : tie.Need-add-from Inv-loop μ-loop
 add-from c =
+    let start = c .before .before .before .before .before .before .before .before .before .before .before .before .before in
     omega (
       arith,
-      end-within _ _ (c .before .before .before .before .before .before .before .before .before .before .before .before .before
-          .pre .0) _ _ _ _ _ _ (c .before .before .before .before .before .before .before .before .loop .inv) (c .before .before .before .before
-          .before .before .before .loop-test .taken) _ (c .before .before .before .before .before .before .name-end .ensures),
+      end-within _ _ (start .pre .0) _ _ _ _ _ _ (c .before .before .before .before .before .before .before .before .loop
+          .inv) (c .before .before .before .before .before .before .before .loop-test .taken) _ (c .before .before .before .before .before
+          .before .name-end .ensures),
     )
 
 add-done : tie.Need-add-done Inv-loop μ-loop
 add-done c =
-    omega (
-      arith,
-      c .before .before .before .before .before .before .before .before .loop .inv .count,
-      few _ _ (c .before .before .before
-          .before .before .before .before .before .before .before .before .before .before .pre .0) _ _ _ _ _ _ (c .before .before .before
-          .before
-          .before .before .before .before .loop .inv),
-    )
+    let l = c .before .before .before .before .before .before .before .before in
+    let start = l .before .before .before .before .before in
+    omega (arith, l .loop .inv .count, few _ _ (start .pre .0) _ _ _ _ _ _ (l .loop .inv))
 
 progress-requires : tie.Need-progress-requires Inv-loop μ-loop
 progress-requires c κs = search needs
 
 loop-less : tie.Need-loop-less Inv-loop μ-loop
 loop-less c =
+    let t = c .before .before .before .before .before .before .before .before in
+    let l = t .before in
+    let start = l .before .before .before .before .before in
     omega (
       arith,
-      c .before .before .before .before .before .before .before .before .loop-test .taken,
-      end-after _ _ (c .before .before .before
-          .before .before .before .before .before .before .before .before .before .before .before .pre .0) _ _ _ _ _ _ (c .before .before
-          .before
-          .before .before .before .before .before .before .loop .inv) (c .before .before .before .before .before .before .before .before
-          .loop-test
-          .taken) _ (c .before .before .before .before .before .before .before .name-end .ensures),
+      t .loop-test .taken,
+      end-after _ _ (start .pre .0) _ _ _ _ _ _ (l .loop .inv) (t .loop-test .taken) _ (c .before
+          .before .before .before .before .before .before .name-end .ensures),
     )
 
 loop-again : tie.Need-loop-again Inv-loop μ-loop
 loop-again c =
-    laying-on _ _ (c .before .before .before .before .before .before .before .before .before .before .before .before .before .before .pre .0) _
-    _ _ _ _ _ (c .before .before .before .before .before .before .before .before .before .loop .inv) (c .before .before .before .before .before
-    .before .before .before .loop-test .taken) _ (c .before .before .before .before .before .before .before .name-end .ensures) _ _ _ refl (c
-    .before .before .before .before .shelve .ensures)
+    let l = c .before .before .before .before .before .before .before .before .before in
+    let start = l .before .before .before .before .before in
+    laying-on _ _ (start .pre .0) _ _ _ _ _ _ (l .loop .inv) (c .before .before .before .before .before .before .before .before
+    .loop-test .taken) _ (c .before .before .before .before .before .before .before .name-end .ensures) _ _ _ refl (c .before .before
+    .before .before .shelve .ensures)
 
 sum-lines-requires : tie.Need-sum-lines-requires Inv-loop μ-loop
 sum-lines-requires c κs =
@@ -106,8 +104,9 @@ same-length c =
 
 returns : tie.Need-returns Inv-loop μ-loop
 returns c =
-    laid-all _ _ (c .before .before .before .before .before .before .before .before .before .before .pre .0) _ _ _ _ _ _ (c .before .before
-    .before .before .before .loop .inv) _ _ (c .before .before .before .before .loop-test .left) (c .before .before .sum-lines .ensures)
+    let start = c .before .before .before .before .before .before .before .before .before .before in
+    laid-all _ _ (start .pre .0) _ _ _ _ _ _ (c .before .before .before .before .before .loop .inv) _ _ (c .before .before .before
+    .before .loop-test .left) (c .before .before .sum-lines .ensures)
 
 pub sheet-spec : {M : Type 1} → statement M
 sheet-spec =

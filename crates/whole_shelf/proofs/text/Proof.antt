@@ -20,16 +20,12 @@ slice-aggregate-sheet c =
     came-whole _ _ _ (c .before .before .before .before .before .before .before .before .pre .0)
 
 sheet-requires : tie.Need-sheet-requires
-sheet-requires c κs = (
-  may-read (c .before .before .before .before .before .before .before .before .before .args .input .now) (c .before .before .before .before
-      .before .before .before .before .before .args .n) (c .before .before .before .before .before .before .before .before .before .args .out
-      .now) (c .before .before .before .before .before .before .before .before .before .args .out .now) (c .before .before .before .before
-      .before .before .before .before .before .pre .1) (c .before .before .before .before .before .before .before .before .before .pre
-      .2) _ _ (c
-      .before .before .before .before .before .check-names .ensures) (c .before .before .before .checked .given .1),
-  c .before .before .before
-      .before .before .before .before .before .before .pre .2,
-)
+sheet-requires c κs =
+    let start = c .before .before .before .before .before .before .before .before .before in (
+      may-read (start .args .input .now) (start .args .n) (start .args .out .now) (start .args .out .now) (start .pre .1) (start .pre .2)
+          _ _ (c .before .before .before .before .before .check-names .ensures) (c .before .before .before .checked .given .1),
+      start .pre .2,
+    )
 
 enum-known-checked-2 : tie.Need-enum-known-checked-2
 enum-known-checked-2 c = search needs
@@ -42,22 +38,20 @@ same-length c = search needs
 
 returns : tie.Need-returns
 returns c =
-    shown-sheet (c .before .before .before .before .before .before .before .before .before .before .before .before .args .input .now) (c
-    .before .before .before .before .before .before .before .before .before .before .before .before .args .n) _ _ (c .before .before .before
-    .before .before .before .before .before .before .before .before .before .pre .1) (c .before .before .before .before .before .before .before
-    .before .before .before .before .before .pre .2) _ _ (c .before .before .before .before .before .before .before .before .check-names
-    .ensures) (c .before .before .before .before .before .before .checked .given .1) _ (c .before .before .sheet .ensures)
+    let start = c .before .before .before .before .before .before .before .before .before .before .before .before in
+    shown-sheet (start .args .input .now) (start .args .n) _ _ (start .pre .1) (start .pre .2) _ _ (c .before .before .before .before
+    .before .before .before .before .check-names .ensures) (c .before .before .before .before .before .before .checked .given .1) _ (c
+    .before .before .sheet .ensures)
 
 same-length-2 : tie.Need-same-length-2
 same-length-2 c = search needs
 
 returns-2 : tie.Need-returns-2
 returns-2 c =
-    shown-refused (c .before .before .before .before .before .before .before .before .before .before .before .args .input .now) (c .before
-    .before .before .before .before .before .before .before .before .before .before .args .n) _ _ (c .before .before .before .before .before
-    .before .before .before .before .before .before .pre .1) (c .before .before .before .before .before .before .before .before .before .before
-    .before .pre .2) _ _ (c .before .before .before .before .before .before .before .check-names .ensures) (c .before .before .before .before
-    .before .checked2 .given .1) _ (c .before .before .refusal-text .ensures)
+    let start = c .before .before .before .before .before .before .before .before .before .before .before in
+    shown-refused (start .args .input .now) (start .args .n) _ _ (start .pre .1) (start .pre .2) _ _ (c .before .before .before .before
+    .before .before .before .check-names .ensures) (c .before .before .before .before .before .checked2 .given .1) _ (c .before .before
+    .refusal-text .ensures)
 
 pub text-spec : {M : Type 1} → statement M
 text-spec =
