@@ -33,3 +33,10 @@ none-of-five false true c d e h = absurd (true≢false h)
 none-of-five false false true d e h = absurd (true≢false h)
 none-of-five false false false true e h = absurd (true≢false h)
 none-of-five false false false false e h = (refl, refl, refl, refl, h)
+
+-- nor of six
+pub none-of-six : (a b c d e f : Bool) → (a || b || c || d || e || f) ≡ false →
+    (a ≡ false) × (b ≡ false) × (c ≡ false) × (d ≡ false) × (e ≡ false) × (f ≡ false)
+none-of-six a b c d e f h =
+    let r = none-of-five a b c d e (or-left (a || b || c || d || e) f h) in
+    (r .0, r .1, r .2, r .3, r .4, or-right (a || b || c || d || e) f h)

@@ -9,9 +9,10 @@ use lib.Dec.{ltb, eqb}
 use borrow.Author.Tests.{ltb-true, ltb-false, eqb-false}
 use Rattle.scope.specs.Lowest.{lowest, some}
 use Rattle.scope.specs.Plan.{Plan}
+use Rattle.scope.specs.Cables.{isHigher}
 use Rattle.scope.specs.Cuts.{pairs, cutSlot, cutLink, falls, badPair, isCutList}
 use Rattle.scope.proofs.Lowest.{seek-low}
-use Rattle.scope.proofs.Bools.{none-of-five, not-true, not-false}
+use Rattle.scope.proofs.Bools.{none-of-six, not-true, not-false}
 
 module _ (plan : Plan) (cuts : List ℕ) (good : isCutList plan cuts ≡ true) where
   -- no pair of it is bad
@@ -20,15 +21,15 @@ module _ (plan : Plan) (cuts : List ℕ) (good : isCutList plan cuts ≡ true) w
       let far : pairs cuts ≤ lowest (badPair plan cuts) (pairs cuts) = ltb-false _ _ (not-true _ good) in
       seek-low (badPair plan cuts) (pairs cuts) 0 i (omega arith) (omega arith)
 
-  -- each of the five things that make a pair bad is false of it
+  -- each of the six things that make a pair bad is false of it
   parts : (i : ℕ) → i < pairs cuts →
       (eqb (length cuts) (2 * i + 1) ≡ false) × (not (ltb (cutSlot cuts i) (plan .timeout)) ≡ false) ×
       (not (ltb (cutLink cuts i) (length (plan .links))) ≡ false) × (falls cuts i ≡ false) ×
-      (some (λ j. eqb (cutLink cuts j) (cutLink cuts i)) i ≡ false)
+      (some (λ j. eqb (cutLink cuts j) (cutLink cuts i)) i ≡ false) × (isHigher plan (cutLink cuts i) ≡ false)
   parts i h =
-      none-of-five (eqb (length cuts) (2 * i + 1)) (not (ltb (cutSlot cuts i) (plan .timeout)))
+      none-of-six (eqb (length cuts) (2 * i + 1)) (not (ltb (cutSlot cuts i) (plan .timeout)))
       (not (ltb (cutLink cuts i) (length (plan .links)))) (falls cuts i) (some (λ j. eqb (cutLink cuts j) (cutLink cuts i)) i)
-      (not-bad i h)
+      (isHigher plan (cutLink cuts i)) (not-bad i h)
 
   pub slot-below : (i : ℕ) → i < pairs cuts → cutSlot cuts i < plan .timeout
   slot-below i h = ltb-true _ _ (not-false _ (parts i h .1))
@@ -41,6 +42,9 @@ module _ (plan : Plan) (cuts : List ℕ) (good : isCutList plan cuts ≡ true) w
 
   pub once : (i : ℕ) → i < pairs cuts → some (λ j. eqb (cutLink cuts j) (cutLink cuts i)) i ≡ false
   once i h = parts i h .4
+
+  pub not-higher : (i : ℕ) → i < pairs cuts → isHigher plan (cutLink cuts i) ≡ false
+  not-higher i h = parts i h .5
 
   -- it has two numbers a pair
   pub even : length cuts ≡ 2 * pairs cuts

@@ -9,7 +9,8 @@ use borrow.Author.Tests.{le-ltb, ne-eqb}
 use Rattle.scope.specs.Lowest.{seek}
 use Rattle.scope.specs.Plan.{numbersAt, linksAt, placesAt, afterPlaces, messagesAt, afterMessages, planOf}
 use Rattle.scope.specs.Good.{holds}
-use Rattle.scope.specs.Cuts.{isCut, isCutList}
+use Rattle.scope.specs.Cables.{otherWay}
+use Rattle.scope.specs.Cuts.{isCut, cutsLink, isCutList}
 use Rattle.scope.specs.Cycle.{foremost, tableOf, moves, slot, numbers, positions, events, eventRow}
 use Rattle.scope.specs.Verdict.{earlier, goesBefore}
 use Rattle.scope.specs.Capture.{isCaptured, hasCrossing, Explains, FirstExplaining}
@@ -27,7 +28,7 @@ is-other j true = refl
 is-other j false = refl
 
 explains : Explains (planOf rowB) seenB (1 ∷ 0 ∷ [])
-unfolding Explains hasCrossing isCaptured eventRow events numbers seek isCut foremost tableOf moves slot positions numbersAt linksAt placesAt
+unfolding Explains hasCrossing isCaptured eventRow events numbers seek isCut cutsLink otherWay foremost tableOf moves slot positions numbersAt linksAt placesAt
     afterPlaces messagesAt afterMessages planOf holds
 explains zero e zero l g = is-one 0 (eqb 0 e) refl
 explains zero e (suc zero) l g = is-other 0 (eqb 0 e)
@@ -46,7 +47,7 @@ explains (suc (suc (suc (suc i)))) e m l g = absurd (omega arith)
 -- the lists that go before: of none of them are these the crossings
 before : (others : List ℕ) → isCutList (planOf rowB) others ≡ true → Explains (planOf rowB) seenB others →
     goesBefore others (1 ∷ 0 ∷ []) ≡ false
-unfolding Explains hasCrossing isCaptured eventRow events numbers seek isCut foremost tableOf moves slot positions numbersAt linksAt placesAt
+unfolding Explains hasCrossing isCaptured eventRow events numbers seek isCut cutsLink otherWay foremost tableOf moves slot positions numbersAt linksAt placesAt
     afterPlaces messagesAt afterMessages planOf holds goesBefore earlier
 before [] g h = absurd (true≢false (h 1 0 1 (lit< tt) (lit< tt)))
 before (a ∷ []) g h = absurd (omega (arith, even (planOf rowB) (a ∷ []) g))
@@ -60,5 +61,5 @@ before (suc (suc a) ∷ b ∷ []) g h = rw (le-ltb (suc (suc a)) 1 (omega arith)
 before (a ∷ b ∷ c ∷ cs) g h = longer (a ∷ b ∷ c ∷ cs) (1 ∷ 0 ∷ []) (omega arith)
 
 pub first-of-B : FirstExplaining (planOf rowB) 2 seenB (1 ∷ 0 ∷ [])
-unfolding seek isCut planOf linksAt
+unfolding seek isCut cutsLink otherWay planOf linksAt
 first-of-B = record { good = refl; few = lit≤ tt; answers = explains; first = before }

@@ -1,6 +1,7 @@
 pub mod Bools
 pub mod Outcomes
 pub mod Lowest
+pub mod Cables
 pub mod Cuts
 pub mod Order
 pub mod First
@@ -11,3 +12,4 @@ pub mod Some
 pub mod Rules
 pub mod PathFaults
 pub mod GoodAsBefore
+pub mod OneWay

@@ -7,6 +7,7 @@ use mathlib.Core.List.{List, [], _∷_}
 use lib.ListN.{length, getD}
 use lib.IntN.{ℤ, pos, negsuc}
 use lib.Dec.{eqb}
+use Rattle.scope.specs.Limits.{longestEvents}
 use Rattle.scope.specs.Outcome.{Outcome, gives, refuse, refuseOn}
 use Rattle.scope.specs.File.{rowOf, fileOf}
 use Rattle.scope.specs.Plan.{planOf}
@@ -48,10 +49,10 @@ rowA =
 abbrev pub rowLate : List ℕ
 rowLate = 1 ∷ 2 ∷ 2 ∷ 1 ∷ 2 ∷ 0 ∷ 1 ∷ 0 ∷ 2 ∷ 2 ∷ 1 ∷ 0 ∷ 0 ∷ 0 ∷ 1 ∷ 1 ∷ 1 ∷ 2 ∷ 0 ∷ 0 ∷ 2 ∷ 1 ∷ 1 ∷ 1 ∷ 2 ∷ []
 
--- the same with a link 3 from 1 to 0 and a message 2 on it in slot 0: a cut in slot 0 of link 3, and one in slot 2 of link 0, each lose one
+-- the same with a link 3 from 1 to 3 and a message 2 on it in slot 0: a cut in slot 0 of link 3, and one in slot 2 of link 0, each lose one
 abbrev pub rowOrder : List ℕ
 rowOrder =
-    1 ∷ 2 ∷ 3 ∷ 2 ∷ 2 ∷ 0 ∷ 1 ∷ 0 ∷ 2 ∷ 2 ∷ 1 ∷ 1 ∷ 0 ∷ 0 ∷ 0 ∷ 0 ∷ 1 ∷ 1 ∷ 1 ∷ 2 ∷ 0 ∷ 0 ∷ 2 ∷ 1 ∷ 1 ∷ 1 ∷ 2 ∷ 0 ∷ 3 ∷ 0 ∷ 0 ∷ []
+    1 ∷ 3 ∷ 3 ∷ 2 ∷ 2 ∷ 0 ∷ 1 ∷ 0 ∷ 2 ∷ 2 ∷ 1 ∷ 1 ∷ 3 ∷ 0 ∷ 0 ∷ 0 ∷ 1 ∷ 1 ∷ 1 ∷ 2 ∷ 0 ∷ 0 ∷ 2 ∷ 1 ∷ 1 ∷ 1 ∷ 2 ∷ 0 ∷ 3 ∷ 0 ∷ 0 ∷ []
 
 -- links 0→1, 1→3, 0→2, 2→1; one message: links 0, 1 in slots 0, 2, second path 2, 3, 1 from place 0, which meets its own entry on link 1
 abbrev pub rowOwn : List ℕ
@@ -86,6 +87,14 @@ rowOne = 1 ∷ 1 ∷ 0 ∷ 0 ∷ 0 ∷ 0 ∷ 1 ∷ 0 ∷ 0 ∷ 0 ∷ 0 ∷ []
 abbrev pub rowTwo : List ℕ
 rowTwo = 1 ∷ 3 ∷ 1 ∷ 1 ∷ 0 ∷ 0 ∷ 1 ∷ 2 ∷ 3 ∷ 0 ∷ 0 ∷ 0 ∷ 0 ∷ 0 ∷ 1 ∷ 0 ∷ 0 ∷ []
 
+-- links 0→1, 1→0 and t = 2: one cable, and a message each way in slot 0
+abbrev pub rowBothWays : List ℕ
+rowBothWays = 1 ∷ 1 ∷ 1 ∷ 1 ∷ 1 ∷ 0 ∷ 1 ∷ 1 ∷ 0 ∷ 0 ∷ 0 ∷ 0 ∷ 0 ∷ 0 ∷ 1 ∷ 0 ∷ 0 ∷ []
+
+-- links 1→2, 0→1, 0→2, 2→1 and t = 4; one message: link 1 in slot 0, second path 2, 3; link 3 is the other way of link 0, which nobody has
+abbrev pub rowGoesBack : List ℕ
+rowGoesBack = 1 ∷ 2 ∷ 3 ∷ 0 ∷ 3 ∷ 1 ∷ 2 ∷ 0 ∷ 1 ∷ 0 ∷ 2 ∷ 2 ∷ 1 ∷ 0 ∷ 1 ∷ 0 ∷ 1 ∷ 1 ∷ 2 ∷ 3 ∷ []
+
 -- link 0 is down in slot 0 and whole again from slot 1 on: no cut list does this, and a message once turned stays turned
 abbrev pub brief : ℕ → ℕ → Bool
 brief i e = eqb i 0 && eqb e 0
@@ -106,6 +115,8 @@ pub data Case : Type 0 where
   same : List ℕ → List ℕ → Case
   -- a row, a cut list, the arrivals and the events
   plays : List ℕ → List ℕ → ℕ → List ℕ → Case
+  -- a row, a cut list, and what is refused of them, whatever room is lent
+  playsNot : List ℕ → List ℕ → Outcome → Case
   -- a row, a cut list, a message, and the time at which it arrives
   arrives : List ℕ → List ℕ → ℕ → ℕ → Case
   -- a row, what is down in which slot, and the events
@@ -133,6 +144,7 @@ Holds (same file row) =
     (writeFile row (length file) ≡ gives (length file))
 Holds (plays row cuts n told) =
     (replay row cuts (length told) ≡ gives n) × (eventRow (planOf row) cuts ≡ told)
+Holds (playsNot row cuts says) = (replay row cuts 0 ≡ says) × (replay row cuts longestEvents ≡ says)
 Holds (arrives row cuts m time) = (thereAt row cuts m (time - 1) ≡ false) × (thereAt row cuts m time ≡ true)
 Holds (comesAndGoes row down told) =
     events (orderOf (planOf row)) down (tableOf (planOf row)) 0 (planOf row .timeout) (start (planOf row)) ≡ told
@@ -254,6 +266,21 @@ shelfTable =
     -- b, line feed, line feed: an empty name in line 1, `refused 24 place 1`
     shelves (98 ∷ 10 ∷ 10 ∷ []) []
     (114 ∷ 101 ∷ 102 ∷ 117 ∷ 115 ∷ 101 ∷ 100 ∷ 32 ∷ 50 ∷ 52 ∷ 32 ∷ 112 ∷ 108 ∷ 97 ∷ 99 ∷ 101 ∷ 32 ∷ 49 ∷ 10 ∷ []) ∷
+    []
+
+-- request [3]: one cut takes both ways of a cable, and the lower link alone names it
+abbrev pub cableTable : List Case
+cableTable =
+    plays rowBothWays (0 ∷ 0 ∷ []) 0 (6 ∷ 0 ∷ 6 ∷ 1 ∷ 6 ∷ 0 ∷ 6 ∷ 1 ∷ []) ∷
+    plays rowBothWays (1 ∷ 0 ∷ []) 2 (2 ∷ 0 ∷ 2 ∷ 1 ∷ 0 ∷ 0 ∷ 0 ∷ 0 ∷ []) ∷
+    playsNot rowBothWays (0 ∷ 1 ∷ []) (refuse 12 0) ∷
+    playsNot rowBothWays (0 ∷ 0 ∷ 0 ∷ 1 ∷ []) (refuse 12 1) ∷
+    fails rowBothWays 1 1 (0 ∷ 0 ∷ []) ∷
+    rates rowBothWays 1 (2 ∷ 0 ∷ []) ∷
+    -- the message turns in slot 0, has two slots to spare, and finds link 3 cut, by the pair that names link 0
+    spares rowGoesBack 0 0 (pos 2) ∷
+    plays rowGoesBack (0 ∷ 0 ∷ 0 ∷ 1 ∷ []) 0 (3 ∷ 2 ∷ 7 ∷ 3 ∷ 7 ∷ 3 ∷ 7 ∷ 3 ∷ []) ∷
+    fails rowGoesBack 2 1 (0 ∷ 0 ∷ 0 ∷ 1 ∷ []) ∷
     []
 
 -- every row of a table holds

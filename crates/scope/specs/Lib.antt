@@ -10,9 +10,11 @@ pub mod Plan
 pub mod Good
 pub mod PathRules
 pub mod Rules
+pub mod Cables
 pub mod Cuts
 pub mod Slot
 pub mod Cycle
+pub mod OneWay
 pub mod Verdict
 pub mod Game
 pub mod Capture

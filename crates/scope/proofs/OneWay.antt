@@ -1,0 +1,64 @@
+-- A plan without reversed links is answered as document 01 answers it.
+use Prim.Native.Nat.{ℕ, _+_, _*_, _<_}
+use native.Mathlib.Omega.{arith}
+use mathlib.Core.Path.{_≡_, refl, _∙_, ap, fun-ext}
+use mathlib.Core.Bool.{Bool, true, false, not, _&&_, _||_, or-false, or-true}
+use mathlib.Core.List.{List}
+use lib.ListN.{length}
+use lib.Dec.{ltb, leb, eqb}
+use borrow.Author.Tests.{ltb-true, le-ltb}
+use Rattle.scope.specs.Lowest.{some}
+use Rattle.scope.specs.Outcome.{gives, unlessSome}
+use Rattle.scope.specs.Plan.{Plan}
+use Rattle.scope.specs.Cables.{otherWay, isHigher}
+use Rattle.scope.specs.Cuts.{pairs, cutSlot, cutLink, falls, badPair, checkCuts, isCutList, cutsLink, isCut}
+use Rattle.scope.specs.Cycle.{orderOf, tableOf, start, positions, events, arrived, arrivals, eventRow}
+use Rattle.scope.specs.OneWay.{NoReversedLinks, badLinkPair, isLinkCut, AsBefore}
+use Rattle.scope.proofs.Cuts.{link-below}
+use Rattle.scope.proofs.Some.{some-same}
+
+module _ (plan : Plan) (none : NoReversedLinks plan) where
+  -- no link of the plan is the higher one of a cable
+  same-bad : (cuts : List ℕ) (i : ℕ) → badPair plan cuts i ≡ badLinkPair plan cuts i
+  same-bad cuts i = by (ltb (cutLink cuts i) (length (plan .links))) refl
+    where
+      past : (a b c d e : Bool) → (a || b || true || c || d || e) ≡ (a || b || true || c || d)
+      past true b c d e = refl
+      past false true c d e = refl
+      past false false c d e = refl
+
+      by : (b : Bool) → ltb (cutLink cuts i) (length (plan .links)) ≡ b → badPair plan cuts i ≡ badLinkPair plan cuts i
+      by true h =
+          let low : isHigher plan (cutLink cuts i) ≡ false =
+          le-ltb (otherWay plan (cutLink cuts i)) (cutLink cuts i)
+          (omega (arith, none (cutLink cuts i) (ltb-true (cutLink cuts i) (length (plan .links)) h))) in
+          ap (λ (x : Bool). badLinkPair plan cuts i || x) low ∙ or-false (badLinkPair plan cuts i)
+      by false h =
+          rw h
+          (past (eqb (length cuts) (2 * i + 1)) (not (ltb (cutSlot cuts i) (plan .timeout))) (falls cuts i)
+          (some (λ j. eqb (cutLink cuts j) (cutLink cuts i)) i) (isHigher plan (cutLink cuts i)))
+
+  -- and what a pair cuts is the link that it names
+  same-link : (d e : ℕ) → d < length (plan .links) → cutsLink plan d e ≡ eqb d e
+  unfolding cutsLink
+  same-link d e l = ap (λ (x : ℕ). eqb d e || eqb x e) (none d l) ∙ twice (eqb d e)
+    where
+      twice : (b : Bool) → (b || b) ≡ b
+      twice true = refl
+      twice false = refl
+
+  same-cut : (cuts : List ℕ) → isCutList plan cuts ≡ true → isCut plan cuts ≡ isLinkCut cuts
+  unfolding isCut
+  same-cut cuts good =
+      fun-ext (λ i. fun-ext (λ e. some-same (λ j. cutsLink plan (cutLink cuts j) e && leb (cutSlot cuts j) i)
+      (λ j. eqb (cutLink cuts j) e && leb (cutSlot cuts j) i) (pairs cuts)
+      (λ j l. ap (λ (x : Bool). x && leb (cutSlot cuts j) i) (same-link (cutLink cuts j) e (link-below plan cuts good j l)))))
+
+  pub as-before : AsBefore plan
+  unfolding checkCuts arrivals eventRow
+  as-before =
+      record {
+        refuses = λ cuts. ap (λ (bad : ℕ → Bool). unlessSome 12 bad (pairs cuts) (gives (pairs cuts))) (fun-ext (same-bad cuts));
+        arrives = λ cuts good. ap (λ (down : ℕ → ℕ → Bool). arrived (positions (orderOf plan) down (tableOf plan) 0 (plan .timeout) (start plan))) (same-cut cuts good);
+        tells = λ cuts good. ap (λ (down : ℕ → ℕ → Bool). events (orderOf plan) down (tableOf plan) 0 (plan .timeout) (start plan)) (same-cut cuts good);
+      }
