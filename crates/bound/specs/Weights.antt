@@ -2,11 +2,14 @@
 -- slots as a plan has; nothing is said of those behind.
 use Prim.Native.Nat.{ℕ, _+_, _-_, _*_, _/_, _%_, _≤_, _<_}
 use mathlib.Core.Path.{_≡_}
+use mathlib.Core.Bool.{cond}
 use mathlib.Core.List.{List}
 use lib.ListN.{length, getD}
+use lib.Dec.{ltb}
 use Rattle.scope.specs.Limits.{mostSlots, mostLinks, mostMessages, tableSize, secondsSize, planeSize, weightsSize, topsSize}
 use Rattle.table.specs.Table.{indexOf, entryAt}
 use Rattle.losses.specs.Touch.{touchedIn}
+use Rattle.cables.specs.Others.{otherIn, AreLinks}
 use Rattle.bound.specs.Seconds.{onLink}
 use Rattle.bound.specs.Bounds.{weightIn, topIn, frontIn}
 
@@ -59,6 +62,39 @@ pub record WeighsStrips (fragile seconds : List ℕ) (slots : ℕ) (weights : Li
   pub is : (k : ℕ) → k < slots * mostLinks → getD weights k 0 ≡ below fragile slots k + onLink seconds (k % mostLinks)
   pub few : (k : ℕ) → k < slots * mostLinks → getD weights k 0 ≤ mostSlots + mostOnLink
 
+-- a number for each link, and for the name of a cable that of its other way with it
+abbrev pub withOther : List ℕ → (ℕ → ℕ) → ℕ → ℕ
+withOther others count e = count e + cond (ltb e (otherIn others e)) (count (otherIn others e)) 0
+
+-- no number of a plane's first slots is large
+abbrev pub SmallIn : ℕ → List ℕ → Type 0
+SmallIn slots plane = (k : ℕ) → k < slots * mostLinks → getD plane k 0 ≤ mostSlots + mostOnLink
+
+-- what a link weighs may come to what another one does, and did
+pub record MayAddLink (slots e o : ℕ) (plane : List ℕ) : Type 0 where
+  pub long : length plane ≡ planeSize
+  pub within : slots ≤ mostSlots
+  pub link : e < mostLinks
+  pub other : o < mostLinks
+  pub apart : e < o
+  pub few : (s d : ℕ) → s < slots → d < mostLinks → getD plane (indexOf s d) 0 ≤ 2 * (mostSlots + mostOnLink)
+
+pub record AddedLink (slots e o : ℕ) (old new : List ℕ) : Type 0 where
+  pub long : length new ≡ planeSize
+  pub here : (s : ℕ) → s < slots → getD new (indexOf s e) 0 ≡ getD old (indexOf s e) 0 + getD old (indexOf s o) 0
+  pub same : (s d : ℕ) → s < slots → d < mostLinks → (d ≡ e → ⊥) → getD new (indexOf s d) 0 ≡ getD old (indexOf s d) 0
+
+-- of all cables
+pub record MayAddOthers (others : List ℕ) (slots : ℕ) (plane : List ℕ) : Type 0 where
+  pub long : length plane ≡ planeSize
+  pub within : slots ≤ mostSlots
+  pub others : AreLinks others
+  pub few : SmallIn slots plane
+
+pub record AddedOthers (others : List ℕ) (slots : ℕ) (old new : List ℕ) : Type 0 where
+  pub long : length new ≡ planeSize
+  pub is : (s e : ℕ) → s < slots → e < mostLinks → getD new (indexOf s e) 0 ≡ withOther others (λ d. getD old (indexOf s d) 0) e
+
 -- the third weights may be put
 pub record MayAdd (slots : ℕ) (weights : List ℕ) : Type 0 where
   pub long : length weights ≡ weightsSize
@@ -72,18 +108,20 @@ pub record Added (slots : ℕ) (old new : List ℕ) : Type 0 where
   pub sum : (k : ℕ) → k < slots * mostLinks → getD new (2 * planeSize + k) 0 ≡ getD old k 0 + getD old (planeSize + k) 0
 
 -- all tables may be weighed
-pub record MayWeigh (table fragile seconds : List ℕ) (slots : ℕ) (weights : List ℕ) : Type 0 where
+pub record MayWeigh (table fragile seconds others : List ℕ) (slots : ℕ) (weights : List ℕ) : Type 0 where
   pub entries : length table ≡ tableSize
-  pub others : length fragile ≡ tableSize
+  pub marks : length fragile ≡ tableSize
   pub bytes : length seconds ≡ secondsSize
+  pub others : AreLinks others
   pub few : slots ≤ mostSlots
   pub long : length weights ≡ weightsSize
 
 -- the three weights of each slot and link: what a pair touches, what it strips, and both
-pub record WeighsAll (table fragile seconds : List ℕ) (slots : ℕ) (weights : List ℕ) : Type 0 where
+pub record WeighsAll (table fragile seconds others : List ℕ) (slots : ℕ) (weights : List ℕ) : Type 0 where
   pub long : length weights ≡ weightsSize
-  pub touches : (s e : ℕ) → s < slots → e < mostLinks → weightIn weights 0 s e ≡ entriesFrom table slots s e
-  pub strips : (s e : ℕ) → s < slots → e < mostLinks → weightIn weights 1 s e ≡ entriesFrom fragile slots s e + onLink seconds e
+  pub touches : (s e : ℕ) → s < slots → e < mostLinks → weightIn weights 0 s e ≡ withOther others (entriesFrom table slots s) e
+  pub strips : (s e : ℕ) → s < slots → e < mostLinks →
+      weightIn weights 1 s e ≡ withOther others (λ d. entriesFrom fragile slots s d + onLink seconds d) e
   pub both : (s e : ℕ) → s < slots → e < mostLinks → weightIn weights 2 s e ≡ weightIn weights 0 s e + weightIn weights 1 s e
 
 -- no pair of slot s weighs more than its number

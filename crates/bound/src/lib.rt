@@ -15,6 +15,7 @@ ghost use Rattle.scope.specs.Limits.{mostSlots, mostLinks, secondsSize, planeSi
 ghost use Rattle.sets.specs.Sums.{oneIf};
 ghost use Rattle.bound.specs.Seconds.{onLink};
 ghost use Rattle.bound.specs.Weights.{mostOnLink, ForLinks, OnLinks, HasRoom, Behind, WeighsFrom, Weighs, WeighsStrips, MayAdd, Added};
+ghost use Rattle.bound.specs.Weights.{MayAddLink, AddedLink, MayAddOthers, AddedOthers};
 ghost use Rattle.bound.specs.Weights.{MayWeigh, WeighsAll, TopOf, Tops, MayTop, TopsEach, TopsAll};
 ghost use Rattle.bound.specs.Bounds.{frontOf, frontIn};
 ghost use Rattle.bound.specs.Fronts.{Larger, MayFront, Bucketed, Carried, RunsDown, Fronts};
@@ -110,13 +111,51 @@ fn weigh_both(slots: usize, weights: &mut [u16])
     }
 }
 
+// What link o weighs in each slot comes to what link e does.
+fn add_link(plane: &mut [u16], slots: usize, e: usize, o: usize)
+    requires { ⌜ MayAddLink slots e o (now plane) ⌝ }
+    ensures { λ _. ⌜ AddedLink slots e o (now (plane .entry)) (now (plane .exit)) ⌝ }
+{
+    let mut s = 0;
+    while s < slots {
+        let k = table::index(s, e);
+        plane[k] = plane[k] + plane[table::index(s, o)];
+        s += 1;
+    }
+}
+
+// What the higher link of each cable weighs comes to what the lower one does, which is its name.
+fn add_others(others: &[u8], slots: usize, plane: &mut [u16])
+    requires { ⌜ MayAddOthers (now others) slots (now plane) ⌝ }
+    ensures { λ _. ⌜ AddedOthers (now (others .entry)) slots (now (plane .entry)) (now (plane .exit)) ⌝ }
+{
+    let mut e = 0;
+    while e < LINKS {
+        let o = cables::other(others, e);
+        if e < o {
+            add_link(plane, slots, e, o);
+        }
+        e += 1;
+    }
+}
+
 // The three weights of each slot and link: what a pair touches, what it strips, and both together.
-pub fn weigh_all(table: &[u8], fragile: &[u8], seconds: &[u8], slots: usize, weights: &mut [u16])
-    requires { ⌜ MayWeigh (now table) (now fragile) (now seconds) slots (now weights) ⌝ }
-    ensures { λ _. ⌜ WeighsAll (now (table .entry)) (now (fragile .entry)) (now (seconds .entry)) slots (now (weights .exit)) ⌝ }
+pub fn weigh_all(
+    table: &[u8],
+    fragile: &[u8],
+    seconds: &[u8],
+    others: &[u8],
+    slots: usize,
+    weights: &mut [u16],
+)
+    requires { ⌜ MayWeigh (now table) (now fragile) (now seconds) (now others) slots (now weights) ⌝ }
+    ensures { λ _. ⌜ WeighsAll (now (table .entry)) (now (fragile .entry)) (now (seconds .entry)) (now (others .entry)) slots
+        (now (weights .exit)) ⌝ }
 {
     weigh(table, slots, &mut weights[0..PLANE]);
+    add_others(others, slots, &mut weights[0..PLANE]);
     weigh_strips(fragile, seconds, slots, &mut weights[PLANE..2 * PLANE]);
+    add_others(others, slots, &mut weights[PLANE..2 * PLANE]);
     weigh_both(slots, weights);
 }
 

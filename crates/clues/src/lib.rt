@@ -108,6 +108,7 @@ pub fn suspect(
                     return given_up();
                 }
                 down[x] = 1;
+                down[z.others[x] as usize] = 1;
                 named += 1;
             }
             Clue::Dead => return given_up(),

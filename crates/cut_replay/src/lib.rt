@@ -1,12 +1,13 @@
 // The replay of one cycle under a cut list: document 01's refusals 1 to 10, 14 to 19, 12 and 13, or the number of arrivals with the row of
-// events. It takes anything and asks nothing. It leans on `plan` for the refusals of a row, on `cuts` for 12, on `table` for who holds a
+// events. It takes anything and asks nothing. It leans on `plan` for the refusals of a row, on `cables` for the other way of each link, on `cuts` for 12, on `table` for who holds a
 // link, and on `cycle`, which plays.
 use scope::Answer;
 use scope::limits::TABLE;
 use scope::refuse;
 ghost use Prim.Native.Nat.{_*_};
 ghost use mathlib.Core.Path.{_≡_};
-ghost use Rattle.scope.specs.Plan.{messageCount, timeoutOf};
+ghost use Rattle.scope.specs.Plan.{messageCount, timeoutOf, planOf};
+ghost use Rattle.cables.specs.Others.{OtherWays};
 ghost use Rattle.plan.specs.Answers.{GoodRow};
 ghost use Rattle.cut_replay.specs.Replay.{Checked, Replays};
 
@@ -19,8 +20,8 @@ fn event_numbers(row: &[u16]) -> usize
 }
 
 // The replay of a good row under a good cut list: refusal 13, or the arrivals.
-fn replay_cut(row: &[u16], cuts: &[u16], events: &mut [u16]) -> Answer
-    requires { ⌜ Checked (now row) (now cuts) ⌝ }
+fn replay_cut(row: &[u16], others: &[u8], cuts: &[u16], events: &mut [u16]) -> Answer
+    requires { ⌜ Checked (now row) (now cuts) × OtherWays (planOf (now row)) (now others) ⌝ }
     ensures { λ r. ⌜ Replays (now (row .entry)) (now (cuts .entry)) (now (events .entry)) (now (events .exit)) r ⌝ }
 {
     let needed = event_numbers(row);
@@ -29,7 +30,7 @@ fn replay_cut(row: &[u16], cuts: &[u16], events: &mut [u16]) -> Answer
     }
     let mut table = [0u8; TABLE];
     table::fill_table(row, &mut table);
-    let count = cycle::play(row, &table, cuts, events);
+    let count = cycle::play(row, &table, others, cuts, events);
     Answer::Gives(count)
 }
 
@@ -38,10 +39,11 @@ pub fn replay_good(row: &[u16], cuts: &[u16], events: &mut [u16]) -> Answer
     requires { ⌜ GoodRow (now row) ⌝ }
     ensures { λ r. ⌜ Replays (now (row .entry)) (now (cuts .entry)) (now (events .entry)) (now (events .exit)) r ⌝ }
 {
-    let checked = cuts::check(row, cuts);
+    let others = cables::other_ways(row);
+    let checked = cuts::check(row, &others, cuts);
     match checked {
         Answer::Refused(refusal) => Answer::Refused(refusal),
-        Answer::Gives(_) => replay_cut(row, cuts, events),
+        Answer::Gives(_) => replay_cut(row, &others, cuts, events),
     }
 }
 

@@ -1,5 +1,5 @@
 // Cut lists: refusal 12, and what is down in a slot, so that "is this link down" is one read.
-// It leans on specs/ of `scope` (Cuts, Outcome) and on the total read of `rows`. No function but `bad_pair` and its parts asks
+// It leans on specs/ of `scope` (Cuts, Outcome), on the total read of `rows` and on `cables` for the other way of a link. No function but `bad_pair` and its parts asks
 // anything of the list, and no list is passed over further than its first bad pair.
 use rows::number;
 use scope::Answer;
@@ -11,8 +11,9 @@ ghost use Rattle.scope.specs.Lowest.{lowest};
 ghost use Rattle.scope.specs.Outcome.{outcomeOf};
 ghost use Rattle.scope.specs.Plan.{planOf};
 ghost use Rattle.scope.specs.Cuts.{pairs, falls, checkCuts};
+ghost use Rattle.cables.specs.Others.{OtherWays};
 ghost use Rattle.cuts.specs.Pairs.{isTwice, isBad};
-ghost use Rattle.cuts.specs.Down.{isDown, withPair, DownIn};
+ghost use Rattle.cuts.specs.Down.{isDown, withLink, withCable, withPair, DownIn};
 
 // A link is down: its byte is not 0. One past the list is whole.
 pub fn is_down(down: &[u8], link: usize) -> bool
@@ -32,20 +33,28 @@ fn count(cuts: &[u16]) -> usize
     cuts.len() / 2 + cuts.len() % 2
 }
 
-// One more pair, of slot `at`: if it is not later than `slot`, its link is down.
-fn put_pair(down: &mut [u8], at: usize, link: usize, slot: usize)
-    ensures { λ _. ⌜ now (down .exit) ≡ withPair (now (down .entry)) at link slot ⌝ }
+// One more link is down.
+fn put_link(down: &mut [u8], link: usize)
+    ensures { λ _. ⌜ now (down .exit) ≡ withLink (now (down .entry)) link ⌝ }
+{
+    if link < down.len() {
+        down[link] = 1;
+    }
+}
+
+// One more pair, of slot `at`: if it is not later than `slot`, its link is down, and the other way of it.
+fn put_pair(down: &mut [u8], others: &[u8], at: usize, link: usize, slot: usize)
+    ensures { λ _. ⌜ now (down .exit) ≡ withPair (now (others .entry)) (now (down .entry)) at link slot ⌝ }
 {
     if at <= slot {
-        if link < down.len() {
-            down[link] = 1;
-        }
+        put_link(down, link);
+        put_link(down, cables::other(others, link));
     }
 }
 
 // The links that a list takes down in a slot, one byte a link.
-pub fn down_in(cuts: &[u16], slot: usize) -> [u8; LINKS]
-    ensures { λ r. ⌜ DownIn (now (cuts .entry)) slot r ⌝ }
+pub fn down_in(others: &[u8], cuts: &[u16], slot: usize) -> [u8; LINKS]
+    ensures { λ r. ⌜ DownIn (now (others .entry)) (now (cuts .entry)) slot r ⌝ }
 {
     let mut down = [0u8; LINKS];
     let n = count(cuts);
@@ -53,7 +62,7 @@ pub fn down_in(cuts: &[u16], slot: usize) -> [u8; LINKS]
     while j < n {
         let at = number(cuts, 2 * j);
         let link = number(cuts, 2 * j + 1);
-        put_pair(&mut down, at, link, slot);
+        put_pair(&mut down, others, at, link, slot);
         j += 1;
     }
     down
@@ -95,9 +104,9 @@ fn twice(cuts: &[u16], i: usize) -> bool
 }
 
 // Pair i is bad.
-fn bad_pair(timeout: usize, links: usize, cuts: &[u16], i: usize) -> bool
+fn bad_pair(timeout: usize, links: usize, others: &[u8], cuts: &[u16], i: usize) -> bool
     requires { ⌜ i < 2 ^ 61 ⌝ }
-    ensures { λ r. ⌜ r ≡ isBad timeout links (now (cuts .entry)) i ⌝ }
+    ensures { λ r. ⌜ r ≡ isBad timeout links (now (others .entry)) (now (cuts .entry)) i ⌝ }
 {
     if cuts.len() == 2 * i + 1 {
         return true;
@@ -111,17 +120,20 @@ fn bad_pair(timeout: usize, links: usize, cuts: &[u16], i: usize) -> bool
     if falls_at(cuts, i) {
         return true;
     }
-    twice(cuts, i)
+    if twice(cuts, i) {
+        return true;
+    }
+    cables::is_higher(others, number(cuts, 2 * i + 1))
 }
 
 // The first bad pair, or how many pairs there are.
-fn first_bad(timeout: usize, links: usize, cuts: &[u16]) -> usize
-    ensures { λ r. ⌜ r ≡ lowest (isBad timeout links (now (cuts .entry))) (pairs (now (cuts .entry))) ⌝ }
+fn first_bad(timeout: usize, links: usize, others: &[u8], cuts: &[u16]) -> usize
+    ensures { λ r. ⌜ r ≡ lowest (isBad timeout links (now (others .entry)) (now (cuts .entry))) (pairs (now (cuts .entry))) ⌝ }
 {
     let n = count(cuts);
     let mut i = 0;
     while i < n {
-        if bad_pair(timeout, links, cuts, i) {
+        if bad_pair(timeout, links, others, cuts, i) {
             return i;
         }
         i += 1;
@@ -129,12 +141,13 @@ fn first_bad(timeout: usize, links: usize, cuts: &[u16]) -> usize
     i
 }
 
-// Refusal 12 of a cut list, for the plan of a row, or how many pairs it has.
-pub fn check(row: &[u16], cuts: &[u16]) -> Answer
+// Refusal 12 of a cut list, for the plan of a row and the other ways of its links, or how many pairs it has.
+pub fn check(row: &[u16], others: &[u8], cuts: &[u16]) -> Answer
+    requires { ⌜ OtherWays (planOf (now row)) (now others) ⌝ }
     ensures { λ r. ⌜ outcomeOf r ≡ checkCuts (planOf (now (row .entry))) (now (cuts .entry)) ⌝ }
 {
     let n = count(cuts);
-    let i = first_bad(rows::timeout(row), rows::links(row), cuts);
+    let i = first_bad(rows::timeout(row), rows::links(row), others, cuts);
     if i < n {
         refuse(12, i)
     } else {

@@ -1,4 +1,5 @@
--- A whole cycle, read off what is lent: `cuts` says what is down in which slot, and `table` who holds a link.
+-- A whole cycle, read off what is lent: `cuts` says with `others`, the other way of each link, what is down in which slot, and `table` who
+-- holds a link.
 use Prim.Native.Nat.{ℕ, _+_, _*_, _≤_, _<_}
 use mathlib.Core.Path.{_≡_}
 use mathlib.Core.List.{List, _++_, map}
@@ -24,14 +25,14 @@ pub record Begins (row : List ℕ) (n : ℕ) (s : Standing) : Type 0 where
   pub next : Become row n (map S.onFirst (messagesAt row (firstMessage row) n)) (s .positions)
 
 -- what all messages do in slot i, the positions after n slots from slot i on, and the row of their events
-abbrev pub doIn : List ℕ → List ℕ → List ℕ → ℕ → List S.Position → List S.Moved
-doIn row table cuts i ps = slot (orderOf (planOf row)) (cutBelow (planOf row) cuts) (entryAt table) i ps
+abbrev pub doIn : List ℕ → List ℕ → List ℕ → List ℕ → ℕ → List S.Position → List S.Moved
+doIn row table others cuts i ps = slot (orderOf (planOf row)) (cutBelow others cuts) (entryAt table) i ps
 
-abbrev pub endsWith : List ℕ → List ℕ → List ℕ → ℕ → ℕ → List S.Position → List S.Position
-endsWith row table cuts i n ps = positions (orderOf (planOf row)) (cutBelow (planOf row) cuts) (entryAt table) i n ps
+abbrev pub endsWith : List ℕ → List ℕ → List ℕ → List ℕ → ℕ → ℕ → List S.Position → List S.Position
+endsWith row table others cuts i n ps = positions (orderOf (planOf row)) (cutBelow others cuts) (entryAt table) i n ps
 
-abbrev pub tells : List ℕ → List ℕ → List ℕ → ℕ → ℕ → List S.Position → List ℕ
-tells row table cuts i n ps = events (orderOf (planOf row)) (cutBelow (planOf row) cuts) (entryAt table) i n ps
+abbrev pub tells : List ℕ → List ℕ → List ℕ → List ℕ → ℕ → ℕ → List S.Position → List ℕ
+tells row table others cuts i n ps = events (orderOf (planOf row)) (cutBelow others cuts) (entryAt table) i n ps
 
 -- n messages have gone through slot i: where they stand at the next time, and their events at the front of a buffer
 pub record Done (row : List ℕ) (n i : ℕ) (ms : List S.Moved) (buffer r : List ℕ) (s : Standing) : Type 0 where
@@ -63,6 +64,6 @@ pub record MayPlay (row : List ℕ) (room : ℕ) : Type 0 where
   pub enough : timeoutOf row * (2 * messageCount row) ≤ room
 
 -- a row has been played: the count of arrivals, and the row of events in the buffer
-pub record Played (row table cuts buffer r : List ℕ) (count : ℕ) : Type 0 where
-  pub arrivals : count ≡ arrived (endsWith row table cuts 0 (timeoutOf row) (start (planOf row)))
-  pub events : Told (tells row table cuts 0 (timeoutOf row) (start (planOf row))) buffer r
+pub record Played (row table others cuts buffer r : List ℕ) (count : ℕ) : Type 0 where
+  pub arrivals : count ≡ arrived (endsWith row table others cuts 0 (timeoutOf row) (start (planOf row)))
+  pub events : Told (tells row table others cuts 0 (timeoutOf row) (start (planOf row))) buffer r

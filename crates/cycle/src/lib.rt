@@ -94,14 +94,15 @@ fn run_slot(
     n: usize,
     row: &[u16],
     table: &[u8],
+    others: &[u8],
     cuts: &[u16],
     out: &mut [u16],
 ) -> Standing
     requires { ⌜ MayTell (now row) n standing (i .0) (length (now out)) ⌝ }
-    ensures { λ r. ⌜ Done (now (row .entry)) n (i .0) (doIn (now (row .entry)) (now (table .entry)) (now (cuts .entry)) (i .0)
+    ensures { λ r. ⌜ Done (now (row .entry)) n (i .0) (doIn (now (row .entry)) (now (table .entry)) (now (others .entry)) (now (cuts .entry)) (i .0)
         (positionsOf (now (row .entry)) n (standing .positions))) (now (out .entry)) (now (out .exit)) r ⌝ }
 {
-    let down = cuts::down_in(cuts, i.number());
+    let down = cuts::down_in(others, cuts, i.number());
     standing.told(i, n, row, table, &down, out)
 }
 
@@ -112,14 +113,15 @@ fn run(
     timeout: usize,
     row: &[u16],
     table: &[u8],
+    others: &[u8],
     cuts: &[u16],
     out: &mut [u16],
 ) -> Standing
-    requires { ⌜ MayRun (now row) first n timeout (tells (now row) (now table) (now cuts) 0 timeout
+    requires { ⌜ MayRun (now row) first n timeout (tells (now row) (now table) (now others) (now cuts) 0 timeout
         (positionsOf (now row) n (first .positions))) (length (now out)) ⌝ }
-    ensures { λ r. ⌜ Ran (now (row .entry)) n (endsWith (now (row .entry)) (now (table .entry)) (now (cuts .entry)) 0 timeout
+    ensures { λ r. ⌜ Ran (now (row .entry)) n (endsWith (now (row .entry)) (now (table .entry)) (now (others .entry)) (now (cuts .entry)) 0 timeout
         (positionsOf (now (row .entry)) n (first .positions)))
-        (tells (now (row .entry)) (now (table .entry)) (now (cuts .entry)) 0 timeout (positionsOf (now (row .entry)) n (first .positions)))
+        (tells (now (row .entry)) (now (table .entry)) (now (others .entry)) (now (cuts .entry)) 0 timeout (positionsOf (now (row .entry)) n (first .positions)))
         (now (out .entry)) (now (out .exit)) r ⌝ }
 {
     let mut standing = first;
@@ -130,20 +132,20 @@ fn run(
             return standing;
         }
         let i = time.begins(timeout);
-        let next = run_slot(standing, i, n, row, table, cuts, &mut out[at..]);
+        let next = run_slot(standing, i, n, row, table, others, cuts, &mut out[at..]);
         standing = next;
         at += 2 * n;
     }
 }
 
 // A whole cycle of the plan of a row: how many messages arrive, with the row of events at the front of `out`.
-pub fn play(row: &[u16], table: &[u8], cuts: &[u16], out: &mut [u16]) -> usize
+pub fn play(row: &[u16], table: &[u8], others: &[u8], cuts: &[u16], out: &mut [u16]) -> usize
     requires { ⌜ MayPlay (now row) (length (now out)) ⌝ }
-    ensures { λ r. ⌜ Played (now (row .entry)) (now (table .entry)) (now (cuts .entry)) (now (out .entry)) (now (out .exit)) r ⌝ }
+    ensures { λ r. ⌜ Played (now (row .entry)) (now (table .entry)) (now (others .entry)) (now (cuts .entry)) (now (out .entry)) (now (out .exit)) r ⌝ }
 {
     let n = rows::messages(row);
     let timeout = rows::timeout(row);
     let first = start_all(row, n);
-    let last = run(first, n, timeout, row, table, cuts, out);
+    let last = run(first, n, timeout, row, table, others, cuts, out);
     count_home(last, n)
 }

@@ -2,6 +2,7 @@
 use Prim.Native.Nat.{ℕ, _+_, _-_, _*_, _≤_, _<_}
 use mathlib.Core.Path.{_≡_}
 use mathlib.Core.Bool.{Bool, true, false, not, _&&_, _||_}
+use mathlib.Core.Logic.{_⊎_}
 use mathlib.Core.List.{List, [], _∷_, _++_}
 use lib.ListN.{length, getD, take, replicate}
 use lib.Dec.{leb}
@@ -11,6 +12,7 @@ use Rattle.scope.specs.Rules.{rules}
 use Rattle.scope.specs.Plan.{planOf}
 use Rattle.scope.specs.Cuts.{pairs}
 use Rattle.scope.specs.Verdict.{First}
+use Rattle.cables.specs.Others.{otherIn}
 use Rattle.cuts.specs.Down.{isDown}
 use Rattle.step.specs.declared.Standing.{Standing}
 use Rattle.order.specs.Search.{code, Not, NoneOf, FirstOf, NoneIn, FirstFrom}
@@ -25,28 +27,30 @@ use Rattle.clues.specs.Clues.{MatchesBefore, Matches, MaySuspect, Suspected}
 use Rattle.explaining.specs.declared.Found.{Found}
 use Rattle.explaining.specs.declared.Hunted.{Hunted}
 
--- a link that is not down
+-- a link that may still be named
 abbrev pub isWhole : List ℕ → ℕ → Bool
-isWhole down e = not (isDown down e)
+isWhole closed e = not (isDown closed e)
 
--- a link that nobody crosses in slot s or later, by the slots noted for each link
+-- a link that nobody crosses in slot s or later, one way or the other, by the slots noted for each link
 abbrev pub isUnseen : List ℕ → ℕ → ℕ → Bool
 isUnseen last s e = leb (getD last e 0) s
 
--- a link that is to be tried in slot s: not down, not crossed from there on and, where all that are to be cut are named, one of them
+-- a link that is to be tried in slot s: not yet named, not crossed from there on and, where all that are to be cut are named, one of them
 abbrev pub isOpen : List ℕ → List ℕ → List ℕ → Bool → ℕ → ℕ → Bool
-isOpen down named last all s e = isWhole down e && (isUnseen last s e && (not all || isDown named e))
+isOpen closed named last all s e = isWhole closed e && (isUnseen last s e && (not all || isDown named e))
 
--- the table has link e crossed by a message, in slot s or later
+-- the table has link e or its other way crossed by a message, in slot s or later
 pub record SeenFrom (crossed : List ℕ) (z : Sizes) (s e : ℕ) : Type 0 where
+  pub link : ℕ
   pub slot : ℕ
   pub message : ℕ
   pub from : s ≤ slot
   pub early : slot < z .timeout
   pub there : message < z .messages
-  pub crosses : crossedAt crossed slot message ≡ e + 1
+  pub crosses : crossedAt crossed slot message ≡ link + 1
+  pub cable : (link ≡ e) ⊎ (otherIn (z .others) link ≡ e)
 
--- for each link one more than a slot in which the table has it crossed, or 0; that it is the last such slot is only for speed
+-- for each link one more than a slot in which the table has its cable crossed, or 0; that it is the last such slot is only for speed
 pub record Lasts (crossed : List ℕ) (z : Sizes) (last : List ℕ) : Type 0 where
   pub size : length last ≡ mostLinks
   pub seen : (s e : ℕ) → s < getD last e 0 → SeenFrom crossed z s e

@@ -18,6 +18,7 @@ ghost use mathlib.Core.Path.{_≡_};
 ghost use lib.ListN.{length};
 ghost use Rattle.scope.specs.Limits.{mostLinks, mostSlots, crossedSize};
 ghost use Rattle.scope.specs.Lowest.{seek};
+ghost use Rattle.cables.specs.Others.{AreLinks};
 ghost use Rattle.explaining.specs.Walk.{isWhole, isUnseen, isOpen, isClue, noFound, noHunted, Lasts};
 ghost use Rattle.explaining.specs.Walk.{MaySeek, MaySeekIn, Sought, SoughtIn, MayHunt, Hunts};
 
@@ -64,16 +65,16 @@ fn differs(clue: Clue) -> bool
     }
 }
 
-// A link is not cut already.
-fn whole(down: &[u8], e: usize) -> bool
-    ensures { λ r. ⌜ r ≡ isWhole (now (down .entry)) e ⌝ }
+// A link may still be named.
+fn whole(closed: &[u8], e: usize) -> bool
+    ensures { λ r. ⌜ r ≡ isWhole (now (closed .entry)) e ⌝ }
 {
-    !cuts::is_down(down, e)
+    !cuts::is_down(closed, e)
 }
 
-// For each link one more than the last slot in which a message crosses it, or 0 where none does.
+// For each link one more than the last slot in which a message crosses it or its other way, or 0 where none does.
 fn last_seen(crossed: &[u8], z: Sizes) -> [u8; LINKS]
-    requires { ⌜ (length (now crossed) ≡ crossedSize) × (z .timeout ≤ mostSlots) ⌝ }
+    requires { ⌜ (length (now crossed) ≡ crossedSize) × (z .timeout ≤ mostSlots) × AreLinks (z .others) ⌝ }
     ensures { λ r. ⌜ Lasts (now (crossed .entry)) z r ⌝ }
 {
     let mut last = [0u8; LINKS];
@@ -82,14 +83,16 @@ fn last_seen(crossed: &[u8], z: Sizes) -> [u8; LINKS]
     while k < end {
         let c = crossed[k] as usize;
         if k % MESSAGES < z.messages && 0 < c && c <= LINKS {
-            last[c - 1] = (k / MESSAGES + 1) as u8;
+            let behind = (k / MESSAGES + 1) as u8;
+            last[c - 1] = behind;
+            last[z.others[c - 1] as usize] = behind;
         }
         k += 1;
     }
     last
 }
 
-// No message crosses a link in slot s or later.
+// No message crosses a link or its other way in slot s or later.
 fn unseen(last: &[u8], s: usize, e: usize) -> bool
     ensures { λ r. ⌜ r ≡ isUnseen (now (last .entry)) s e ⌝ }
 {
@@ -100,17 +103,17 @@ fn unseen(last: &[u8], s: usize, e: usize) -> bool
     }
 }
 
-// A link is to be tried in slot s: it is not cut already, nobody crosses it from there on and, where all that are to be cut are named, it is
-// one of them.
-fn open(down: &[u8], named: &[u8], last: &[u8], all: bool, s: usize, e: usize) -> bool
-    ensures { λ r. ⌜ r ≡ isOpen (now (down .entry)) (now (named .entry)) (now (last .entry)) all s e ⌝ }
+// A link is to be tried in slot s: it may still be named, nobody crosses its cable from there on and, where all that are to be cut are named,
+// it is one of them.
+fn open(closed: &[u8], named: &[u8], last: &[u8], all: bool, s: usize, e: usize) -> bool
+    ensures { λ r. ⌜ r ≡ isOpen (now (closed .entry)) (now (named .entry)) (now (last .entry)) all s e ⌝ }
 {
-    whole(down, e) && (unseen(last, s, e) && (!all || cuts::is_down(named, e)))
+    whole(closed, e) && (unseen(last, s, e) && (!all || cuts::is_down(named, e)))
 }
 
 // The first link from e on that is to be tried, or how many links there are.
 fn next_link(
-    down: &[u8],
+    closed: &[u8],
     named: &[u8],
     last: &[u8],
     all: bool,
@@ -119,11 +122,11 @@ fn next_link(
     links: usize,
 ) -> usize
     requires { ⌜ (e ≤ links) × (links ≤ mostLinks) ⌝ }
-    ensures { λ r. ⌜ r ≡ seek (isOpen (now (down .entry)) (now (named .entry)) (now (last .entry)) all s) (links - e) e ⌝ }
+    ensures { λ r. ⌜ r ≡ seek (isOpen (now (closed .entry)) (now (named .entry)) (now (last .entry)) all s) (links - e) e ⌝ }
 {
     let mut i = e;
     while i < links {
-        if open(down, named, last, all, s, i) {
+        if open(closed, named, last, all, s, i) {
             return i;
         }
         i += 1;
@@ -150,17 +153,18 @@ fn in_slot(
     requires { ⌜ MaySeekIn (now row) (now table) (now crossed) z ps p n named last all s e ⌝ }
     ensures { λ r. ⌜ SoughtIn (now (row .entry)) (now (crossed .entry)) p n s e r ⌝ }
 {
-    let down = p.down;
+    let closed = p.closed;
     let links = z.links;
-    let mut i = next_link(&down, &named, &last, all, s, e, links);
+    let mut i = next_link(&closed, &named, &last, all, s, e, links);
     while i < links {
-        let q = picks::pick(p, s, i);
+        let o = z.others[i] as usize;
+        let q = picks::pick(p, s, i, o);
         let v = clues::suspect(row, table, crossed, z, ps, q, n - 1);
         let r = level(row, table, crossed, z, ps, q, n - 1, v, last);
         if r.found {
             return r;
         }
-        i = next_link(&down, &named, &last, all, s, i + 1, links);
+        i = next_link(&closed, &named, &last, all, s, i + 1, links);
     }
     nothing()
 }
@@ -228,7 +232,7 @@ pub fn first_list(
     requires { ⌜ MayHunt (now row) (now table) (now crossed) z ps k ⌝ }
     ensures { λ r. ⌜ Hunts (now (row .entry)) (now (crossed .entry)) k r ⌝ }
 {
-    let p = picks::no_pair();
+    let p = picks::no_pair(z);
     let v = clues::suspect(row, table, crossed, z, ps, p, k);
     if v.hopeless {
         return no_list();

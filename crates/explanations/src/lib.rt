@@ -34,6 +34,7 @@ fn decide(row: &[u16], k: usize, crossed: &[u8]) -> Hunted
         timeout: rows::timeout(row),
         links: rows::links(row),
         messages,
+        others: cables::other_ways(row),
     };
     explaining::first_list(row, &table, crossed, z, ps, k)
 }

@@ -40,7 +40,7 @@ fn needed(messages: usize, least: usize) -> usize
 
 // The first link of slot s that is worth a cut, or how many links there are; none is where no pair may be picked.
 fn first_worth(
-    down: &[u8],
+    closed: &[u8],
     weights: &[u16],
     most: &[u16],
     need: usize,
@@ -50,12 +50,12 @@ fn first_worth(
     links: usize,
 ) -> usize
     requires { ⌜ MayTry (now weights) (now most) need rest s × (links ≤ mostLinks) ⌝ }
-    ensures { λ r. ⌜ r ≡ firstWorth n (passes (now (down .entry)) (now (weights .entry)) (now (most .entry)) need rest s) links ⌝ }
+    ensures { λ r. ⌜ r ≡ firstWorth n (passes (now (closed .entry)) (now (weights .entry)) (now (most .entry)) need rest s) links ⌝ }
 {
     if n == 0 {
         return links;
     }
-    risks::next_link(down, weights, most, need, rest, s, 0, links)
+    risks::next_link(closed, weights, most, need, rest, s, 0, links)
 }
 
 // How many pairs are worth picking, where f is the first link that is.
@@ -99,19 +99,19 @@ fn breaker(
     requires { ⌜ MayBreak (now row) (now table) (now touches) (now strips) (now weights) (now most) z hits ps left p n s e least ⌝ }
     ensures { λ r. ⌜ Turned (now (row .entry)) p n (code s e) least r ⌝ }
 {
-    let down = p.down;
+    let closed = p.closed;
     let links = z.links;
     let need = needed(z.messages, least);
     let risk = risks::at_risk(hits, left);
     let rest = risks::losses(risk, risks::wanting(n, 1), most, s);
-    let f = first_worth(&down, weights, most, need, rest, n, s, links);
+    let f = first_worth(&closed, weights, most, need, rest, n, s, links);
     let more = worth(n, f, links);
     if over(need, more, risk.lost) {
         return least;
     }
     let mut best = least;
     let mut i = risks::next_link(
-        &down,
+        &closed,
         weights,
         most,
         need,
@@ -121,8 +121,9 @@ fn breaker(
         links,
     );
     while i < links {
-        let q = picks::pick(p, s, i);
-        let hit = risks::hit(touches, strips, hits, s, i);
+        let o = z.others[i] as usize;
+        let q = picks::pick(p, s, i, o);
+        let hit = risks::hit(touches, strips, hits, s, i, o);
         best = breaker(
             row,
             table,
@@ -141,7 +142,7 @@ fn breaker(
             best,
         );
         let want = needed(z.messages, best);
-        i = risks::next_link(&down, weights, most, want, rest, s, i + 1, links);
+        i = risks::next_link(&closed, weights, most, want, rest, s, i + 1, links);
     }
     network(
         row,
@@ -220,7 +221,7 @@ pub fn play(
     requires { ⌜ MayPlay (now row) (now table) (now touches) (now strips) (now weights) (now most) z ps k least ⌝ }
     ensures { λ r. ⌜ IsLeast (planOf (now (row .entry))) k r × (r ≤ least) ⌝ }
 {
-    let p = picks::no_pair();
+    let p = picks::no_pair(z);
     let hits = risks::no_hits();
     let left = risks::away(ps, z.messages);
     breaker(

@@ -21,9 +21,13 @@ use Rattle.losses.specs.Touch.{harm, overCut, touches}
 abbrev pub hersIn : (ℕ → ℕ → ℕ) → ℕ → ℕ → ℕ → ℕ → ℕ
 hersIn owner n m s e = sumOf (λ i. oneIf (eqb (owner (s + i) e) (m + 1))) n
 
--- and, in the plan's slots, the links that a pair with link d cuts
+-- in the plan's slots
+abbrev pub hersOn : Plan → ℕ → ℕ → ℕ → ℕ
+hersOn plan m s e = hersIn (tableOf plan) (plan .timeout - s) m s e
+
+-- and the links that a pair with link d cuts
 abbrev pub hers : Plan → ℕ → ℕ → ℕ → ℕ
-hers plan m s d = overCut plan d (hersIn (tableOf plan) (plan .timeout - s) m s)
+hers plan m s d = overCut plan d (hersOn plan m s)
 
 -- a pair of the list hits message m, where `hits` says how often the pair (s, e) hits it
 abbrev pub isHit : (ℕ → ℕ → ℕ → ℕ) → List ℕ → ℕ → Bool

@@ -8,6 +8,7 @@ use lib.ListN.{length}
 use lib.Dec.{leb}
 use Rattle.scope.specs.Outcome.{gives}
 use Rattle.scope.specs.Plan.{Plan, Place, pathOf}
+use Rattle.scope.specs.Good.{has}
 use Rattle.scope.specs.Rules.{rules}
 use Rattle.scope.specs.Slot.{atTarget}
 use Rattle.scope.specs.Cuts.{cutsLink}
@@ -15,7 +16,7 @@ use Rattle.scope.specs.Cycle.{orderOf, arrivals}
 use Rattle.scope.specs.Spare.{delay, noSecond}
 use Rattle.sets.specs.Sums.{sumOf, oneIf}
 use Rattle.losses.specs.Touch.{touches}
-use Rattle.losses.specs.Harmed.{hers, isHit, isTouched, stands, away, CountsLosses}
+use Rattle.losses.specs.Harmed.{hers, hersOn, isHit, isTouched, stands, away, CountsLosses}
 
 -- a place of message m is robust if it has a second path and its slot plus D is at most t: its slack is 0 or more
 abbrev pub isRobust : Plan → ℕ → Place → Bool
@@ -46,12 +47,21 @@ unfoldable pub cutsOneOf : Plan → ℕ → List ℕ → Bool
 cutsOneOf plan d [] = false
 cutsOneOf plan d (e ∷ es) = cutsLink plan d e || cutsOneOf plan d es
 
--- it cuts a link of the second path of a robust one of these places of message m
+-- link e lies on the second path of a robust one of these places of message m
+unfoldable pub onRobust : Plan → ℕ → ℕ → List Place → Bool
+onRobust plan m e [] = false
+onRobust plan m e (p ∷ ps) = (isRobust plan m p && has e (p .second)) || onRobust plan m e ps
+
+-- a pair cuts a link of the second path of a robust one
 unfoldable pub throughRobust : Plan → ℕ → ℕ → List Place → Bool
 throughRobust plan m d [] = false
 throughRobust plan m d (p ∷ ps) = (isRobust plan m p && cutsOneOf plan d (p .second)) || throughRobust plan m d ps
 
--- how often the pair (s, e) strips message m: of each fragile place that it touches, and once of second paths, in whatever slot
+-- how often a cut of link e from slot s on strips message m: of each fragile place on it, and once of second paths
+abbrev pub stripsOn : Plan → ℕ → ℕ → ℕ → ℕ
+stripsOn plan m s e = hersOn (fragilePlan plan) m s e + oneIf (onRobust plan m e (pathOf plan m))
+
+-- how often the pair (s, e) does: of each fragile place that it touches, and once of second paths, in whatever slot
 abbrev pub strips : Plan → ℕ → ℕ → ℕ → ℕ
 strips plan m s e = hers (fragilePlan plan) m s e + oneIf (throughRobust plan m e (pathOf plan m))
 

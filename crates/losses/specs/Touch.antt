@@ -8,6 +8,7 @@ use lib.Dec.{ltb}
 use Rattle.scope.specs.Outcome.{gives}
 use Rattle.scope.specs.Plan.{Plan}
 use Rattle.scope.specs.Rules.{rules}
+use Rattle.scope.specs.Cables.{otherWay}
 use Rattle.scope.specs.Cuts.{cutSlot, cutLink, cutsLink}
 use Rattle.scope.specs.Cycle.{tableOf, arrivals}
 use Rattle.sets.specs.Sums.{sumOf, oneIf}
@@ -23,6 +24,10 @@ touchedIn owner n s e = sumOf (λ i. oneIf (ltb 0 (owner (s + i) e))) n
 -- the sum over the links that a pair with link d cuts
 abbrev pub overCut : Plan → ℕ → (ℕ → ℕ) → ℕ
 overCut plan d count = sumOf (λ e. cond (cutsLink plan d e) (count e) 0) (length (plan .links))
+
+-- at most these, where d is the name of its cable: those of link d and of its other way
+abbrev pub onCable : Plan → ℕ → (ℕ → ℕ) → ℕ
+onCable plan d count = count d + cond (ltb d (otherWay plan d)) (count (otherWay plan d)) 0
 
 -- a pair touches those of its slot and every later one of the plan
 abbrev pub touches : Plan → ℕ → ℕ → ℕ

@@ -13,8 +13,8 @@ use Rattle.step.specs.Stand.{home}
 use Rattle.sets.specs.Sets.{has}
 use Rattle.bound.specs.Bounds.{weightIn, topIn, frontIn, harmedAndBared}
 use Rattle.bound.specs.Sets.{setIn}
-use Rattle.losses.specs.Harmed.{hers, isTouched, harmed}
-use Rattle.losses.specs.Strips.{strips, isStripped, bared}
+use Rattle.losses.specs.Harmed.{hersOn, isTouched, harmed}
+use Rattle.losses.specs.Strips.{stripsOn, isStripped, bared}
 use Rattle.risks.specs.declared.Hits.{Hits}
 use Rattle.risks.specs.declared.Risk.{Risk}
 use Rattle.risks.specs.declared.Loss.{Loss}
@@ -58,18 +58,18 @@ pub record Fits (rest : Rest) : Type 0 where
 abbrev pub tooLight : ℕ → Loss → Bool
 tooLight need loss = ltb (loss .touches) need || ltb (loss .strips) need || ltb (loss .both) (2 * need)
 
--- a link that is not cut already, and with which a list can answer where so much is lost besides
+-- a link that may still be named, and with which a list can answer where so much is lost besides
 abbrev pub passes : List ℕ → List ℕ → List ℕ → ℕ → Rest → ℕ → ℕ → Bool
-passes down weights most need rest s e = not (isDown down e) && not (tooLight need (lossWith rest weights most need s e))
+passes closed weights most need rest s e = not (isDown closed e) && not (tooLight need (lossWith rest weights most need s e))
 
--- with whom a pair hits: whom it touches, and whom it strips, is in its set
+-- who is hit on a link: who has it before it from a slot on, and whom a cut of it strips, is in its set
 pub record Hittable (row touchSets stripSets : List ℕ) : Type 0 where
   pub touch : length touchSets ≡ planeSize
   pub strip : length stripSets ≡ planeSize
   pub touched : (m s e : ℕ) → m < length (planOf row .messages) → s < planOf row .timeout → e < length (planOf row .links) →
-      0 < hers (planOf row) m s e → has (setIn touchSets s e) m ≡ true
+      0 < hersOn (planOf row) m s e → has (setIn touchSets s e) m ≡ true
   pub stripped : (m s e : ℕ) → m < length (planOf row .messages) → s < planOf row .timeout → e < length (planOf row .links) →
-      0 < strips (planOf row) m s e → has (setIn stripSets s e) m ≡ true
+      0 < stripsOn (planOf row) m s e → has (setIn stripSets s e) m ≡ true
 
 -- the set of the first n messages that are not at their targets
 abbrev pub AreAway : List Position → ℕ → ℕ → Type 0

@@ -136,9 +136,9 @@ fn weighed(weights: &[u16], most: &[u16], need: usize, rest: Rest, s: usize, e: 
     }
 }
 
-// A link is not cut already, and a list that goes on with it can answer.
+// A link may still be named, and a list that goes on with it can answer.
 fn may(
-    down: &[u8],
+    closed: &[u8],
     weights: &[u16],
     most: &[u16],
     need: usize,
@@ -147,9 +147,9 @@ fn may(
     e: usize,
 ) -> bool
     requires { ⌜ MayTry (now weights) (now most) need rest s × (e < mostLinks) ⌝ }
-    ensures { λ r. ⌜ r ≡ passes (now (down .entry)) (now (weights .entry)) (now (most .entry)) need rest s e ⌝ }
+    ensures { λ r. ⌜ r ≡ passes (now (closed .entry)) (now (weights .entry)) (now (most .entry)) need rest s e ⌝ }
 {
-    if cuts::is_down(down, e) {
+    if cuts::is_down(closed, e) {
         return false;
     }
     !hopeless(need, weighed(weights, most, need, rest, s, e))
@@ -157,7 +157,7 @@ fn may(
 
 // The first link from e on that may be tried, or how many links there are.
 pub fn next_link(
-    down: &[u8],
+    closed: &[u8],
     weights: &[u16],
     most: &[u16],
     need: usize,
@@ -167,11 +167,11 @@ pub fn next_link(
     links: usize,
 ) -> usize
     requires { ⌜ MayTry (now weights) (now most) need rest s × (e ≤ links) × (links ≤ mostLinks) ⌝ }
-    ensures { λ r. ⌜ r ≡ seek (passes (now (down .entry)) (now (weights .entry)) (now (most .entry)) need rest s) (links - e) e ⌝ }
+    ensures { λ r. ⌜ r ≡ seek (passes (now (closed .entry)) (now (weights .entry)) (now (most .entry)) need rest s) (links - e) e ⌝ }
 {
     let mut i = e;
     while i < links {
-        if may(down, weights, most, need, rest, s, i) {
+        if may(closed, weights, most, need, rest, s, i) {
             return i;
         }
         i += 1;
@@ -231,14 +231,15 @@ pub fn no_hits() -> Hits
     }
 }
 
-// Those that are hit with one pair more.
-pub fn hit(touches: &[u32], strips: &[u32], hits: Hits, s: usize, e: usize) -> Hits
-    requires { ⌜ MayHit (now touches) (now strips) s e ⌝ }
-    ensures { λ r. ⌜ IsHit (now (touches .entry)) (now (strips .entry)) hits s e r ⌝ }
+// Those that are hit with one pair more, on a cable of links e and o.
+pub fn hit(touches: &[u32], strips: &[u32], hits: Hits, s: usize, e: usize, o: usize) -> Hits
+    requires { ⌜ MayHit (now touches) (now strips) s e o ⌝ }
+    ensures { λ r. ⌜ IsHit (now (touches .entry)) (now (strips .entry)) hits s e o r ⌝ }
 {
     let k = table::index(s, e);
+    let j = table::index(s, o);
     Hits {
-        touched: sets::either(hits.touched, touches[k]),
-        stripped: sets::either(hits.stripped, strips[k]),
+        touched: sets::either(hits.touched, sets::either(touches[k], touches[j])),
+        stripped: sets::either(hits.stripped, sets::either(strips[k], strips[j])),
     }
 }

@@ -25,8 +25,10 @@ module _ (plan : Plan) where
       let a = linkOf plan d in
       let b = linkOf plan e in
       let two = and-eq-true-iff (eqb (a .from) (b .to)) (eqb (a .to) (b .from)) .0 h in
-      rw (eq-eqb (b .from) (a .to) (sym (eqb-true (a .to) (b .from) (two .1))),
-      eq-eqb (b .to) (a .from) (sym (eqb-true (a .from) (b .to) (two .0))))
+      rw (
+        eq-eqb (b .from) (a .to) (sym (eqb-true (a .to) (b .from) (two .1))),
+        eq-eqb (b .to) (a .from) (sym (eqb-true (a .from) (b .to) (two .0))),
+      )
 
   -- where a link goes back, the other way is the lowest that does
   found : (d : ℕ) → some (goesBack d) (length (plan .links)) ≡ true →

@@ -167,7 +167,9 @@ cable-cases = (
   (refl, refl),
   (
     (refl, refl),
-    ((refl, refl), ((refl, refl), ((refl, first-of-both-ways), ((refl, refl), ((refl, refl), ((refl, refl), ((refl, first-of-goes-back), tt)))))),
+    (
+      (refl, refl),
+      ((refl, refl), ((refl, first-of-both-ways), ((refl, refl), ((refl, refl), ((refl, refl), ((refl, first-of-goes-back), tt)))))),
     ),
   ),
 )

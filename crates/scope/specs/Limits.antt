@@ -22,6 +22,10 @@ mostPlaces = 16
 abbrev pub tableSize : ℕ
 tableSize = 4096
 
+-- a byte for each two ends of a link
+abbrev pub endsSize : ℕ
+endsSize = 4096
+
 -- a byte for each link and message, link by link
 abbrev pub secondsSize : ℕ
 secondsSize = 2048

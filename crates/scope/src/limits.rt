@@ -15,6 +15,9 @@ pub const PLACES: usize = 16;
 // A number for each slot and link, slot by slot.
 pub const TABLE: usize = SLOTS * LINKS;
 
+// A byte for each two ends of a link.
+pub const ENDS: usize = VERTICES * VERTICES;
+
 // A byte for each link and message, link by link.
 pub const SECONDS: usize = LINKS * MESSAGES;
 

@@ -125,12 +125,13 @@ fn in_slot(
     requires { ⌜ MaySeekIn (now row) (now table) (now touches) (now strips) (now weights) (now most) a hits ps left p n s e rest ⌝ }
     ensures { λ r. ⌜ SoughtIn (now (row .entry)) a p n s e r ⌝ }
 {
-    let down = p.down;
+    let closed = p.closed;
     let links = a.sizes.links;
-    let mut i = risks::next_link(&down, weights, most, a.need, rest, s, e, links);
+    let mut i = risks::next_link(&closed, weights, most, a.need, rest, s, e, links);
     while i < links {
-        let q = picks::pick(p, s, i);
-        let more = risks::hit(touches, strips, hits, s, i);
+        let o = a.sizes.others[i] as usize;
+        let q = picks::pick(p, s, i, o);
+        let more = risks::hit(touches, strips, hits, s, i, o);
         let r = level(
             row,
             table,
@@ -148,7 +149,7 @@ fn in_slot(
         if r.found {
             return r;
         }
-        i = risks::next_link(&down, weights, most, a.need, rest, s, i + 1, links);
+        i = risks::next_link(&closed, weights, most, a.need, rest, s, i + 1, links);
     }
     nothing()
 }
@@ -175,7 +176,7 @@ fn level(
     if n == 0 {
         return play_out(row, table, a, hits, ps, left, p);
     }
-    let down = p.down;
+    let closed = p.closed;
     let mut qs = ps;
     let mut still = left;
     let mut s = p.slot;
@@ -183,7 +184,7 @@ fn level(
     while s < a.sizes.timeout {
         let risk = risks::at_risk(hits, still);
         let rest = risks::losses(risk, n - 1, most, s);
-        let f = risks::next_link(&down, weights, most, a.need, rest, s, 0, a.sizes.links);
+        let f = risks::next_link(&closed, weights, most, a.need, rest, s, 0, a.sizes.links);
         if a.sizes.links <= f {
             return nothing();
         }
@@ -233,7 +234,7 @@ pub fn first_list(
     requires { ⌜ MayHunt (now row) (now table) (now touches) (now strips) (now weights) (now most) a ps low k ⌝ }
     ensures { λ r. ⌜ Hunts (now (row .entry)) (a .least) k r ⌝ }
 {
-    let p = picks::no_pair();
+    let p = picks::no_pair(a.sizes);
     let hits = risks::no_hits();
     let left = risks::away(ps, a.sizes.messages);
     let mut n = low;

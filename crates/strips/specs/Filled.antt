@@ -13,7 +13,7 @@ use Rattle.scope.specs.Spare.{entriesOf, entries, hasSecondThrough, lowerThroug
 use Rattle.table.specs.Table.{Table, entryAt, entered}
 use Rattle.plan.specs.Answers.{GoodRow}
 use Rattle.bound.specs.Seconds.{secondIn, Seconds}
-use Rattle.losses.specs.Strips.{fragileOf, fragilePlan, throughRobust}
+use Rattle.losses.specs.Strips.{fragileOf, fragilePlan, onRobust}
 
 -- the tables may be filled: nothing is marked
 pub record MayFill (row fragile seconds : List ℕ) : Type 0 where
@@ -25,7 +25,7 @@ pub record MayFill (row fragile seconds : List ℕ) : Type 0 where
 -- the table of the fragile places, and the links that lie on the second path of a robust place of a message
 pub record Filled (plan : Plan) (fragile seconds : List ℕ) : Type 0 where
   pub table : Table (tableOf (fragilePlan plan)) fragile
-  pub bytes : Seconds (λ m e. throughRobust plan m e (pathOf plan m)) seconds
+  pub bytes : Seconds (λ m e. onRobust plan m e (pathOf plan m)) seconds
 
 -- the bytes of message m that pass a test are marked, and no others are changed
 pub record Put (m : ℕ) (test : ℕ → Bool) (old new : List ℕ) : Type 0 where
@@ -104,7 +104,7 @@ pub record MayStrip (plan : Plan) (m : ℕ) (ps : List Place) (counts fragile se
 -- it was put
 pub record Stripped (plan : Plan) (m : ℕ) (ps : List Place) (old new old' new' : List ℕ) : Type 0 where
   pub table : Table (λ s e. entered (m + 1) (fragileOf plan m ps) s e (entryAt old s e)) new
-  pub bytes : Put m (λ e. throughRobust plan m e ps) old' new'
+  pub bytes : Put m (λ e. onRobust plan m e ps) old' new'
 
 -- of one place at index i, and r is the index of the next; of a message at index i, and r is the index after it
 pub record StrippedPlace (row : List ℕ) (i m : ℕ) (old new old' new' : List ℕ) (r : ℕ) : Type 0 where

@@ -46,12 +46,13 @@ pub fn lend(
 {
     let mut fragile = [0u8; TABLE];
     let mut seconds = [0u8; SECONDS];
+    let others = cables::other_ways(row);
     table::fill_table(row, table);
     strips::fill(row, &mut fragile, &mut seconds);
     let slots = rows::timeout(row);
     bound::touch_sets(table, slots, touches);
     bound::strip_sets(&fragile, &seconds, slots, strips);
-    bound::weigh_all(table, &fragile, &seconds, slots, weights);
+    bound::weigh_all(table, &fragile, &seconds, &others, slots, weights);
     bound::tops_all(weights, slots, most);
     let messages = rows::messages(row);
     let standing = cycle::start_all(row, messages);
@@ -59,6 +60,7 @@ pub fn lend(
         timeout: slots,
         links: rows::links(row),
         messages,
+        others,
     };
     Opening { sizes, standing }
 }
