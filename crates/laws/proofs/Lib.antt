@@ -26,3 +26,4 @@ pub mod Sharp
 pub mod Sound
 pub mod Near
 pub mod Named
+pub mod Cables

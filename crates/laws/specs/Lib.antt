@@ -6,3 +6,4 @@ pub mod Links
 pub mod Diverted
 pub mod Sharp
 pub mod Named
+pub mod Cables

@@ -89,14 +89,6 @@ unfolding figures
 figures-length plan k zero = refl
 figures-length plan k (suc n) = ap suc (figures-length plan (k + 1) n)
 
-pub figures-at : (plan : Plan) (k n i : ℕ) → i < n → getD (figures plan k n) i 0 ≡ figure plan (k + i)
-unfolding figures
-figures-at plan k zero i h = absurd (omega arith)
-figures-at plan k (suc n) zero h = let e : k ≡ k + 0 = omega arith in ap (figure plan) e
-figures-at plan k (suc n) (suc i) h =
-    let e : k + 1 + i ≡ k + suc i = omega arith in
-    figures-at plan (k + 1) n i (omega arith) ∙ ap (figure plan) e
-
 pub figures-more : (plan : Plan) (k n : ℕ) → figures plan k (n + 1) ≡ figures plan k n ++ (figure plan (k + n) ∷ [])
 unfolding figures
 figures-more plan k zero = let e : k ≡ k + 0 = omega arith in ap (λ (j : ℕ). figure plan j ∷ []) e

@@ -9,8 +9,9 @@ use lib.Dec.{ltb, eqb}
 use borrow.Author.Tests.{ltb-true, ltb-false, lt-ltb, eq-eqb, ne-eqb, eqb-true, eqb-false, not-false}
 use Rattle.scope.specs.Limits.{mostLinks}
 use Rattle.scope.specs.Plan.{Plan}
+use Rattle.scope.specs.Cables.{isHigher}
 use Rattle.scope.specs.Cuts.{pairs, cutSlot, cutLink, pairBefore, falls, badPair, isCutList}
-use Rattle.scope.proofs.Cuts.{slot-below, link-below, rising, once, even}
+use Rattle.scope.proofs.Cuts.{slot-below, link-below, rising, once, not-higher, even}
 use Rattle.order.specs.Search.{code, codeAt, NotBefore}
 use Rattle.scope.proofs.Some.{none, none-below}
 use Rattle.order.proofs.Parts.{slot-left, link-left, slot-right, link-right, pairs-both}
@@ -61,6 +62,7 @@ pub record Fine (plan : Plan) (cuts : List ℕ) (i : ℕ) : Type 0 where
   pub links : (j : ℕ) → j < i + 1 → cutLink cuts j < length (plan .links)
   pub rise : (j : ℕ) → j + 1 ≡ i → codeAt cuts j < codeAt cuts i
   pub once : (j : ℕ) → j < i → cutLink cuts j ≡ cutLink cuts i → ⊥
+  pub low : isHigher plan (cutLink cuts i) ≡ false
 
 pub fine-pair : (plan : Plan) (cuts : List ℕ) (i : ℕ) → length (plan .links) ≤ mostLinks → Fine plan cuts i → badPair plan cuts i ≡ false
 fine-pair plan cuts i small f =
@@ -70,6 +72,7 @@ fine-pair plan cuts i small f =
       lt-ltb (cutLink cuts i) (length (plan .links)) (f .links i (omega arith)),
       rises-not-falls cuts i (λ j h. omega (arith, f .links j h)) (f .rise),
       none (λ j. eqb (cutLink cuts j) (cutLink cuts i)) i (λ j h. ne-eqb (cutLink cuts j) (cutLink cuts i) (f .once j h)),
+      f .low,
     )
 
 module _ (plan : Plan) (small : length (plan .links) ≤ mostLinks) (cuts : List ℕ) (good : isCutList plan cuts ≡ true) where
@@ -112,6 +115,7 @@ pub record Next (plan : Plan) (pre : List ℕ) (d a b : ℕ) : Type 0 where
   pub link : b < length (plan .links)
   pub new : (j : ℕ) → j < d → cutLink pre j ≡ b → ⊥
   pub rises : (j : ℕ) → j + 1 ≡ d → codeAt pre j < code a b
+  pub low : isHigher plan b ≡ false
 
 module _ (plan : Plan) (small : length (plan .links) ≤ mostLinks) (pre : List ℕ) (d : ℕ) (long : length pre ≡ 2 * d) where
   pub next-pair : (a b : ℕ) (x : List ℕ) → isCutList plan (pre ++ a ∷ b ∷ x) ≡ true → Next plan pre d a b
@@ -133,6 +137,7 @@ module _ (plan : Plan) (small : length (plan .links) ≤ mostLinks) (pre : List 
             let left = slot-left pre y d long j (omega arith) in
             let left2 = link-left pre y d long j (omega arith) in
             omega (arith, at, rise, left, left2);
+        low = rw l at (not-higher plan (pre ++ y) good d there);
       }
 
   -- one pair more
@@ -164,6 +169,7 @@ module _ (plan : Plan) (small : length (plan .links) ≤ mostLinks) (pre : List 
             once = λ j g same.
                 let twice = none-below (λ m. eqb (cutLink pre m) (cutLink pre i)) i (once plan pre good i (omega arith)) j g in
                 eqb-false (cutLink pre j) (cutLink pre i) twice (sym (k j (omega arith)) ∙ same ∙ k i l);
+            low = rw (k i l) (not-higher plan pre good i (omega arith));
           }
       by i h false e =
           let y : List ℕ = a ∷ b ∷ [] in
@@ -183,4 +189,5 @@ module _ (plan : Plan) (small : length (plan .links) ≤ mostLinks) (pre : List 
               link-left pre y d long j (omega arith),
             );
             once = λ j g same. n .new j (omega arith) (sym (link-left pre y d long j (omega arith)) ∙ same ∙ ld);
+            low = rw ld (n .low);
           }

@@ -10,6 +10,7 @@ use lib.Dec.{ltb}
 use borrow.Author.Tests.{ltb-true, ltb-false}
 use Rattle.scope.specs.Limits.{mostLinks}
 use Rattle.scope.specs.Plan.{Plan}
+use Rattle.scope.specs.Cables.{isHigher}
 use Rattle.scope.specs.Cuts.{cutSlot, cutLink, isCutList}
 use Rattle.scope.specs.Verdict.{earlier}
 use Rattle.scope.proofs.Order.{earlier-self}
@@ -33,8 +34,8 @@ split {P} a b lower other = by (ltb a b) refl
 -- a list with one pair more, at the place where the next one is to be chosen
 pub picked : (plan : Plan) → length (plan .links) ≤ mostLinks → (pre : List ℕ) (d lo s e : ℕ) → Chosen plan pre d lo →
     lo ≤ code s e → s < plan .timeout →
-    e < length (plan .links) → ((j : ℕ) → j < d → cutLink pre j ≡ e → ⊥) → Chosen plan (pre ++ s ∷ e ∷ []) (d + 1) (code s (e + 1))
-picked plan small pre d lo s e c h hs he new =
+    e < length (plan .links) → ((j : ℕ) → j < d → cutLink pre j ≡ e → ⊥) → isHigher plan e ≡ false → Chosen plan (pre ++ s ∷ e ∷ []) (d + 1) (code s (e + 1))
+picked plan small pre d lo s e c h hs he new low =
     let y : List ℕ = s ∷ e ∷ [] in
     let z : d + 0 ≡ d = omega arith in
     let sd : cutSlot (pre ++ y) d ≡ s = rw z at (slot-right pre y d (c .long) 0) in
@@ -42,7 +43,7 @@ picked plan small pre d lo s e c h hs he new =
     record {
       long = omega (arith, c .long, length-append pre y);
       good = one-more plan small pre d (c .long) s e (c .good)
-          (record { slot = hs; link = he; new = new; rises = λ j g. omega (arith, c .next j g) });
+          (record { slot = hs; link = he; new = new; rises = λ j g. omega (arith, c .next j g); low = low });
       none = λ g. absurd (omega arith);
       next = λ j g.
           let at : j ≡ d = omega arith in
@@ -87,9 +88,12 @@ module _ (plan : Plan) (Answers : List ℕ → Type 0) (small : length (plan .li
       let same : a ≡ s = omega (arith, n .link) in
       subst (λ (i : ℕ). Not plan Answers (pre ++ i ∷ b ∷ x)) (sym same) (here b (omega (arith, n .link)) (omega (arith, n .link)) x long) good)
 
-  -- a link that is cut already
+  -- a link that is named already, and one that is no name
   pub cut-already : (s b j : ℕ) → j < d → cutLink pre j ≡ b → (x : List ℕ) → Not plan Answers (pre ++ s ∷ b ∷ x)
   cut-already s b j h same x good it = after s b x good .new j h same
+
+  pub no-name : (s b : ℕ) → isHigher plan b ≡ true → (x : List ℕ) → Not plan Answers (pre ++ s ∷ b ∷ x)
+  no-name s b high x good it = true≢false (sym high ∙ after s b x good .low)
 
   -- the lists that go on with one pair
   pub no-list-here : (s e : ℕ) → NoneOf plan Answers (pre ++ s ∷ e ∷ []) k → (x : List ℕ) → length x ≡ 2 * k →

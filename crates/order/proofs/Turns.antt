@@ -12,10 +12,11 @@ use Rattle.scope.specs.Limits.{mostLinks}
 use Rattle.scope.specs.Lowest.{some}
 use Rattle.scope.specs.Plan.{Plan}
 use Rattle.scope.specs.Slot.{Position}
+use Rattle.scope.specs.Cables.{isHigher}
 use Rattle.scope.specs.Cuts.{pairs, cutSlot, cutLink, falls, badPair, isCut, isCutList}
 use Rattle.scope.specs.Cycle.{orderOf, tableOf, start, positions, arrived, arrivals}
 use Rattle.scope.specs.Game.{mayCut, breaker, moveOn, leastFrom}
-use Rattle.scope.proofs.Bools.{none-of-five, not-true}
+use Rattle.scope.proofs.Bools.{none-of-six, not-true}
 use Rattle.scope.proofs.Cuts.{not-bad, even}
 use Rattle.scope.proofs.Some.{none-below}
 use Rattle.order.specs.Search.{code, codeAt, Chosen}
@@ -111,20 +112,20 @@ module _ (plan : Plan) (small : length (plan .links) ≤ mostLinks) (pre : List 
   -- a link that may be cut, and one that may not
   may : (i e : ℕ) → i < plan .timeout → e < length (plan .links) → lo ≤ code i e → mayCut plan pre i e ≡ true →
       Chosen plan (pre ++ i ∷ e ∷ []) (d + 1) (code i (e + 1))
-  may i e hi he low m = picked plan small pre d lo i e c low hi he new
-    where
-      new : (j : ℕ) → j < d → cutLink pre j ≡ e → ⊥
-      new j h same =
-          let y : List ℕ = i ∷ e ∷ [] in
-          let cuts = pre ++ y in
-          let at : pairs pre ≡ d + 0 = omega (arith, c .long) in
-          let last : cutLink cuts (pairs pre) ≡ e = rw at (link-right pre y d (c .long) 0) in
-          let parts = none-of-five (eqb (length cuts) (2 * pairs pre + 1)) (not (ltb (cutSlot cuts (pairs pre)) (plan .timeout)))
-          (not (ltb (cutLink cuts (pairs pre)) (length (plan .links)))) (falls cuts (pairs pre))
-          (some (λ k. eqb (cutLink cuts k) (cutLink cuts (pairs pre))) (pairs pre))
-          (not-true (badPair plan cuts (pairs pre)) m) in
-          let other = none-below (λ k. eqb (cutLink cuts k) (cutLink cuts (pairs pre))) (pairs pre) (parts .4) j (omega arith) in
-          eqb-false (cutLink cuts j) (cutLink cuts (pairs pre)) other (link-left pre y d (c .long) j h ∙ same ∙ sym last)
+  may i e hi he low m =
+      let y : List ℕ = i ∷ e ∷ [] in
+      let cuts = pre ++ y in
+      let at : pairs pre ≡ d + 0 = omega (arith, c .long) in
+      let last : cutLink cuts (pairs pre) ≡ e = rw at (link-right pre y d (c .long) 0) in
+      let parts = none-of-six (eqb (length cuts) (2 * pairs pre + 1)) (not (ltb (cutSlot cuts (pairs pre)) (plan .timeout)))
+      (not (ltb (cutLink cuts (pairs pre)) (length (plan .links)))) (falls cuts (pairs pre))
+      (some (λ k. eqb (cutLink cuts k) (cutLink cuts (pairs pre))) (pairs pre)) (isHigher plan (cutLink cuts (pairs pre)))
+      (not-true (badPair plan cuts (pairs pre)) m) in
+      picked plan small pre d lo i e c low hi he
+      (λ j h same.
+      let other = none-below (λ k. eqb (cutLink cuts k) (cutLink cuts (pairs pre))) (pairs pre) (parts .4) j (omega arith) in
+      eqb-false (cutLink cuts j) (cutLink cuts (pairs pre)) other (link-left pre y d (c .long) j h ∙ same ∙ sym last))
+      (rw last at (parts .5))
 
   may-not : (i e : ℕ) (y : List ℕ) → mayCut plan pre i e ≡ false → isCutList plan (pre ++ i ∷ e ∷ y) ≡ true → ⊥
   may-not i e y m good =
