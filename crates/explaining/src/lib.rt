@@ -157,8 +157,7 @@ fn in_slot(
     let links = z.links;
     let mut i = next_link(&closed, &named, &last, all, s, e, links);
     while i < links {
-        let o = z.others[i] as usize;
-        let q = picks::pick(p, s, i, o);
+        let q = picks::pick(z, p, s, i);
         let v = clues::suspect(row, table, crossed, z, ps, q, n - 1);
         let r = level(row, table, crossed, z, ps, q, n - 1, v, last);
         if r.found {

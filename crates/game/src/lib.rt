@@ -121,9 +121,8 @@ fn breaker(
         links,
     );
     while i < links {
-        let o = z.others[i] as usize;
-        let q = picks::pick(p, s, i, o);
-        let hit = risks::hit(touches, strips, hits, s, i, o);
+        let q = picks::pick(z, p, s, i);
+        let hit = risks::hit(touches, strips, z, hits, s, i);
         best = breaker(
             row,
             table,

@@ -2,26 +2,31 @@
 use Prim.Native.Nat.{ℕ, zero, suc, _+_, _-_, _*_, _≤_, _<_}
 use native.Mathlib.Omega.{arith}
 use mathlib.Core.Path.{_≡_, refl, sym, _∙_, ap, ap₂}
-use mathlib.Core.Bool.{Bool, true, false, _&&_, true≢false, or-false, or-true}
+use mathlib.Core.Bool.{Bool, true, false, cond, _||_, and-true}
 use mathlib.Core.List.{List, [], _∷_, _++_, append-assoc}
 use lib.ListN.{length, getD, take, drop, set, replicate, length-set, length-drop, length-replicate, getD-replicate, take-append-drop}
 use lib.Seq.{take-suc-set, getD-set-same, getD-set-other, getD-drop, ext-getD}
-use lib.Dec.{ltb, leb, eqb}
-use borrow.Author.Tests.{eqb-true, eqb-false, eq-eqb, le-leb}
+use lib.Dec.{ltb, eqb}
+use borrow.Author.Tests.{eqb-true, eqb-false, le-leb}
 use Rattle.scope.specs.Limits.{mostCuts, mostLinks}
+use Rattle.scope.specs.Lowest.{some}
 use Rattle.scope.specs.Plan.{Plan, planOf}
-use Rattle.scope.specs.Cuts.{pairs, cutSlot, cutLink, cutsLink, isCut}
-use Rattle.laws.proofs.Cuts.{cut-pair, no-cuts}
+use Rattle.scope.specs.Cables.{otherWay, isHigher}
+use Rattle.scope.specs.Cuts.{pairs, cutLink, cutsLink, isCut}
+use Rattle.scope.proofs.Bools.{or-left, or-right}
+use Rattle.laws.proofs.Cuts.{no-cuts}
+use Rattle.cables.specs.Others.{otherIn, higherFrom}
 use Rattle.cuts.specs.Down.{isDown}
 use Rattle.step.specs.declared.Standing.{Standing}
 use Rattle.order.specs.Search.{code, Not}
-use Rattle.scope.proofs.Some.{some-one}
+use Rattle.scope.proofs.Some.{none-below, which, some-same, some-more}
 use Rattle.order.proofs.Pairs.{is-cut-list}
 use Rattle.order.proofs.Prefix.{cut-more, same-before}
-use Rattle.order.proofs.Steps.{picked, cut-already}
+use Rattle.order.proofs.Parts.{link-left, link-right, pairs-both}
+use Rattle.order.proofs.Steps.{picked, cut-already, no-name}
 use Rattle.picks.specs.declared.Sizes.{Sizes}
 use Rattle.picks.specs.declared.Picked.{Picked}
-use Rattle.picks.specs.Picks.{cutsOf, withPair, noPair, Playable, Holding, StandAt}
+use Rattle.picks.specs.Picks.{cutsOf, withPair, noPair, isNamed, Playable, Holding, StandAt}
 
 -- zeros, and zeros past them
 pub noughts : (k w : ℕ) → _≡_ {A = ℕ} (getD {A = ℕ} (replicate {A = ℕ} k 0) w 0) 0
@@ -29,8 +34,28 @@ noughts zero w = refl
 noughts (suc k) zero = refl
 noughts (suc k) (suc w) = noughts k w
 
-pub holding-none : (row : List ℕ) (z : Sizes) → Holding row z noPair
-holding-none row z =
+-- which links are the higher ones of their cables
+higher-at : (others : List ℕ) (n e i : ℕ) → i < n → isDown (higherFrom others n e) i ≡ ltb (otherIn others (e + i)) (e + i)
+unfolding higherFrom
+higher-at others zero e i l = absurd (omega arith)
+higher-at others (suc n) e zero l =
+    let at : e ≡ e + 0 = omega arith in
+    one (ltb (otherIn others e) e) ∙ ap (λ (d : ℕ). ltb (otherIn others d) d) at
+  where
+    one : (b : Bool) → ltb 0 (cond b 1 0) ≡ b
+    one true = refl
+    one false = refl
+higher-at others (suc n) e (suc i) l =
+    let at : e + 1 + i ≡ e + suc i = omega arith in
+    higher-at others n (e + 1) i (omega arith) ∙ ap (λ (d : ℕ). ltb (otherIn others d) d) at
+
+higher-length : (others : List ℕ) (n e : ℕ) → length (higherFrom others n e) ≡ n
+unfolding higherFrom
+higher-length others zero e = refl
+higher-length others (suc n) e = ap suc (higher-length others n (e + 1))
+
+pub holding-none : (row table : List ℕ) (z : Sizes) → Playable row table z → Holding row z (noPair z)
+holding-none row table z y =
     record {
       long = refl;
       slot = omega arith;
@@ -44,6 +69,9 @@ holding-none row z =
           };
       size = refl;
       down = λ i e h. ap (ltb 0) (noughts mostLinks e) ∙ sym (ap (λ (f : ℕ → ℕ → Bool). f i e) (no-cuts (planOf row)));
+      shut = higher-length (z .others) mostLinks 0;
+      closed = λ e l.
+          higher-at (z .others) mostLinks 0 e (omega (arith, y .few)) ∙ ap (λ (d : ℕ). ltb d e) (y .others .is e (omega (arith, y .links)));
       past = λ i h. noughts (2 * mostCuts) i;
     }
 
@@ -75,52 +103,80 @@ take-two l d s e h =
     append-assoc (take (2 * d) l) (s ∷ []) (e ∷ [])
 
 module _ (row : List ℕ) (z : Sizes) (p : Picked) (h : Holding row z p) (e : ℕ) where
-  -- a link that is not down is cut by no pair
-  pub free : isDown (p .down) e ≡ false → (j : ℕ) → j < pairs (cutsOf p) → cutLink (cutsOf p) j ≡ e → ⊥
-  unfolding isCut
-  free whole j l same =
-      let i = p .slot + cutSlot (cutsOf p) j in
-      let cut : isCut (planOf row) (cutsOf p) i e ≡ true =
-      some-one (λ k. cutsLink (planOf row) (cutLink (cutsOf p) k) e && leb (cutSlot (cutsOf p) k) i) (pairs (cutsOf p)) j l
-      (rw (eq-eqb (cutLink (cutsOf p) j) e same, le-leb (cutSlot (cutsOf p) j) i (omega arith))) in
-      true≢false (sym cut ∙ sym (h .down i e (omega arith)) ∙ whole)
+  -- a link that is not closed is named by no pair, and may be
+  pub free : e < z .links → isDown (p .closed) e ≡ false → (j : ℕ) → j < pairs (cutsOf p) → cutLink (cutsOf p) j ≡ e → ⊥
+  free l open j there same =
+      let none = or-left (isNamed (cutsOf p) e) (isHigher (planOf row) e) (sym (h .closed e l) ∙ open) in
+      eqb-false (cutLink (cutsOf p) j) e (none-below (λ k. eqb (cutLink (cutsOf p) k) e) (pairs (cutsOf p)) none j there) same
 
-  -- and one that is down is
-  pub cut-by : isDown (p .down) e ≡ true → (j : ℕ) × (j < pairs (cutsOf p)) × (cutLink (cutsOf p) j ≡ e)
-  cut-by down =
-      let c = cut-pair (planOf row) (cutsOf p) (p .slot) e (sym (h .down (p .slot) e (omega arith)) ∙ down) in
-      (c .0, c .1, eqb-true (cutLink (cutsOf p) (c .0)) e (c .2))
+  pub is-name : e < z .links → isDown (p .closed) e ≡ false → isHigher (planOf row) e ≡ false
+  is-name l open = or-right (isNamed (cutsOf p) e) (isHigher (planOf row) e) (sym (h .closed e l) ∙ open)
 
-  -- so no list goes on with it
-  pub down-already : (Answers : List ℕ → Type 0) → length (planOf row .links) ≤ mostLinks → (k s : ℕ) → isDown (p .down) e ≡ true →
-      (x : List ℕ) → Not (planOf row) Answers (cutsOf p ++ s ∷ e ∷ x)
-  down-already Answers few k s down x =
-      let who = cut-by down in
-      cut-already (planOf row) Answers few (cutsOf p) (p .count) (code (p .slot) (p .link)) (h .chosen) k s e (who .0)
-      (omega (arith, who .1, h .chosen .long)) (who .2) x
+  -- no list goes on with one that is closed
+  pub closed-already : (Answers : List ℕ → Type 0) → length (planOf row .links) ≤ mostLinks → e < z .links → (k s : ℕ) →
+      isDown (p .closed) e ≡ true → (x : List ℕ) → Not (planOf row) Answers (cutsOf p ++ s ∷ e ∷ x)
+  closed-already Answers few l k s shut x = by (isNamed (cutsOf p) e) refl
+    where
+      by : (b : Bool) → isNamed (cutsOf p) e ≡ b → Not (planOf row) Answers (cutsOf p ++ s ∷ e ∷ x)
+      by true named =
+          let who = which (λ j. eqb (cutLink (cutsOf p) j) e) (pairs (cutsOf p)) named in
+          cut-already (planOf row) Answers few (cutsOf p) (p .count) (code (p .slot) (p .link)) (h .chosen) k s e (who .0)
+          (omega (arith, who .1, h .chosen .long)) (eqb-true (cutLink (cutsOf p) (who .0)) e (who .2)) x
+      by false other =
+          no-name (planOf row) Answers few (cutsOf p) (p .count) (code (p .slot) (p .link)) (h .chosen) k s e
+          (ap (λ (b : Bool). b || isHigher (planOf row) e) (sym other) ∙ sym (h .closed e l) ∙ shut) x
 
--- what is down with one pair more
-pub down-more : (plan : Plan) (pre down : List ℕ) (d s e i x : ℕ) → length pre ≡ 2 * d → e < length down → s ≤ i →
-    isDown down x ≡ isCut plan pre i x → isDown (set down e 1) x ≡ isCut plan (pre ++ s ∷ e ∷ []) i x
-down-more plan pre down d s e i x long there early is = by (eqb e x) refl
+-- one byte more is 1
+set-down : (down : List ℕ) (e x : ℕ) → e < length down → isDown (set down e 1) x ≡ (eqb e x || isDown down x)
+set-down down e x there = by (eqb e x) refl
   where
-    by : (b : Bool) → eqb e x ≡ b → isDown (set down e 1) x ≡ isCut plan (pre ++ s ∷ e ∷ []) i x
+    by : (b : Bool) → eqb e x ≡ b → isDown (set down e 1) x ≡ (b || isDown down x)
     by true q =
         let same : e ≡ x = eqb-true e x q in
-        let put : getD (set down e 1) x 0 ≡ 1 = ap (λ (k : ℕ). getD (set down e 1) k 0) (sym same) ∙ getD-set-same down e 1 0 there in
-        ap (ltb 0) put ∙ sym (cut-more plan pre d s e long i x ∙ rw (q, le-leb s i early, or-true (isCut plan pre i x)))
-    by false q =
-        let other : x ≡ e → ⊥ = λ r. eqb-false e x q (sym r) in
-        ap (ltb 0) (getD-set-other down e x 1 0 other) ∙ is ∙ sym (cut-more plan pre d s e long i x ∙ rw (q, or-false (isCut plan pre i x)))
+        ap (ltb 0) (ap (λ (k : ℕ). getD (set down e 1) k 0) (sym same) ∙ getD-set-same down e 1 0 there)
+    by false q = ap (ltb 0) (getD-set-other down e x 1 0 (λ r. eqb-false e x q (sym r)))
+
+-- which links a list with one pair more names
+named-more : (pre : List ℕ) (d s e x : ℕ) → length pre ≡ 2 * d → isNamed (pre ++ s ∷ e ∷ []) x ≡ (isNamed pre x || eqb e x)
+named-more pre d s e x long =
+    let y : List ℕ = s ∷ e ∷ [] in
+    let test : ℕ → Bool = λ j. eqb (cutLink (pre ++ y) j) x in
+    let old : ℕ → Bool = λ j. eqb (cutLink pre j) x in
+    let z : d + 0 ≡ d = omega arith in
+    let k : pairs pre ≡ d = omega arith in
+    let last : test d ≡ eqb e x = ap (λ (u : ℕ). eqb u x) (rw z at (link-right pre y d long 0)) in
+    let front : some test d ≡ some old d = some-same test old d (λ j h. ap (λ (u : ℕ). eqb u x) (link-left pre y d long j h)) in
+    ap (some test) (pairs-both pre y d long 1 refl) ∙ some-more test d ∙ ap₂ _||_ (front ∙ ap (some old) (sym k)) last
+
+-- what is down with one pair more
+pub down-more : (plan : Plan) (pre down : List ℕ) (d s e o i x : ℕ) → length pre ≡ 2 * d → o ≡ otherWay plan e → e < length down →
+    o < length down → s ≤ i → isDown down x ≡ isCut plan pre i x →
+    isDown (set (set down e 1) o 1) x ≡ isCut plan (pre ++ s ∷ e ∷ []) i x
+unfolding cutsLink
+down-more plan pre down d s e o i x long back there also early is =
+    set-down (set down e 1) o x (omega (arith, length-set down e 1)) ∙
+    ap (λ (b : Bool). eqb o x || b) (set-down down e x there ∙ ap (λ (b : Bool). eqb e x || b) is) ∙
+    turned (eqb o x) (eqb e x) (isCut plan pre i x) ∙
+    sym (cut-more plan pre d s e long i x ∙ rw (← back, le-leb s i early, and-true (eqb e x || eqb o x)))
+  where
+    turned : (a b c : Bool) → (a || (b || c)) ≡ (c || (b || a))
+    turned true true true = refl
+    turned true true false = refl
+    turned true false true = refl
+    turned true false false = refl
+    turned false true true = refl
+    turned false true false = refl
+    turned false false true = refl
+    turned false false false = refl
 
 module _ (row table : List ℕ) (z : Sizes) (p : Picked) (y : Playable row table z) (h : Holding row z p) (s e : ℕ)
     (room : p .count < mostCuts) where
-  pub cuts-more : cutsOf (withPair p s e) ≡ cutsOf p ++ s ∷ e ∷ []
+  pub cuts-more : cutsOf (withPair z p s e) ≡ cutsOf p ++ s ∷ e ∷ []
   cuts-more = take-two (p .numbers) (p .count) s e (omega (arith, h .long))
 
-  pub holding-more : code (p .slot) (p .link) ≤ code s e → s < z .timeout → e < z .links → isDown (p .down) e ≡ false →
-      Holding row z (withPair p s e)
-  holding-more later hs he whole =
+  pub holding-more : code (p .slot) (p .link) ≤ code s e → s < z .timeout → e < z .links → isDown (p .closed) e ≡ false →
+      Holding row z (withPair z p s e)
+  holding-more later hs he open =
       record {
         long = length-set (set (p .numbers) (2 * p .count) s) (2 * p .count + 1) e ∙ length-set (p .numbers) (2 * p .count) s ∙ h .long;
         slot = omega arith;
@@ -128,18 +184,33 @@ module _ (row table : List ℕ) (z : Sizes) (p : Picked) (y : Playable row table
         chosen =
             rw cuts-more
             (picked (planOf row) (omega (arith, y .links, y .few)) (cutsOf p) (p .count) (code (p .slot) (p .link)) s e (h .chosen) later
-            (omega (arith, y .timeout)) (omega (arith, y .links)) (λ j l. free row z p h e whole j (omega (arith, h .chosen .long))));
-        size = length-set (p .down) e 1 ∙ h .size;
+            (omega (arith, y .timeout)) (omega (arith, y .links)) (λ j l. free row z p h e he open j (omega (arith, h .chosen .long)))
+            (is-name row z p h e he open));
+        size = length-set (set (p .down) e 1) (otherIn (z .others) e) 1 ∙ length-set (p .down) e 1 ∙ h .size;
         down = λ i x l.
             rw cuts-more
-            (down-more (planOf row) (cutsOf p) (p .down) (p .count) s e i x (h .chosen .long) (omega (arith, h .size, y .few)) l
+            (down-more (planOf row) (cutsOf p) (p .down) (p .count) s e (otherIn (z .others) e) i x (h .chosen .long)
+            (y .others .is e (omega (arith, y .links))) (omega (arith, h .size, y .few))
+            (omega (arith, h .size, y .others .bytes .below e (omega (arith, y .few)))) l
             (h .down i x (omega (arith, h .link, y .few))));
+        shut = length-set (p .closed) e 1 ∙ h .shut;
+        closed = λ x l.
+            rw cuts-more
+            (set-down (p .closed) e x (omega (arith, h .shut, y .few)) ∙ ap (λ (b : Bool). eqb e x || b) (h .closed x l) ∙
+            front (eqb e x) (isNamed (cutsOf p) x) (isHigher (planOf row) x) ∙
+            ap (λ (b : Bool). b || isHigher (planOf row) x) (sym (named-more (cutsOf p) (p .count) s e x (h .chosen .long))));
         past = λ i l.
             getD-set-other (set (p .numbers) (2 * p .count) s) (2 * p .count + 1) i e 0 (λ same. omega arith) ∙
             getD-set-other (p .numbers) (2 * p .count) i s 0 (λ same. omega arith) ∙ h .past i (omega arith);
       }
+    where
+      front : (a b c : Bool) → (a || (b || c)) ≡ (b || a || c)
+      front true true c = refl
+      front true false c = refl
+      front false true c = refl
+      front false false c = refl
 
-  pub stand-more : (n : ℕ) (ps : Standing) → StandAt row n (cutsOf p) s ps → StandAt row n (cutsOf (withPair p s e)) s ps
+  pub stand-more : (n : ℕ) (ps : Standing) → StandAt row n (cutsOf p) s ps → StandAt row n (cutsOf (withPair z p s e)) s ps
   stand-more n ps t =
       rw cuts-more
       (record {

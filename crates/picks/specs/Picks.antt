@@ -12,7 +12,7 @@ use Rattle.scope.specs.Cables.{isHigher}
 use Rattle.scope.specs.Cuts.{pairs, cutLink, isCut}
 use Rattle.scope.specs.Cycle.{orderOf, tableOf, start, positions}
 use Rattle.cables.specs.Others.{OtherWays, higherOf}
-use Rattle.cuts.specs.Down.{isDown}
+use Rattle.cuts.specs.Down.{isDown, withCable}
 use Rattle.table.specs.Table.{entryAt}
 use Rattle.step.specs.declared.Standing.{Standing}
 use Rattle.step.specs.Stand.{Become}
@@ -24,15 +24,15 @@ use Rattle.picks.specs.declared.Picked.{Picked}
 abbrev pub cutsOf : Picked → List ℕ
 cutsOf p = take (2 * p .count) (p .numbers)
 
--- with one pair more, on a cable of links e and o
-abbrev pub withPair : Picked → ℕ → ℕ → ℕ → Picked
-withPair p s e o =
+-- with one pair more
+abbrev pub withPair : Sizes → Picked → ℕ → ℕ → Picked
+withPair z p s e =
     record {
       count = p .count + 1;
       slot = s;
       link = e + 1;
       numbers = set (set (p .numbers) (2 * p .count) s) (2 * p .count + 1) e;
-      down = set (set (p .down) e 1) o 1;
+      down = withCable (z .others) (p .down) e;
       closed = set (p .closed) e 1;
     }
 

@@ -7,6 +7,7 @@ use step::Standing;
 ghost use Prim.Native.Nat.{_+_, _<_};
 ghost use mathlib.Core.Path.{_≡_};
 ghost use Rattle.scope.specs.Limits.{mostCuts, mostSlots, mostLinks};
+ghost use Rattle.cables.specs.Others.{AreLinks};
 ghost use Rattle.picks.specs.Picks.{cutsOf, withPair, noPair, StandAt, MayAdvance};
 
 // The sizes of a plan, its timeout, links and messages; and the other way of each link.
@@ -43,10 +44,10 @@ pub fn no_pair(z: Sizes) -> Picked
     }
 }
 
-// One pair more, on a cable of links e and o.
-pub fn pick(p: Picked, s: usize, e: usize, o: usize) -> Picked
-    requires { ⌜ (p .count < mostCuts) × (s < mostSlots) × (e < mostLinks) × (o < mostLinks) ⌝ }
-    ensures { λ r. ⌜ r ≡ withPair p s e o ⌝ }
+// One pair more: both ways of its cable are down.
+pub fn pick(z: Sizes, p: Picked, s: usize, e: usize) -> Picked
+    requires { ⌜ (p .count < mostCuts) × (s < mostSlots) × (e < mostLinks) × AreLinks (z .others) ⌝ }
+    ensures { λ r. ⌜ r ≡ withPair z p s e ⌝ }
 {
     let at = 2 * p.count;
     let mut q = p;
@@ -56,7 +57,7 @@ pub fn pick(p: Picked, s: usize, e: usize, o: usize) -> Picked
     q.numbers[at] = s as u16;
     q.numbers[at + 1] = e as u16;
     q.down[e] = 1;
-    q.down[o] = 1;
+    q.down[z.others[e] as usize] = 1;
     q.closed[e] = 1;
     q
 }

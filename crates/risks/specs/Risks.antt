@@ -7,6 +7,8 @@ use lib.ListN.{length}
 use Rattle.scope.specs.Limits.{mostCuts, mostSlots, mostLinks, mostMessages, planeSize, weightsSize, topsSize}
 use Rattle.sets.specs.Sums.{sumOf, oneIf}
 use Rattle.sets.specs.Sets.{has}
+use Rattle.cables.specs.Others.{otherIn, AreLinks}
+use Rattle.picks.specs.declared.Sizes.{Sizes}
 use Rattle.bound.specs.Sets.{setIn}
 use Rattle.risks.specs.declared.Hits.{Hits}
 use Rattle.risks.specs.declared.Risk.{Risk}
@@ -26,21 +28,21 @@ risksOf hits away =
       lost = countIn away (λ m. has (hits .touched) m && has (hits .stripped) m);
     }
 
--- a pair on a cable of links e and o may be added, and was
-pub record MayHit (touchSets stripSets : List ℕ) (s e o : ℕ) : Type 0 where
+-- a pair may be added, and was
+pub record MayHit (touchSets stripSets : List ℕ) (z : Sizes) (s e : ℕ) : Type 0 where
   pub touches : length touchSets ≡ planeSize
   pub strips : length stripSets ≡ planeSize
   pub slot : s < mostSlots
   pub link : e < mostLinks
-  pub other : o < mostLinks
+  pub others : AreLinks (z .others)
 
 -- in the new set are those of the old one, and of the sets of both links
 abbrev pub IsHitIn : List ℕ → ℕ → ℕ → ℕ → ℕ → ℕ → Type 0
 IsHitIn sets s e o old new = (m : ℕ) → has new m ≡ (has old m || has (setIn sets s e) m || has (setIn sets s o) m)
 
-pub record IsHit (touchSets stripSets : List ℕ) (old : Hits) (s e o : ℕ) (new : Hits) : Type 0 where
-  pub touched : IsHitIn touchSets s e o (old .touched) (new .touched)
-  pub stripped : IsHitIn stripSets s e o (old .stripped) (new .stripped)
+pub record IsHit (touchSets stripSets : List ℕ) (z : Sizes) (old : Hits) (s e : ℕ) (new : Hits) : Type 0 where
+  pub touched : IsHitIn touchSets s e (otherIn (z .others) e) (old .touched) (new .touched)
+  pub stripped : IsHitIn stripSets s e (otherIn (z .others) e) (old .stripped) (new .stripped)
 
 pub record MayWeigh (risk : Risk) (n : ℕ) (most : List ℕ) (s : ℕ) : Type 0 where
   pub touched : risk .touched ≤ mostMessages

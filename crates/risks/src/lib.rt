@@ -1,6 +1,7 @@
 // What the pairs picked and those to come can lose: whom a list touches and strips, how many of these are away, and which links are worth a
 // cut, as far as lists that leave too few arrivals are sought. Two walks over cut lists lean on it: the search for a failing list and the
 // game for the least arrivals. It leans on `bound` for the weights and on `sets` for sets of messages.
+use picks::Sizes;
 use scope::limits::MESSAGES;
 use scope::limits::PLANE;
 use scope::limits::SLOTS;
@@ -231,13 +232,13 @@ pub fn no_hits() -> Hits
     }
 }
 
-// Those that are hit with one pair more, on a cable of links e and o.
-pub fn hit(touches: &[u32], strips: &[u32], hits: Hits, s: usize, e: usize, o: usize) -> Hits
-    requires { ⌜ MayHit (now touches) (now strips) s e o ⌝ }
-    ensures { λ r. ⌜ IsHit (now (touches .entry)) (now (strips .entry)) hits s e o r ⌝ }
+// Those that are hit with one pair more, either way of its cable.
+pub fn hit(touches: &[u32], strips: &[u32], z: Sizes, hits: Hits, s: usize, e: usize) -> Hits
+    requires { ⌜ MayHit (now touches) (now strips) z s e ⌝ }
+    ensures { λ r. ⌜ IsHit (now (touches .entry)) (now (strips .entry)) z hits s e r ⌝ }
 {
     let k = table::index(s, e);
-    let j = table::index(s, o);
+    let j = table::index(s, z.others[e] as usize);
     Hits {
         touched: sets::either(hits.touched, sets::either(touches[k], touches[j])),
         stripped: sets::either(hits.stripped, sets::either(strips[k], strips[j])),

@@ -129,9 +129,8 @@ fn in_slot(
     let links = a.sizes.links;
     let mut i = risks::next_link(&closed, weights, most, a.need, rest, s, e, links);
     while i < links {
-        let o = a.sizes.others[i] as usize;
-        let q = picks::pick(p, s, i, o);
-        let more = risks::hit(touches, strips, hits, s, i, o);
+        let q = picks::pick(a.sizes, p, s, i);
+        let more = risks::hit(touches, strips, a.sizes, hits, s, i);
         let r = level(
             row,
             table,
