@@ -105,12 +105,12 @@ take-two l d s e h =
 module _ (row : List ℕ) (z : Sizes) (p : Picked) (h : Holding row z p) (e : ℕ) where
   -- a link that is not closed is named by no pair, and may be
   pub free : e < z .links → isDown (p .closed) e ≡ false → (j : ℕ) → j < pairs (cutsOf p) → cutLink (cutsOf p) j ≡ e → ⊥
-  free l open j there same =
-      let none = or-left (isNamed (cutsOf p) e) (isHigher (planOf row) e) (sym (h .closed e l) ∙ open) in
+  free l may j there same =
+      let none = or-left (isNamed (cutsOf p) e) (isHigher (planOf row) e) (sym (h .closed e l) ∙ may) in
       eqb-false (cutLink (cutsOf p) j) e (none-below (λ k. eqb (cutLink (cutsOf p) k) e) (pairs (cutsOf p)) none j there) same
 
   pub is-name : e < z .links → isDown (p .closed) e ≡ false → isHigher (planOf row) e ≡ false
-  is-name l open = or-right (isNamed (cutsOf p) e) (isHigher (planOf row) e) (sym (h .closed e l) ∙ open)
+  is-name l may = or-right (isNamed (cutsOf p) e) (isHigher (planOf row) e) (sym (h .closed e l) ∙ may)
 
   -- no list goes on with one that is closed
   pub closed-already : (Answers : List ℕ → Type 0) → length (planOf row .links) ≤ mostLinks → e < z .links → (k s : ℕ) →
@@ -176,7 +176,7 @@ module _ (row table : List ℕ) (z : Sizes) (p : Picked) (y : Playable row table
 
   pub holding-more : code (p .slot) (p .link) ≤ code s e → s < z .timeout → e < z .links → isDown (p .closed) e ≡ false →
       Holding row z (withPair z p s e)
-  holding-more later hs he open =
+  holding-more later hs he may =
       record {
         long = length-set (set (p .numbers) (2 * p .count) s) (2 * p .count + 1) e ∙ length-set (p .numbers) (2 * p .count) s ∙ h .long;
         slot = omega arith;
@@ -184,8 +184,8 @@ module _ (row table : List ℕ) (z : Sizes) (p : Picked) (y : Playable row table
         chosen =
             rw cuts-more
             (picked (planOf row) (omega (arith, y .links, y .few)) (cutsOf p) (p .count) (code (p .slot) (p .link)) s e (h .chosen) later
-            (omega (arith, y .timeout)) (omega (arith, y .links)) (λ j l. free row z p h e he open j (omega (arith, h .chosen .long)))
-            (is-name row z p h e he open));
+            (omega (arith, y .timeout)) (omega (arith, y .links)) (λ j l. free row z p h e he may j (omega (arith, h .chosen .long)))
+            (is-name row z p h e he may));
         size = length-set (set (p .down) e 1) (otherIn (z .others) e) 1 ∙ length-set (p .down) e 1 ∙ h .size;
         down = λ i x l.
             rw cuts-more
