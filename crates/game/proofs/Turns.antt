@@ -43,7 +43,7 @@ pub record Breaking (row : List ℕ) (z : Sizes) (p : Picked) (n s e least best 
   pub start : e ≤ i
   pub within : i ≤ z .links
   pub some : i < z .links → 0 < n
-  pub free : i < z .links → isDown (p .down) i ≡ false
+  pub free : i < z .links → isDown (p .closed) i ≡ false
 
 -- the bounds hold whatever number of arrivals is asked for
 module _ (row table touchSets stripSets weights most : List ℕ) (z : Sizes) (b : Board row table touchSets stripSets weights most z) where
@@ -123,7 +123,7 @@ module _ (row table touchSets stripSets weights most : List ℕ) (z : Sizes) (hi
 
     -- the links of slot s that are worth a cut, where fewer than l arrivals are sought
     abbrev test : ℕ → ℕ → Bool
-    test need = passes (p .down) weights most need rest s
+    test need = passes (p .closed) weights most need rest s
 
     -- links passed over that are worth no cut
     over-links : (l j a f : ℕ) → j < n → f ≤ z .links → ((b : ℕ) → a ≤ b → b < f → test (neededFor (z .messages) l) b ≡ false) →
@@ -134,10 +134,10 @@ module _ (row table touchSets stripSets weights most : List ℕ) (z : Sizes) (hi
         - 1)
         j rest leaves (omega arith) (code s e) a f within none
 
-    free-link : (need i : ℕ) → test need i ≡ true → isDown (p .down) i ≡ false
+    free-link : (need i : ℕ) → test need i ≡ true → isDown (p .closed) i ≡ false
     free-link need i t =
-        not-true (isDown (p .down) i)
-        (and-eq-true-iff (not (isDown (p .down) i)) (not (tooLight need (lossWith rest weights most need s i))) .0 t .0)
+        not-true (isDown (p .closed) i)
+        (and-eq-true-iff (not (isDown (p .closed) i)) (not (tooLight need (lossWith rest weights most need s i))) .0 t .0)
 
     module _ (need f more : ℕ) (hn : need ≡ neededFor (z .messages) least) (hf : f ≡ firstWorth n (test need) (z .links))
         (hm : more ≡ worthPicking n f (z .links)) where
@@ -284,28 +284,29 @@ module _ (row table touchSets stripSets weights most : List ℕ) (z : Sizes) (hi
 
     -- a link is cut
     module _ (best i : ℕ) (g : Breaking row z p n s e least best i) (l : i < z .links) where
-      pub may-hit : MayHit touchSets stripSets s i
+      pub may-hit : MayHit touchSets stripSets z s i
       may-hit =
           record {
             touches = board .hit .touch;
             strips = board .hit .strip;
             slot = omega (arith, m .turn .early, board .play .short);
             link = omega (arith, board .play .few);
+            others = board .play .others .bytes;
           }
 
       pub room : p .count < mostCuts
       room = omega (arith, m .turn .few, g .some l)
 
-      more-cuts : cutsOf (withPair p s i) ≡ cutsOf p ++ s ∷ i ∷ []
+      more-cuts : cutsOf (withPair z p s i) ≡ cutsOf p ++ s ∷ i ∷ []
       more-cuts = cuts-more row table z p (board .play) (m .turn .holding) s i room
 
-      holds : Holding row z (withPair p s i)
+      holds : Holding row z (withPair z p s i)
       holds =
           holding-more row table z p (board .play) (m .turn .holding) s i room (omega (arith, m .later, g .start)) (m .turn .early) l (g .free
           l)
 
-      module _ (q : Picked) (isq : q ≡ withPair p s i) where
-        pub may-cut : (more : Hits) → IsHit touchSets stripSets hits s i more →
+      module _ (q : Picked) (isq : q ≡ withPair z p s i) where
+        pub may-cut : (more : Hits) → IsHit touchSets stripSets z hits s i more →
             MayBreak row table touchSets stripSets weights most z more ps left q (n - 1) s (i + 1) best
         may-cut more hit =
             record {
@@ -335,14 +336,14 @@ module _ (row table touchSets stripSets weights most : List ℕ) (z : Sizes) (hi
 
         -- and the loop goes on behind it
         module _ (r : ℕ) (t : Turned row q (n - 1) (code s (i + 1)) best r) where
-          told : Turned row (withPair p s i) (n - 1) (code s (i + 1)) best r
+          told : Turned row (withPair z p s i) (n - 1) (code s (i + 1)) best r
           told = rw isq at t
 
           -- no list that goes on with this pair leaves fewer
           this-pair : (k : ℕ) → k < n → NoneOf (planOf row) (Fails (planOf row) r) (cutsOf p ++ s ∷ i ∷ []) k
           this-pair k h =
               rw more-cuts at
-              (all-of (planOf row) links-few (cutsOf (withPair p s i)) (p .count + 1) (code s (i + 1)) (holds .chosen) (n - 1) r (told .leave) k
+              (all-of (planOf row) links-few (cutsOf (withPair z p s i)) (p .count + 1) (code s (i + 1)) (holds .chosen) (n - 1) r (told .leave) k
               (omega arith))
 
           pub still-low : r ≤ z .messages

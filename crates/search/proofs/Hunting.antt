@@ -49,20 +49,20 @@ module _ (row table touchSets stripSets weights most : List ℕ) (a : Asked) (ps
   pub hunt-first : Hunting row a low k low
   hunt-first = record { within = m .within; leave = m .before }
 
-  pub may-seek : (n : ℕ) (p : Picked) (hits : Hits) (left : ℕ) → n ≤ k → p ≡ noPair → hits ≡ noHits →
+  pub may-seek : (n : ℕ) (p : Picked) (hits : Hits) (left : ℕ) → n ≤ k → p ≡ noPair (a .sizes) → hits ≡ noHits →
       AreAway (ps .positions) (a .sizes .messages) left → MaySeek row table touchSets stripSets weights most a hits ps left p n
   may-seek n p hits left h is none are =
       record {
         ready = m .ready;
-        holding = rw is (holding-none row (a .sizes));
+        holding = rw is (holding-none row table (a .sizes) (m .ready .play));
         covers = rw (is, none) (covers-none row);
         stand = rw is (m .stand);
         away = are;
         few = rw is (omega (arith, m .few));
       }
 
-  module _ (n : ℕ) (g : Hunting row a low k n) (p : Picked) (r : Found) (is : p ≡ noPair) (f : Sought row a p n r) where
-    found : Sought row a noPair n r
+  module _ (n : ℕ) (g : Hunting row a low k n) (p : Picked) (r : Found) (is : p ≡ noPair (a .sizes)) (f : Sought row a p n r) where
+    found : Sought row a (noPair (a .sizes)) n r
     found = rw is at f
 
     same : 2 * (0 + n) ≡ 2 * n

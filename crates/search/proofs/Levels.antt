@@ -38,7 +38,7 @@ pub record Looking (row weights most : List ℕ) (a : Asked) (p : Picked) (n s e
   pub leave : NoneIn (planOf row) (Seeks row a) (cutsOf p) (n - 1) (code s e) (code s i)
   pub start : e ≤ i
   pub within : i ≤ a .sizes .links
-  pub may : i < a .sizes .links → passes (p .down) weights most (a .need) rest s i ≡ true
+  pub may : i < a .sizes .links → passes (p .closed) weights most (a .need) rest s i ≡ true
 
 -- over the slots: the lists whose next pair comes before slot s and link e leave enough, and those of a set are still away
 pub record Climbing (row : List ℕ) (a : Asked) (p : Picked) (n s e : ℕ) (qs : Standing) (still : ℕ) : Type 0 where
@@ -58,16 +58,16 @@ module _ (row table touchSets stripSets weights most : List ℕ) (a : Asked) (p 
 
   -- links of slot s passed over, none of which may be tried
   passed-over : (lo s e f : ℕ) (rest : Rest) → Leaves row (cutsOf p) most s (n - 1) rest → f ≤ a .sizes .links →
-      ((b : ℕ) → e ≤ b → b < f → passes (p .down) weights most (a .need) rest s b ≡ false) →
+      ((b : ℕ) → e ≤ b → b < f → passes (p .closed) weights most (a .need) rest s b ≡ false) →
       NoneIn (planOf row) (Seeks row a) (cutsOf p) (n - 1) lo (code s e) → NoneIn (planOf row) (Seeks row a) (cutsOf p) (n - 1) lo (code s f)
   passed-over lo s e f rest v =
       skipped row table weights most (a .sizes) p (Seeks row a) (a .need) (y .bounds) (y .play) h s (n - 1) (n - 1) rest v (omega arith) lo e f
 
   pub looked : (s e i : ℕ) (rest : Rest) (r : ℕ) → Leaves row (cutsOf p) most s (n - 1) rest → e ≤ i → i ≤ a .sizes .links →
       NoneIn (planOf row) (Seeks row a) (cutsOf p) (n - 1) (code s e) (code s i) →
-      r ≡ seek (passes (p .down) weights most (a .need) rest s) (a .sizes .links - i) i → Looking row weights most a p n s e r rest
+      r ≡ seek (passes (p .closed) weights most (a .need) rest s) (a .sizes .links - i) i → Looking row weights most a p n s e r rest
   looked s e i rest r v low high leave found =
-      let test = passes (p .down) weights most (a .need) rest s in
+      let test = passes (p .closed) weights most (a .need) rest s in
       let from = seek-from test (a .sizes .links - i) i in
       let most′ = seek-most test (a .sizes .links - i) i in
       record {
@@ -83,13 +83,13 @@ module _ (row table touchSets stripSets weights most : List ℕ) (a : Asked) (p 
   look-first s e x y z long low high = absurd (omega arith)
 
   module _ (s e i : ℕ) (rest : Rest) (g : Looking row weights most a p n s e i rest) where
-    pub not-cut-yet : i < a .sizes .links → isDown (p .down) i ≡ false
+    pub not-cut-yet : i < a .sizes .links → isDown (p .closed) i ≡ false
     not-cut-yet l =
-        not-true (isDown (p .down) i)
-        (and-eq-true-iff (not (isDown (p .down) i)) (not (tooLight (a .need) (lossWith rest weights most (a .need) s i))) .0 (g .may l) .0)
+        not-true (isDown (p .closed) i)
+        (and-eq-true-iff (not (isDown (p .closed) i)) (not (tooLight (a .need) (lossWith rest weights most (a .need) s i))) .0 (g .may l) .0)
 
-    module _ (r : Found) (l : i < a .sizes .links) (f : Sought row a (withPair p s i) (n - 1) r) where
-      more : cutsOf (withPair p s i) ≡ cutsOf p ++ s ∷ i ∷ []
+    module _ (r : Found) (l : i < a .sizes .links) (f : Sought row a (withPair (a .sizes) p s i) (n - 1) r) where
+      more : cutsOf (withPair (a .sizes) p s i) ≡ cutsOf p ++ s ∷ i ∷ []
       more = cuts-more row table (a .sizes) p (y .play) h s i (omega arith)
 
       pub look-some : r .found ≡ true → SoughtIn row a p n s e r
@@ -131,7 +131,7 @@ module _ (row table touchSets stripSets weights most : List ℕ) (a : Asked) (p 
   module _ (s e : ℕ) (qs : Standing) (still : ℕ) (g : Climbing row a p n s e qs still) where
     -- no link of this slot may be tried
     pub climb-stop : (r : Found) (rest : Rest) (f : ℕ) → r ≡ noFound → Leaves row (cutsOf p) most s (n - 1) rest →
-        f ≡ seek (passes (p .down) weights most (a .need) rest s) (a .sizes .links - 0) 0 → a .sizes .links ≤ f → Sought row a p n r
+        f ≡ seek (passes (p .closed) weights most (a .need) rest s) (a .sizes .links - 0) 0 → a .sizes .links ≤ f → Sought row a p n r
     climb-stop r rest f is v found over =
         let plan = planOf row in
         let Answers = Seeks row a in
@@ -144,9 +144,9 @@ module _ (row table touchSets stripSets weights most : List ℕ) (a : Asked) (p 
 
     -- no list goes on with a link of this slot before the first that may be tried
     pub climb-skip : (rest : Rest) (f j : ℕ) → Leaves row (cutsOf p) most s (n - 1) rest →
-        f ≡ seek (passes (p .down) weights most (a .need) rest s) (a .sizes .links - 0) 0 → j ≡ e + (f - e) → Climbing row a p n s j qs still
+        f ≡ seek (passes (p .closed) weights most (a .need) rest s) (a .sizes .links - 0) 0 → j ≡ e + (f - e) → Climbing row a p n s j qs still
     climb-skip rest f j v found is =
-        let test = passes (p .down) weights most (a .need) rest s in
+        let test = passes (p .closed) weights most (a .need) rest s in
         let within : j ≤ a .sizes .links = omega (arith, g .link, seek-most test (a .sizes .links - 0) 0) in
         record {
           leave =
@@ -198,7 +198,7 @@ module _ (row table touchSets stripSets weights most : List ℕ) (a : Asked) (p 
 -- the calls
 module _ (row table touchSets stripSets weights most : List ℕ) (a : Asked) (hits : Hits) (ps : Standing) (left : ℕ) (p : Picked) (n s e : ℕ)
     (rest : Rest) (m : MaySeekIn row table touchSets stripSets weights most a hits ps left p n s e rest) where
-  next-holds : (i : ℕ) → Looking row weights most a p n s e i rest → i < a .sizes .links → Holding row (a .sizes) (withPair p s i)
+  next-holds : (i : ℕ) → Looking row weights most a p n s e i rest → i < a .sizes .links → Holding row (a .sizes) (withPair (a .sizes) p s i)
   next-holds i g l =
       holding-more row table (a .sizes) p (m .ready .play) (m .holding) s i (omega (arith, m .few, m .some)) (omega (arith, m .later, g .start))
       (m .early) l
@@ -214,17 +214,18 @@ module _ (row table touchSets stripSets weights most : List ℕ) (a : Asked) (hi
         omega (arith, m .early, m .ready .play .short);
   }
 
-  pub may-hit : (i : ℕ) → i < a .sizes .links → MayHit touchSets stripSets s i
+  pub may-hit : (i : ℕ) → i < a .sizes .links → MayHit touchSets stripSets (a .sizes) s i
   may-hit i l =
       record {
         touches = m .ready .hit .touch;
         strips = m .ready .hit .strip;
         slot = omega (arith, m .early, m .ready .play .short);
         link = omega (arith, m .ready .play .few);
+        others = m .ready .play .others .bytes;
       }
 
-  pub may-go-on : (i : ℕ) (q : Picked) (more : Hits) → Looking row weights most a p n s e i rest → i < a .sizes .links → q ≡ withPair p s i →
-      IsHit touchSets stripSets hits s i more → MaySeek row table touchSets stripSets weights most a more ps left q (n - 1)
+  pub may-go-on : (i : ℕ) (q : Picked) (more : Hits) → Looking row weights most a p n s e i rest → i < a .sizes .links → q ≡ withPair (a .sizes) p s i →
+      IsHit touchSets stripSets (a .sizes) hits s i more → MaySeek row table touchSets stripSets weights most a more ps left q (n - 1)
   may-go-on i q more g l is hit =
       record {
         ready = m .ready;
@@ -243,14 +244,14 @@ module _ (row table touchSets stripSets weights most : List ℕ) (a : Asked) (hi
       }
 
   pub looks-first : (r : ℕ) →
-      r ≡ seek (passes (p .down) weights most (a .need) rest s) (a .sizes .links - e) e → Looking row weights most a p n s e r rest
+      r ≡ seek (passes (p .closed) weights most (a .need) rest s) (a .sizes .links - e) e → Looking row weights most a p n s e r rest
   looks-first r found =
       looked row table touchSets stripSets weights most a p n (m .ready) (m .holding) (m .some) (m .few) s e e rest r (m .leaves)
       (omega arith) (m .link) (look-first row table touchSets stripSets weights most a p n (m .ready) (m .holding) (m .some) (m .few) s e) found
 
-  module _ (i : ℕ) (q : Picked) (r : Found) (g : Looking row weights most a p n s e i rest) (l : i < a .sizes .links) (is : q ≡ withPair p s i)
+  module _ (i : ℕ) (q : Picked) (r : Found) (g : Looking row weights most a p n s e i rest) (l : i < a .sizes .links) (is : q ≡ withPair (a .sizes) p s i)
       (f : Sought row a q (n - 1) r) where
-    found : Sought row a (withPair p s i) (n - 1) r
+    found : Sought row a (withPair (a .sizes) p s i) (n - 1) r
     found = rw is at f
 
     pub looks-some : r .found ≡ true → SoughtIn row a p n s e r
@@ -258,7 +259,7 @@ module _ (row table touchSets stripSets weights most : List ℕ) (a : Asked) (hi
         look-some row table touchSets stripSets weights most a p n (m .ready) (m .holding) (m .some) (m .few) s e i rest g r l found t
 
     pub looks-on : (j : ℕ) → r .found ≡ false →
-        j ≡ seek (passes (p .down) weights most (a .need) rest s) (a .sizes .links - (i + 1)) (i + 1) →
+        j ≡ seek (passes (p .closed) weights most (a .need) rest s) (a .sizes .links - (i + 1)) (i + 1) →
         Looking row weights most a p n s e j rest
     looks-on j t next =
         looked row table touchSets stripSets weights most a p n (m .ready) (m .holding) (m .some) (m .few) s e (i + 1) rest j (m .leaves)
@@ -310,14 +311,14 @@ module _ (row table touchSets stripSets weights most : List ℕ) (a : Asked) (hi
                 omega (arith, m .ready .play .short);
           }
 
-      pub climbs-stop : (r : Found) (f : ℕ) → r ≡ noFound → f ≡ seek (passes (p .down) weights most (a .need) rest s) (a .sizes .links - 0) 0 →
+      pub climbs-stop : (r : Found) (f : ℕ) → r ≡ noFound → f ≡ seek (passes (p .closed) weights most (a .need) rest s) (a .sizes .links - 0) 0 →
           a .sizes .links ≤ f → Sought row a p n r
       climbs-stop r f none =
           climb-stop row table touchSets stripSets weights most a p n (m .ready) (m .holding) positive (m .few) s e qs still g r rest f none
           leaves
 
       -- from the first link of the slot that may be tried on, if that is a later one
-      module _ (f j : ℕ) (found : f ≡ seek (passes (p .down) weights most (a .need) rest s) (a .sizes .links - 0) 0)
+      module _ (f j : ℕ) (found : f ≡ seek (passes (p .closed) weights most (a .need) rest s) (a .sizes .links - 0) 0)
           (next : j ≡ e + (f - e)) where
         here : Climbing row a p n s j qs still
         here =
