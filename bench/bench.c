@@ -223,8 +223,28 @@ static void begin(void) {
     }
 }
 
+/* A cable goes both ways: the other way of each link, or the link itself; and whether a pair may not name it, since it is the higher one or is named. */
+static u8 other[64], closed[64];
+
 static void clear_cuts(void) {
-    for (int e = 0; e < 64; e++) cut_from[e] = 65535;
+    static u8 lowest[64 * 64]; /* the lowest link with these ends, plus one */
+    for (int i = 0; i < 64 * 64; i++) lowest[i] = 0;
+    for (int e = E - 1; e >= 0; e--) lowest[row[5 + 2 * e] * 64 + row[6 + 2 * e]] = e + 1;
+    for (int e = 0; e < E; e++) {
+        int back = lowest[row[6 + 2 * e] * 64 + row[5 + 2 * e]];
+        other[e] = back ? back - 1 : e;
+        closed[e] = other[e] < e;
+        cut_from[e] = 65535;
+    }
+}
+
+static void cut(int e, int s) { /* both ways, from slot s on; or never */
+    cut_from[e] = cut_from[other[e]] = s;
+}
+
+static void pick(int e, int s) {
+    cut(e, s);
+    closed[e] = s < 65535;
 }
 
 static void turn(position *p) {
@@ -297,16 +317,16 @@ static int replay(void) {
     if (r) return small(r, 0);
     position ps[32];
     clear_cuts();
-    cut_from[0] = 0;
+    cut(0, 0);
     begin();
     copy(ps, start);
     for (int i = 0; i < T; i++) tell(ps, i, out + i * 2 * M);
     return arrived(ps);
 }
 
-/* What a pair can do, by slot and link, with a row behind the last slot. It touches the messages that have its link before them in its slot
+/* What a pair can do, by slot and link, with a row behind the last slot. It touches the messages that have a link of its cable before them in its slot
    or later. A place is robust if its second path is in time whatever holds it up, else fragile. A pair strips the messages of which it
-   touches a fragile place, or whose robust places have its link on their second path. A list loses only what it both touches and strips. */
+   touches a fragile place, or whose robust places have one on their second path. A list loses only what it both touches and strips. */
 static unsigned touches[65 * 64], strips[65 * 64];
 enum { TOUCHED, STRIPPED, BOTH, BOUNDS };
 static u8 weight[BOUNDS][65 * 64], top[BOUNDS][64]; /* BOTH: of touches and strips together */
@@ -344,11 +364,11 @@ static int reach(int n, int s, int x, int y) {
     return x <= n * top[TOUCHED][s] && y <= n * top[STRIPPED][s] && x + y <= n * top[BOTH][s];
 }
 
-/* The first link from e on that is whole and with which n pairs from slot s on can touch x and strip y, or E. */
+/* The first link from e on that may be named and with which n pairs from slot s on can touch x and strip y, or E. */
 static int next_link(int n, int s, int e, int x, int y) {
     for (; e < E; e++) {
         int here = s * 64 + e;
-        if (reach(n - 1, s, x - weight[TOUCHED][here], y - weight[STRIPPED][here]) && cut_from[e] == 65535) break;
+        if (reach(n - 1, s, x - weight[TOUCHED][here], y - weight[STRIPPED][here]) && !closed[e]) break;
     }
     return e;
 }
@@ -365,10 +385,11 @@ static int level(const position *ps, int n, int at, int s, int e, harm by) {
         if (f == E) return 0;
         for (e = next_link(n, s, e > f ? e : f, x, y); e < E; e = next_link(n, s, e + 1, x, y)) {
             harm all = {by.touched | touches[s * 64 + e], by.stripped | strips[s * 64 + e]};
-            cut_from[e] = pairs[at] = s;
+            pick(e, s);
+            pairs[at] = s;
             pairs[at + 1] = e;
             int found = n == 1 ? finish(now, s, all) : level(now, n - 1, at + 2, s, e + 1, all);
-            cut_from[e] = 65535;
+            pick(e, 65535);
             if (found) return 1;
         }
         slot(now, s);
@@ -441,6 +462,19 @@ static int prepare(void) { /* what the search is lent; 0, or a refusal */
             strips[at] = strips[at + 64] | (bare ? m : 0);
             weight[TOUCHED][at] = weight[TOUCHED][at + 64] + !!m;
             weight[STRIPPED][at] = weight[STRIPPED][at + 64] + bare;
+        }
+    }
+    for (int e = 0; e < E; e++) { /* the name of a cable has what its other way has */
+        int o = other[e];
+        for (int at = e, to = o; e < o && at < T * 64; at += 64, to += 64) {
+            touches[at] |= touches[to];
+            strips[at] |= strips[to];
+            weight[TOUCHED][at] += weight[TOUCHED][to];
+            weight[STRIPPED][at] += weight[STRIPPED][to];
+        }
+    }
+    for (int s = T - 1; s >= 0; s--) {
+        for (int e = 0, at = s * 64; e < E; e++, at++) {
             weight[BOTH][at] = weight[TOUCHED][at] + weight[STRIPPED][at];
             for (int b = 0; b < BOUNDS; b++)
                 if (weight[b][at] > top[b][s]) top[b][s] = weight[b][at];
@@ -514,9 +548,9 @@ static void breaker(const position *ps, unsigned left, int n, int s, int e, harm
     } else
         for (e = next_link(n, s, e > f ? e : f, need - x, need - y); e < E; e = next_link(n, s, e + 1, need - x, need - y)) {
             harm all = {by.touched | touches[s * 64 + e], by.stripped | strips[s * 64 + e]};
-            cut_from[e] = s;
+            pick(e, s);
             breaker(ps, left, n - 1, s, e + 1, all);
-            cut_from[e] = 65535;
+            pick(e, 65535);
         }
     network(ps, n, s, by);
 }
@@ -604,11 +638,11 @@ static int suspect(const position *ps, int i, int n, usize *links) {
         else if (clue == DEAD || named == n) none = 1;
         else {
             names[named++] = clue;
-            cut_from[clue] = i;
-            *links |= 1ul << clue;
+            cut(clue, i);
+            *links |= 1ul << clue | 1ul << other[clue];
         }
     }
-    for (int j = 0; j < named; j++) cut_from[names[j]] = 65535;
+    for (int j = 0; j < named; j++) cut(names[j], 65535);
     return none ? -1 : named;
 }
 
@@ -618,12 +652,13 @@ static int seek(const position *ps, int n, int at, int s, int e, int named, usiz
     usize only = named == n ? links : ~0ul;
     for (; s < T; s++, e = 0) {
         for (; e < E; e++) {
-            if (cut_from[e] != 65535 || !(only >> e & 1) || s < past[e]) continue;
-            cut_from[e] = pairs[at] = s;
+            if (closed[e] || !(only >> e & 1) || s < past[e] || s < past[other[e]]) continue;
+            pick(e, s);
+            pairs[at] = s;
             pairs[at + 1] = e;
             named = suspect(ps, s, n - 1, &links);
             int found = named >= 0 && (n == 1 || seek(ps, n - 1, at + 2, s, e + 1, named, links));
-            cut_from[e] = 65535;
+            pick(e, 65535);
             if (found) return 1;
         }
         if (look(ps, room[s & 1], s) != NOTHING) return 0;
@@ -663,7 +698,7 @@ static int told(int k) { /* what `slotsK` tells */
 static int crossings(void) { /* the capture of the replay under the cuts that were read: links rise in a slot, and then messages */
     judge();
     clear_cuts();
-    for (int i = 0; i + 1 < given; i += 2) cut_from[input[i + 1]] = input[i];
+    for (int i = 0; i + 1 < given; i += 2) cut(input[i + 1], input[i]);
     begin();
     for (int i = 0; i < T; i++) {
         tell(start, i, out);

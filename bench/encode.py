@@ -1,18 +1,18 @@
 #!/usr/bin/env python3
-"""The question behind a verdict, or behind an explanation, as SMT-LIB2, from document 01's rules: is there a cut list of at most K pairs that leaves
+"""The question behind a verdict, or behind an explanation, as SMT-LIB2, from document 01's rules and document 02's [3]: is there a cut list of at most K pairs that leaves
 fewer than L arrivals, or under which exactly the crossings of a capture are made?
 
   bench/encode.py PLAN K L      the plan file; the question goes to standard output
   bench/encode.py PLAN K        the capture is on standard input, a byte a number
 
-Booleans alone, with Z3's bounds on how many of them are true. A link's cut is one boolean a slot, which rises once. A message is on its first path
+Booleans alone, with Z3's bounds on how many of them are true. A cable's cut is one boolean a slot, which rises once. A message is on its first path
 as planned, or at a step of one of its second paths, one boolean for each time at which it can be there. Where the plan decides, nothing is asked:
 which link a message on its first path waits for, and which links the table gives away."""
 import sys
 
 
 def read(file):
-    """The timeout, the number of links, and for each message its places: link, slot, links of the second path or None."""
+    """The timeout, for each link the lower one of its cable, and for each message its places: link, slot, links of the second path or None."""
     bits = ''.join('{:08b}'.format(byte) for byte in file)
     at = 0
 
@@ -23,8 +23,8 @@ def read(file):
 
     field(4), field(6)
     links, messages, timeout = field(6) + 1, field(5) + 1, field(6) + 1
-    for _ in range(links):
-        field(12)
+    ends = [(field(6), field(6)) for _ in range(links)]
+    names = [min(e, ends.index((to, by)) if (to, by) in ends else e) for e, (by, to) in enumerate(ends)]
     plan = []
     for _ in range(messages):
         places = []
@@ -33,10 +33,10 @@ def read(file):
             second = [field(6) for _ in range(field(4) + 1)] if field(1) else None
             places.append((link, slot, second))
         plan.append(places)
-    return timeout, links, plan
+    return timeout, names, plan
 
 
-def encode(timeout, links, plan, k, l, capture=None):
+def encode(timeout, names, plan, k, l, capture=None):
     """The question for l arrivals, or, where there is one, for a capture: a list of triples slot, link, message."""
     lines = ['(set-logic QF_FD)']
     count = 0
@@ -55,13 +55,14 @@ def encode(timeout, links, plan, k, l, capture=None):
     def all_of(parts):
         return '(and %s)' % ' '.join(parts)
 
-    down = [['d%d_%d' % (e, i) for i in range(timeout)] for e in range(links)]
-    for e in range(links):
+    down = [['d%d_%d' % (e, i) for i in range(timeout)] for e in names]
+    cables = sorted(set(names))
+    for e in cables:
         for i in range(timeout):
             lines.append('(declare-const %s Bool)' % down[e][i])
             if i:
                 lines.append('(assert (=> %s %s))' % (down[e][i - 1], down[e][i]))
-    lines.append('(assert ((_ at-most %d) %s))' % (k, ' '.join(down[e][-1] for e in range(links))))
+    lines.append('(assert ((_ at-most %d) %s))' % (k, ' '.join(down[e][-1] for e in cables)))
 
     given = {(link, slot) for places in plan for link, slot, _ in places}
     on_first = ['true'] * len(plan)  # on its first path as planned; None once it is at its target

@@ -183,11 +183,12 @@ def lists_played():
     print('\n%-10s %1s %6s %12s %12s %18s %12s' % ('plan', 'k', 'walks', 'lists played', 'slots played', 'lists there are', 'played'), flush=True)
     edges = {}
     for plan in searched:
-        timeout, links, _ = plan_of(plan)
+        timeout, names, _ = plan_of(plan)
+        cables = len(set(names))
         for k in 1, 2, 3:
             rows = walks(plan, k)
             lists, slots = sum(int(row[2]) for row in rows), sum(int(row[3]) for row in rows)
-            there = sum(math.comb(links, n) * timeout**n for n in range(k + 1))
+            there = sum(math.comb(cables, n) * timeout**n for n in range(k + 1))
             print('%-10s %d %6d %12d %12d %18d %11.5f%%' % (plan, k, len(rows), lists, slots, there, 100 * lists / there), flush=True)
         last = rows[-1]
         edges[plan] = int(last[0] if last[4] == '-' else last[4])
@@ -198,9 +199,10 @@ def each_walk():
     """The walks of two plans one by one."""
     print('\n%-10s %2s %5s %12s %12s %18s   %s' % ('plan, k 3', 'l', 'pairs', 'lists played', 'slots played', 'lists there are', 'found'), flush=True)
     for plan in 'network-1', 'wide-1':
-        timeout, links, _ = plan_of(plan)
+        timeout, names, _ = plan_of(plan)
+        cables = len(set(names))
         for l, pairs, lists, slots, found in walks(plan, 3):
-            there = math.comb(links, int(pairs)) * timeout ** int(pairs)
+            there = math.comb(cables, int(pairs)) * timeout ** int(pairs)
             arrivals = '-' if found == '-' else 'a list that leaves ' + found
             print('%-10s %2s %5s %12s %12s %18d   %s' % (plan, l, pairs, lists, slots, there, arrivals), flush=True)
 
@@ -266,14 +268,14 @@ def crossings(plan, cuts):
 
 
 def captures(plan):
-    """The captures that are asked about, by name. Random cuts are of links that a message still has before it, each in a random slot up to its last
+    """The captures that are asked about, by name. Random cuts are of cables that a message still has before it, each in a random slot up to its last
     place there; late cuts are those of the last places of the plan, each in the slot of its place."""
-    _, _, messages = plan_of(plan)
+    _, names, messages = plan_of(plan)
     draw = random.Random(plan)
     last = {}
     for slot, link in sorted((slot, link) for places in messages for link, slot, _ in places):
-        last[link] = slot
-    drawn = {'%d cuts' % n: sorted((draw.randrange(last[link] + 1), link) for link in draw.sample(sorted(last), n)) for n in range(5)}
+        last[names[link]] = slot
+    drawn = {'%d cuts' % n: sorted((draw.randrange(last[link] + 1), link) for link in draw.sample(sorted(last), min(n, len(last)))) for n in range(5)}
     late = sorted(((slot, link) for link, slot in last.items()), reverse=True)
     drawn.update(('late %d' % n, sorted(late[:n])) for n in (1, 2, 3))
     made = {name: crossings(plan, cuts) for name, cuts in drawn.items()}
