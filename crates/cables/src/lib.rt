@@ -11,7 +11,7 @@ ghost use lib.Dec.{ltb};
 ghost use Rattle.scope.specs.Plan.{planOf};
 ghost use Rattle.rows.specs.Lies.{PlanLies};
 ghost use Rattle.cables.specs.Others.{otherIn, higherOf, OtherWays};
-ghost use Rattle.cables.specs.Ends.{MayPut, EndsOf, MayFind, IsOther};
+ghost use Rattle.cables.specs.Ends.{MayPut, EndsFrom, MayFind, IsOther};
 
 // The other way of a link, from a byte a link; a link past them is its own.
 pub fn other(others: &[u8], e: usize) -> usize
@@ -49,7 +49,7 @@ pub fn higher(others: &[u8]) -> [u8; LINKS]
 // For each two ends the lowest link that has them, plus one, where the bytes are 0 before.
 fn put_ends(row: &[u16], table: &mut [u8])
     requires { ⌜ MayPut (now row) (now table) ⌝ }
-    ensures { λ _. ⌜ EndsOf (planOf (now (row .entry))) (now (table .exit)) ⌝ }
+    ensures { λ _. ⌜ EndsFrom (planOf (now (row .entry))) 0 (now (table .exit)) ⌝ }
 {
     let mut e = rows::links(row);
     while 0 < e {
