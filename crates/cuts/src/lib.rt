@@ -1,6 +1,6 @@
 // Cut lists: refusal 12, and what is down in a slot, so that "is this link down" is one read.
-// It leans on specs/ of `scope` (Cuts, Outcome), on the total read of `rows` and on `cables` for the other way of a link. No function but `bad_pair` and its parts asks
-// anything of the list, and no list is passed over further than its first bad pair.
+// It leans on specs/ of `scope` (Cuts, Outcome), on the total read of `rows` and on `cables` for the other way of a link. No function but
+// `bad_pair` and its parts asks anything of the list, and no list is passed over further than its first bad pair.
 use rows::number;
 use scope::Answer;
 use scope::limits::LINKS;
@@ -13,7 +13,7 @@ ghost use Rattle.scope.specs.Plan.{planOf};
 ghost use Rattle.scope.specs.Cuts.{pairs, falls, checkCuts};
 ghost use Rattle.cables.specs.Others.{OtherWays};
 ghost use Rattle.cuts.specs.Pairs.{isTwice, isBad};
-ghost use Rattle.cuts.specs.Down.{isDown, withLink, withCable, withPair, DownIn};
+ghost use Rattle.cuts.specs.Down.{isDown, withLink, withPair, DownIn};
 
 // A link is down: its byte is not 0. One past the list is whole.
 pub fn is_down(down: &[u8], link: usize) -> bool

@@ -7,16 +7,20 @@ use Rattle.cuts.proofs.check.Tie as tie
 
 returns : tie.Need-returns
 returns c =
-    let s = c .before .before .before .before .before .before .before .before in
-    c .refuse .ensures ∙ check-some (s .args .row .now) (s .args .cuts .now) _ _ _ _ (c .before .before .before .before .before .count .ensures)
-    (c .before .before .before .before .timeout .ensures .is) (c .before .before .before .links .ensures .is)
-    (c .before .before .first-bad .ensures) (c .before .if1 .taken)
+    let b = c .before .before in
+    let s = b .before .before .before .before .before .before .before in
+    let a = s .args in
+    c .refuse .ensures ∙
+    check-some (a .row .now) (a .others .now) (a .cuts .now) _ _ _ _ (s .pre) (b .before .before .before .count .ensures)
+    (b .before .before .timeout .ensures .is) (b .before .links .ensures .is) (b .first-bad .ensures) (c .before .if1 .taken)
 
 returns-2 : tie.Need-returns-2
 returns-2 c =
-    let s = c .before .before .before .before .before .before .before in
-    check-none (s .args .row .now) (s .args .cuts .now) _ _ _ _ (c .before .before .before .before .count .ensures)
-    (c .before .before .before .timeout .ensures .is) (c .before .before .links .ensures .is) (c .before .first-bad .ensures) (c .if1 .left)
+    let b = c .before in
+    let s = b .before .before .before .before .before .before .before in
+    let a = s .args in
+    check-none (a .row .now) (a .others .now) (a .cuts .now) _ _ _ _ (s .pre) (b .before .before .before .count .ensures)
+    (b .before .before .timeout .ensures .is) (b .before .links .ensures .is) (b .first-bad .ensures) (c .if1 .left)
 
 pub check-spec : {M : Type 1} → statement M
 check-spec =

@@ -1,7 +1,6 @@
 -- `cuts::first_bad` meets its contract. The loop's invariant: the search from i on finds the same. Assumes nothing.
 use mathlib.Core.Path.{_≡_, sym, _∙_, ap}
 use Prim.Native.Nat.{_-_, _≤_}
-use mathlib.Core.Path.{_≡_, sym, _∙_}
 use Rattle.scope.specs.Lowest.{seek, lowest}
 use Rattle.scope.specs.Cuts.{pairs}
 use Rattle.scope.proofs.Lowest.{seek-found, seek-next, seek-done}
@@ -12,20 +11,17 @@ use Rattle.cuts.proofs.first_bad.Statement.{statement}
 use Rattle.cuts.proofs.first_bad.Tie as tie
 
 abbrev Inv-loop : tie.InvT-loop
-Inv-loop timeout links cuts n i₀ i = (i ≤ n) × (n ≡ pairs cuts) ×
-    (seek (isBad timeout links cuts) (n - i) i ≡ lowest (isBad timeout links cuts) (pairs cuts))
+Inv-loop timeout links others cuts n i₀ i = (i ≤ n) × (n ≡ pairs cuts) ×
+    (seek (isBad timeout links others cuts) (n - i) i ≡ lowest (isBad timeout links others cuts) (pairs cuts))
 
 abbrev μ-loop : tie.MeasureT-loop
-μ-loop timeout links cuts n i₀ i = n - i
+μ-loop timeout links others cuts n i₀ i = n - i
 
 loop-holds : tie.Need-loop-holds Inv-loop μ-loop
 loop-holds c =
-    let p : c .count .result ≡ pairs (c .before .before .args .cuts .now) = c .count .ensures in (
-      search needs,
-      p,
-      ap (λ k. seek (isBad (c .before .before .args .timeout) (c .before .before .args .links)
-          (c .before .before .args .cuts .now)) k 0) (omega arith),
-    )
+    let a = c .before .before .before .args in
+    let p : c .count .result ≡ pairs (a .cuts .now) = c .count .ensures in
+    (search needs, p, ap (λ k. seek (isBad (a .timeout) (a .links) (a .others .now) (a .cuts .now)) k 0) (omega arith))
 
 returns : tie.Need-returns Inv-loop μ-loop
 returns c = sym (seek-found _ _ _ (c .before .before .loop-test .taken) (sym (c .before .bad-pair .ensures) ∙ c .if1 .taken)) ∙
