@@ -9,7 +9,7 @@ use lib.Seq.{take-suc-set, getD-set-same, getD-set-other, getD-drop, ext-getD}
 use lib.Dec.{ltb, eqb}
 use borrow.Author.Tests.{eqb-true, eqb-false, le-leb}
 use Rattle.scope.specs.Limits.{mostCuts, mostLinks}
-use Rattle.scope.specs.Lowest.{some}
+use Rattle.scope.specs.Lowest.{seek, some}
 use Rattle.scope.specs.Plan.{Plan, planOf}
 use Rattle.scope.specs.Cables.{otherWay, isHigher}
 use Rattle.scope.specs.Cuts.{pairs, cutLink, cutsLink, isCut}
@@ -55,6 +55,7 @@ higher-length others zero e = refl
 higher-length others (suc n) e = ap suc (higher-length others n (e + 1))
 
 pub holding-none : (row table : List ℕ) (z : Sizes) → Playable row table z → Holding row z (noPair z)
+unfolding seek
 holding-none row table z y =
     record {
       long = refl;
@@ -71,7 +72,9 @@ holding-none row table z y =
       down = λ i e h. ap (ltb 0) (noughts mostLinks e) ∙ sym (ap (λ (f : ℕ → ℕ → Bool). f i e) (no-cuts (planOf row)));
       shut = higher-length (z .others) mostLinks 0;
       closed = λ e l.
-          higher-at (z .others) mostLinks 0 e (omega (arith, y .few)) ∙ ap (λ (d : ℕ). ltb d e) (y .others .is e (omega (arith, y .links)));
+          let at : 0 + e ≡ e = omega arith in
+          higher-at (z .others) mostLinks 0 e (omega (arith, y .few)) ∙ ap (λ (d : ℕ). ltb (otherIn (z .others) d) d) at ∙
+          ap (λ (d : ℕ). ltb d e) (y .others .is e (omega (arith, y .links)));
       past = λ i h. noughts (2 * mostCuts) i;
     }
 

@@ -49,6 +49,8 @@ pub fn pick(z: Sizes, p: Picked, s: usize, e: usize) -> Picked
     requires { ⌜ (p .count < mostCuts) × (s < mostSlots) × (e < mostLinks) × AreLinks (z .others) ⌝ }
     ensures { λ r. ⌜ r ≡ withPair z p s e ⌝ }
 {
+    let others = z.others;
+    let o = cables::other(&others, e);
     let at = 2 * p.count;
     let mut q = p;
     q.count = p.count + 1;
@@ -57,7 +59,7 @@ pub fn pick(z: Sizes, p: Picked, s: usize, e: usize) -> Picked
     q.numbers[at] = s as u16;
     q.numbers[at + 1] = e as u16;
     q.down[e] = 1;
-    q.down[z.others[e] as usize] = 1;
+    q.down[o] = 1;
     q.closed[e] = 1;
     q
 }
