@@ -1,30 +1,33 @@
 -- What is lent says what the plan and the cut list say: which links below the limit are cut, and who holds one, for every link and every
 -- slot of a cycle. So a cycle over the one is a cycle over the other.
-use Prim.Native.Nat.{ℕ, zero, suc, _+_, _*_, _≤_, _<_}
+use Prim.Native.Nat.{ℕ, zero, suc, _+_, _≤_, _<_}
 use mathlib.Core.Path.{_≡_, refl, sym, _∙_, ap, fun-ext}
 use mathlib.Core.Bool.{Bool, true, false, not, cond, _&&_, _||_}
 use mathlib.Core.List.{List, _++_}
 use native.Mathlib.Omega.{arith}
 use lib.ListN.{length}
 use lib.Dec.{ltb, leb, eqb}
-use borrow.Author.Tests.{ne-eqb, ltb-true, ltb-false, not-false}
+use borrow.Author.Tests.{ne-eqb, ltb-true, ltb-false}
 use Rattle.scope.specs.Limits.{mostLinks, mostSlots}
 use Rattle.scope.specs.Lowest.{lowest, some}
-use Rattle.scope.proofs.Outcomes.{not-both}
 use Rattle.scope.specs.Outcome.{gives, refuse}
 use Rattle.scope.specs.Plan.{Plan, at, placesAt, placeSize, placeCount, afterPlaces, messageCount, planOf, pathOf}
 use Rattle.scope.specs.SecondPath.{messageIndex}
 use Rattle.scope.specs.Good.{holds}
-use Rattle.scope.specs.Cuts.{pairs, cutLink, cutSlot, badPair, falls, checkCuts, cutsLink, isCut}
+use Rattle.scope.specs.Cables.{otherWay}
+use Rattle.scope.specs.Cuts.{pairs, cutLink, cutSlot, badPair, checkCuts, isCutList, cutsLink, isCut}
 use Rattle.scope.specs.Slot as S
 use Rattle.scope.specs.Cycle.{tableOf, slot, nexts, numbers, positions, events}
+use Rattle.scope.proofs.Outcomes.{not-both}
+use Rattle.scope.proofs.Some.{none, some-same}
+use Rattle.scope.proofs.Cables.{other-below}
+use Rattle.scope.proofs.Cuts.{link-below}
 use Rattle.rows.specs.Lies.{PlanLies}
 use Rattle.rows.proofs.Parts.{message-count, path-at}
 use Rattle.table.specs.Table.{Table, entryAt}
 use Rattle.table.proofs.Entries.{no-link}
-use Rattle.cuts.specs.Down.{cutBelow}
-use Rattle.cuts.specs.Pairs.{isTwice}
-use Rattle.scope.proofs.Some.{none, none-below}
+use Rattle.cables.specs.Others.{otherIn, OtherWays}
+use Rattle.cuts.specs.Down.{cutIn, cutBelow}
 
 -- a cycle looks at a slot's links and entries only in that slot
 module _ (rank : ℕ → ℕ) (down down′ : ℕ → ℕ → Bool) (owner owner′ : ℕ → ℕ → ℕ) where
@@ -51,52 +54,41 @@ module _ (rank : ℕ → ℕ) (down down′ : ℕ → ℕ → Bool) (owner owner
       ap (λ u. numbers (slot rank down owner i ps) ++ u) (events-same n (i + 1) (nexts (slot rank down owner i ps)) (λ j l. h j (omega arith)))
       ∙ ap (λ u. numbers u ++ events rank down′ owner′ (i + 1) n (nexts u)) s
 
-or-left : (a b : Bool) → (a || b) ≡ false → a ≡ false
-or-left true b e = e
-or-left false b e = refl
-
-or-right : (a b : Bool) → (a || b) ≡ false → b ≡ false
-or-right true b e = absurd (let z : _≡_ {A = ℕ} 0 1 = cc in omega arith)
-or-right false b e = e
-
--- a list without a bad pair cuts no link that the plan does not have
+-- a list without a bad pair cuts what is down, and no link that the plan does not have
 module _ (plan : Plan) (cuts : List ℕ) (n : ℕ) (good : checkCuts plan cuts ≡ gives n) where
-  none-bad : some (badPair plan cuts) (pairs cuts) ≡ false
+  listed : isCutList plan cuts ≡ true
   unfolding checkCuts
-  none-bad = by (some (badPair plan cuts) (pairs cuts)) refl good
+  listed = by (some (badPair plan cuts) (pairs cuts)) good
     where
-      by : (t : Bool) → some (badPair plan cuts) (pairs cuts) ≡ t → cond t (refuse 12 (lowest (badPair plan cuts) (pairs cuts)))
-          (gives (pairs cuts)) ≡ gives n →
-          some (badPair plan cuts) (pairs cuts) ≡ false
-      by true e g = not-both g
-      by false e g = e
+      by : (t : Bool) → cond t (refuse 12 (lowest (badPair plan cuts) (pairs cuts))) (gives (pairs cuts)) ≡ gives n → not t ≡ true
+      by true g = not-both g
+      by false g = refl
 
-  link-small : (j : ℕ) → j < pairs cuts → cutLink cuts j < length (plan .links)
-  link-small j h =
-      let a = eqb (length cuts) (2 * j + 1) in
-      let b = not (ltb (cutSlot cuts j) (plan .timeout)) in
-      let l = ltb (cutLink cuts j) (length (plan .links)) in
-      let f : badPair plan cuts j ≡ false = none-below (badPair plan cuts) (pairs cuts) none-bad j h in
-      let g = or-left (a || b || not l) (falls cuts j) (or-left (a || b || not l || falls cuts j) (isTwice cuts j) f) in
-      ltb-true (cutLink cuts j) (length (plan .links)) (not-false l (or-right (a || b) (not l) g))
-
-  pub cut-none : (i e : ℕ) → length (plan .links) ≤ e → isCut plan cuts i e ≡ false
-  unfolding isCut
+  cut-none : (i e : ℕ) → length (plan .links) ≤ e → isCut plan cuts i e ≡ false
+  unfolding isCut cutsLink
   cut-none i e h =
       none (λ j. cutsLink plan (cutLink cuts j) e && leb (cutSlot cuts j) i) (pairs cuts)
       (λ j l.
-      let s = link-small j l in
-      let f : eqb (cutLink cuts j) e ≡ false = ne-eqb (cutLink cuts j) e (λ q. omega arith) in
-      rw f)
+      let s = link-below plan cuts listed j l in
+      let o = other-below plan (cutLink cuts j) s in
+      rw (ne-eqb (cutLink cuts j) e (λ q. omega arith), ne-eqb (otherWay plan (cutLink cuts j)) e (λ q. omega arith)))
 
-  pub down-same : length (plan .links) ≤ mostLinks → (i : ℕ) → cutBelow plan cuts i ≡ isCut plan cuts i
-  down-same k i = fun-ext (λ e. by e (ltb e mostLinks) refl)
-    where
-      by : (e : ℕ) (b : Bool) → ltb e mostLinks ≡ b → (b && isCut plan cuts i e) ≡ isCut plan cuts i e
-      by e true b = refl
-      by e false b =
-          let l : mostLinks ≤ e = ltb-false e mostLinks b in
-          sym (cut-none i e (omega arith))
+  module _ (others : List ℕ) (o : OtherWays plan others) where
+    cut-same : (i e : ℕ) → cutIn others cuts i e ≡ isCut plan cuts i e
+    unfolding isCut cutsLink
+    cut-same i e =
+        some-same (λ j. (eqb (cutLink cuts j) e || eqb (otherIn others (cutLink cuts j)) e) && leb (cutSlot cuts j) i)
+        (λ j. cutsLink plan (cutLink cuts j) e && leb (cutSlot cuts j) i) (pairs cuts)
+        (λ j l. rw (o .is (cutLink cuts j) (link-below plan cuts listed j l)))
+
+    pub down-same : length (plan .links) ≤ mostLinks → (i : ℕ) → cutBelow others cuts i ≡ isCut plan cuts i
+    down-same k i = fun-ext (λ e. by e (ltb e mostLinks) refl)
+      where
+        by : (e : ℕ) (b : Bool) → ltb e mostLinks ≡ b → (b && cutIn others cuts i e) ≡ isCut plan cuts i e
+        by e true b = cut-same i e
+        by e false b =
+            let l : mostLinks ≤ e = ltb-false e mostLinks b in
+            sym (cut-none i e (omega arith))
 
 -- nor does the table hold one
 module _ (row : List ℕ) (lies : PlanLies row) where

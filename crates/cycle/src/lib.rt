@@ -1,8 +1,8 @@
 // One cycle: every slot, from the first positions to the timeout. What is promised is an equation with `events` and `positions` of
-// document 01 (specs/Cycle of `scope`), over the table that is lent and the links below the limit that the cut list takes down,
-// whatever they are: proofs/Agree has when they are the plan's and the list's. All that `play` asks is that there are at most 32
-// messages, that they end below index 65536 of the row, and that there is room for the events. It leans on `step` for one slot and on
-// `cuts` for what is down in it.
+// document 01 (specs/Cycle of `scope`), over the table that is lent and the links below the limit that the cut list takes down with the
+// other ways that are lent, whatever they are: proofs/Agree has when they are the plan's and the list's. All that `play` asks is that
+// there are at most 32 messages, that they end below index 65536 of the row, and that there is room for the events. It leans on `step`
+// for one slot and on `cuts` for what is down in it.
 use scope::limits::MESSAGES;
 use step::Position;
 use step::Slot;
@@ -99,8 +99,8 @@ fn run_slot(
     out: &mut [u16],
 ) -> Standing
     requires { ⌜ MayTell (now row) n standing (i .0) (length (now out)) ⌝ }
-    ensures { λ r. ⌜ Done (now (row .entry)) n (i .0) (doIn (now (row .entry)) (now (table .entry)) (now (others .entry)) (now (cuts .entry)) (i .0)
-        (positionsOf (now (row .entry)) n (standing .positions))) (now (out .entry)) (now (out .exit)) r ⌝ }
+    ensures { λ r. ⌜ Done (now (row .entry)) n (i .0) (doIn (now (row .entry)) (now (table .entry)) (now (others .entry)) (now (cuts .entry))
+        (i .0) (positionsOf (now (row .entry)) n (standing .positions))) (now (out .entry)) (now (out .exit)) r ⌝ }
 {
     let down = cuts::down_in(others, cuts, i.number());
     standing.told(i, n, row, table, &down, out)
@@ -119,9 +119,11 @@ fn run(
 ) -> Standing
     requires { ⌜ MayRun (now row) first n timeout (tells (now row) (now table) (now others) (now cuts) 0 timeout
         (positionsOf (now row) n (first .positions))) (length (now out)) ⌝ }
-    ensures { λ r. ⌜ Ran (now (row .entry)) n (endsWith (now (row .entry)) (now (table .entry)) (now (others .entry)) (now (cuts .entry)) 0 timeout
+    ensures { λ r. ⌜ Ran (now (row .entry)) n
+        (endsWith (now (row .entry)) (now (table .entry)) (now (others .entry)) (now (cuts .entry)) 0 timeout
         (positionsOf (now (row .entry)) n (first .positions)))
-        (tells (now (row .entry)) (now (table .entry)) (now (others .entry)) (now (cuts .entry)) 0 timeout (positionsOf (now (row .entry)) n (first .positions)))
+        (tells (now (row .entry)) (now (table .entry)) (now (others .entry)) (now (cuts .entry)) 0 timeout
+        (positionsOf (now (row .entry)) n (first .positions)))
         (now (out .entry)) (now (out .exit)) r ⌝ }
 {
     let mut standing = first;
@@ -141,7 +143,8 @@ fn run(
 // A whole cycle of the plan of a row: how many messages arrive, with the row of events at the front of `out`.
 pub fn play(row: &[u16], table: &[u8], others: &[u8], cuts: &[u16], out: &mut [u16]) -> usize
     requires { ⌜ MayPlay (now row) (length (now out)) ⌝ }
-    ensures { λ r. ⌜ Played (now (row .entry)) (now (table .entry)) (now (others .entry)) (now (cuts .entry)) (now (out .entry)) (now (out .exit)) r ⌝ }
+    ensures { λ r. ⌜ Played (now (row .entry)) (now (table .entry)) (now (others .entry)) (now (cuts .entry)) (now (out .entry))
+        (now (out .exit)) r ⌝ }
 {
     let n = rows::messages(row);
     let timeout = rows::timeout(row);

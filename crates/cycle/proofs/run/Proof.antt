@@ -14,16 +14,16 @@ use Rattle.cycle.proofs.run.Statement.{statement}
 use Rattle.cycle.proofs.run.Tie as tie
 
 abbrev Inv-loop : tie.InvT-loop
-Inv-loop n timeout row table cuts out₀ standing₀ at₀ out standing at =
-    Running row n (orderOf (planOf row)) (cutBelow (planOf row) cuts) (entryAt table) timeout (standing .time .0) at (standing₀ .positions)
+Inv-loop n timeout row table others cuts out₀ standing₀ at₀ out standing at =
+    Running row n (orderOf (planOf row)) (cutBelow others cuts) (entryAt table) timeout (standing .time .0) at (standing₀ .positions)
     (standing .positions) out₀ out
 
 abbrev μ-loop : tie.MeasureT-loop
-μ-loop n timeout row table cuts out₀ standing₀ at₀ out standing at = timeout - standing .time .0
+μ-loop n timeout row table others cuts out₀ standing₀ at₀ out standing at = timeout - standing .time .0
 
 loop-holds : tie.Need-loop-holds Inv-loop μ-loop
 loop-holds c =
-    let p = c .before .before .before .before .pre in
+    let p = c .before .before .before .before .before .pre in
     running-none _ _ _ _ _ _ _ _ _ (p .first) (p .stand) (p .long) (p .short) (p .enough)
 
 same-length : tie.Need-same-length Inv-loop μ-loop
@@ -46,7 +46,7 @@ part-run-slot-start c = omega (arith, c .before .before .before .before .loop .i
 
 run-slot-requires : tie.Need-run-slot-requires Inv-loop μ-loop
 run-slot-requires c κs =
-    let s = c .before .before .before .before .before .before .before .before .before .before in
+    let s = c .before .before .before .before .before .before .before .before .before .before .before in
     let l = c .before .before .before .before .before .loop in
     let t : c .before .begins .result .0 ≡ l .standing .time .0 = c .before .begins .ensures ∙
     ap (λ t. t .0) (c .before .before .before .before .time .ensures) in
@@ -66,7 +66,7 @@ mul-at c = omega (arith, c .before .before .before .before .before .before .befo
 
 add-at : tie.Need-add-at Inv-loop μ-loop
 add-at c =
-    let s = c .before .before .before .before .before .before .before .before .before .before .before .before .before in
+    let s = c .before .before .before .before .before .before .before .before .before .before .before .before .before .before in
     let l = c .before .before .before .before .before .before .before .before .loop in
     let n : c .before .before .before .before .before .before .number .result ≡ l .standing .time .0 =
     c .before .before .before .before .before .before .number .ensures ∙ ap (λ t. t .0)
@@ -87,7 +87,7 @@ loop-less c =
 
 loop-again : tie.Need-loop-again Inv-loop μ-loop
 loop-again c =
-    let s = c .before .before .before .before .before .before .before .before .before .before .before .before .before in
+    let s = c .before .before .before .before .before .before .before .before .before .before .before .before .before .before in
     let l = c .before .before .before .before .before .before .before .before .loop in
     let t : c .before .before .before .before .begins .result .0 ≡ l .standing .time .0 = c .before .before .before .before .begins .ensures ∙
     ap (λ t. t .0) (c .before .before .before .before .before .before .before .time .ensures) in
@@ -95,8 +95,8 @@ loop-again c =
     c .before .before .before .before .before .before .number .ensures ∙ ap (λ t. t .0)
     (c .before .before .before .before .before .before .before .time .ensures) in
     let e : l .standing .time .0 < s .args .timeout = omega (arith, n, c .before .before .before .before .before .if1 .left) in
-    running-more _ _ _ _ _ _ _ _ _ _ _ _ (l .inv) (c .before .before .run-slot .result) (c .before .before .run-slot .last .1 .1 .1 .1 .1 .1 .0)
-    _ e (rw t at (c .before .before .run-slot .ensures)) refl
+    running-more _ _ _ _ _ _ _ _ _ _ _ _ (l .inv) (c .before .before .run-slot .result)
+    (c .before .before .run-slot .last .1 .1 .1 .1 .1 .1 .1 .0) _ e (rw t at (c .before .before .run-slot .ensures)) refl
 
 pub run-spec : {M : Type 1} → statement M
 run-spec =

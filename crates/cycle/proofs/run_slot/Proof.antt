@@ -8,8 +8,8 @@ returns : tie.Need-returns
 returns c =
     let t = c .before .before in
     let d = t .before .before .before in
-    let a = d .before .before .before .before .before .before .args in
-    done-by (a .row .now) (a .table .now) (a .cuts .now) _ (a .i .0) (rw (d .before .number .ensures) at (d .down-in .ensures))
+    let a = d .before .before .before .before .before .before .before .args in
+    done-by (a .row .now) (a .table .now) (a .others .now) (a .cuts .now) _ (a .i .0) (rw (d .before .number .ensures) at (d .down-in .ensures))
     (a .n) (a .standing) _ _ _ (t .told .ensures)
 
 pub run-slot-spec : {M : Type 1} → statement M
