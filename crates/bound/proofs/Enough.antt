@@ -2,14 +2,16 @@
 use Prim.Native.Nat.{ℕ, _+_, _-_, _*_, _≤_, _<_}
 use native.Mathlib.Omega.{arith}
 use mathlib.Core.Path.{_≡_}
+use mathlib.Core.Bool.{false}
 use mathlib.Core.List.{List, _++_}
 use lib.ListN.{length}
 use Rattle.scope.specs.Outcome.{gives}
 use Rattle.scope.specs.Verdict.{Fails}
 use Rattle.scope.specs.Plan.{Plan}
 use Rattle.scope.specs.Rules.{rules}
+use Rattle.scope.specs.Cables.{isHigher}
 use Rattle.scope.specs.Cuts.{pairs, cutSlot, cutLink}
-use Rattle.scope.proofs.Cuts.{slot-below, link-below}
+use Rattle.scope.proofs.Cuts.{slot-below, link-below, not-higher}
 use Rattle.losses.specs.Touch.{harm, touches}
 use Rattle.losses.specs.Harmed.{hers, isHit, away, harmed, CountsLosses}
 use Rattle.losses.specs.Strips.{strips, bares, bared}
@@ -21,9 +23,9 @@ use Rattle.losses.proofs.Harmed.{loses-no-more-from}
 use Rattle.bound.proofs.Last.{one-last}
 use Rattle.losses.proofs.Strips.{strips-count, loses-no-more-than-both}
 
--- in each slot and on each link of a plan one weight is at most another
+-- in each slot and on each link that a pair may name one weight is at most another
 abbrev pub AtMost : Plan → (ℕ → ℕ → ℕ) → (ℕ → ℕ → ℕ) → Type 0
-AtMost plan weight other = (s e : ℕ) → s < plan .timeout → e < length (plan .links) → weight s e ≤ other s e
+AtMost plan weight other = (s e : ℕ) → s < plan .timeout → e < length (plan .links) → isHigher plan e ≡ false → weight s e ≤ other s e
 
 module _ (plan : Plan) (Answers : List ℕ → Type 0) where
   -- a heavier weight will do
@@ -36,7 +38,8 @@ module _ (plan : Plan) (Answers : List ℕ → Type 0) where
       let there : d + j < pairs (pre ++ x) = omega (arith, pairs-both pre x d long n rest) in
       let slot : cutSlot x j < plan .timeout = rw (slot-right pre x d long j) at (slot-below plan (pre ++ x) good (d + j) there) in
       let link : cutLink x j < length (plan .links) = rw (link-right pre x d long j) at (link-below plan (pre ++ x) good (d + j) there) in
-      most (cutSlot x j) (cutLink x j) slot link) in
+      let name : isHigher plan (cutLink x j) ≡ false = rw (link-right pre x d long j) at (not-higher plan (pre ++ x) good (d + j) there) in
+      most (cutSlot x j) (cutLink x j) slot link name) in
       omega (arith, less, enough pre x d n s early long rest later good answers)
 
   -- two at once

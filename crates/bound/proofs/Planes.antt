@@ -15,10 +15,9 @@ use Rattle.scope.specs.Limits.{mostSlots, mostLinks, mostMessages, planeSize, w
 use Rattle.table.specs.Table.{indexOf}
 use Rattle.sets.specs.Sums.{sumOf}
 use Rattle.bound.specs.Seconds.{secondIn, onLink}
-use Rattle.bound.specs.Weights.{entriesFrom, below, mostOnLink, ForLinks, OnLinks, Weighs, WeighsStrips, MayAdd, Added, WeighsAll, Tops}
-use Rattle.bound.specs.Weights.{TopsEach}
+use Rattle.bound.specs.Weights.{entriesFrom, stripsFrom, withOther, mostOnLink, ForLinks, OnLinks, Weighs, MayAdd, Added, WeighsAll}
+use Rattle.bound.specs.Weights.{Tops, TopsEach}
 use Rattle.bound.specs.Bounds.{weightIn, topIn}
-use Rattle.bound.proofs.Weights.{below-small}
 
 pub sum-more : (f : ℕ → ℕ) (n : ℕ) → sumOf f (n + 1) ≡ sumOf f n + f n
 unfolding sumOf
@@ -171,8 +170,8 @@ module _ (weights : List ℕ) (slots : ℕ) (most : List ℕ) where
   topped-done j g h = record { long = g .long; later = λ p s i e l. g .later p s i e (omega arith) }
 
 -- the three weights, one after another
-module _ (table fragile seconds : List ℕ) (slots : ℕ) (old one two : List ℕ) (few : slots ≤ mostSlots) (size : length old ≡ weightsSize)
-    (a : Weighs table slots one) (b : WeighsStrips fragile seconds slots two) where
+module _ (f g : ℕ → ℕ → ℕ) (others : List ℕ) (slots : ℕ) (old one two : List ℕ) (few : slots ≤ mostSlots) (size : length old ≡ weightsSize)
+    (a : Weighs f others slots one) (b : Weighs g others slots two) where
   abbrev first : List ℕ
   first = putMid 0 planeSize old one
 
@@ -193,41 +192,48 @@ module _ (table fragile seconds : List ℕ) (slots : ℕ) (old one two : List �
         long = put-long planeSize planeSize first two (omega (arith, long)) (b .long) ∙ long;
         within = few;
         few = λ k h.
+            let s = k / mostLinks in
+            let e = k % mostLinks in
+            let at : k ≡ indexOf s e = omega arith in
             omega (
               arith,
               in-first k (omega arith),
               in-second k (omega arith),
-              a .is k h,
-              below-small table slots k,
-              b .few k h,
+              ap (λ (i : ℕ). getD one i 0) at,
+              ap (λ (i : ℕ). getD two i 0) at,
+              a .few s e (omega arith) (omega arith),
+              b .few s e (omega arith) (omega arith),
             );
       }
 
-  pub weighs-all : (new : List ℕ) → Added slots (putMid planeSize planeSize first two) new → WeighsAll table fragile seconds slots new
-  weighs-all new c = record { long = c .long; touches = touch; strips = strip; both = both }
-    where
-      from : (s e : ℕ) → s < slots → e < mostLinks → (t : List ℕ) → below t slots (indexOf s e) ≡ entriesFrom t slots s e
-      from s e hs he t =
-          let slot : indexOf s e / mostLinks ≡ s = omega arith in
-          let link : indexOf s e % mostLinks ≡ e = omega arith in
-          ap₂ (entriesFrom t slots) slot link
+  module _ (new : List ℕ) (c : Added slots (putMid planeSize planeSize first two) new) where
+    pub first-is : (s e : ℕ) → s < slots → e < mostLinks → weightIn new 0 s e ≡ withOther others (f s) e
+    first-is s e hs he =
+        let k = indexOf s e in
+        let i : 0 * planeSize + k ≡ k = omega arith in
+        ap (λ (n : ℕ). getD new n 0) i ∙ c .same k (omega arith) ∙ in-first k (omega arith) ∙ a .is s e hs he
 
-      touch : (s e : ℕ) → s < slots → e < mostLinks → weightIn new 0 s e ≡ entriesFrom table slots s e
-      touch s e hs he =
-          let k = indexOf s e in
-          let i : 0 * planeSize + k ≡ k = omega arith in
-          ap (λ (n : ℕ). getD new n 0) i ∙ c .same k (omega arith) ∙ in-first k (omega arith) ∙ a .is k (omega arith) ∙ from s e hs he table
+    pub second-is : (s e : ℕ) → s < slots → e < mostLinks → weightIn new 1 s e ≡ withOther others (g s) e
+    second-is s e hs he =
+        let k = indexOf s e in
+        c .same (1 * planeSize + k) (omega arith) ∙ in-second k (omega arith) ∙ b .is s e hs he
 
-      strip : (s e : ℕ) → s < slots → e < mostLinks → weightIn new 1 s e ≡ entriesFrom fragile slots s e + onLink seconds e
-      strip s e hs he =
-          let k = indexOf s e in
-          let link : k % mostLinks ≡ e = omega arith in
-          c .same (1 * planeSize + k) (omega arith) ∙ in-second k (omega arith) ∙ b .is k (omega arith) ∙
-          ap₂ (λ (x l : ℕ). x + onLink seconds l) (from s e hs he fragile) link
+    pub third-is : (s e : ℕ) → s < slots → e < mostLinks → weightIn new 2 s e ≡ weightIn new 0 s e + weightIn new 1 s e
+    third-is s e hs he =
+        let k = indexOf s e in
+        let i : 0 * planeSize + k ≡ k = omega arith in
+        c .sum k (omega arith) ∙ ap₂ _+_ (sym (c .same k (omega arith)) ∙ ap (λ (n : ℕ). getD new n 0) (sym i))
+        (sym (c .same (planeSize + k) (omega arith)))
 
-      both : (s e : ℕ) → s < slots → e < mostLinks → weightIn new 2 s e ≡ weightIn new 0 s e + weightIn new 1 s e
-      both s e hs he =
-          let k = indexOf s e in
-          let i : 0 * planeSize + k ≡ k = omega arith in
-          c .sum k (omega arith) ∙ ap₂ _+_ (sym (c .same k (omega arith)) ∙ ap (λ (n : ℕ). getD new n 0) (sym i))
-          (sym (c .same (planeSize + k) (omega arith)))
+pub weighs-all : (table fragile seconds others : List ℕ) (slots : ℕ) (old one two : List ℕ) → slots ≤ mostSlots → length old ≡ weightsSize →
+    Weighs (entriesFrom table slots) others slots one → Weighs (stripsFrom fragile seconds slots) others slots two → (new : List ℕ) →
+    Added slots (putMid planeSize planeSize (putMid 0 planeSize old one) two) new → WeighsAll table fragile seconds others slots new
+weighs-all table fragile seconds others slots old one two few size a b new c =
+    let f = entriesFrom table slots in
+    let g = stripsFrom fragile seconds slots in
+    record {
+      long = c .long;
+      touches = first-is f g others slots old one two few size a b new c;
+      strips = second-is f g others slots old one two few size a b new c;
+      both = third-is f g others slots old one two few size a b new c;
+    }

@@ -13,7 +13,7 @@ use Rattle.scope.specs.Limits.{mostSlots, mostLinks, planeSize}
 use Rattle.table.specs.Table.{indexOf, entryAt, atIndex}
 use Rattle.sets.specs.Sums.{sumOf, oneIf}
 use Rattle.losses.specs.Touch.{touchedIn}
-use Rattle.bound.specs.Weights.{entriesFrom, below, mostOnLink, ForLinks, OnLinks, Behind, WeighsFrom, Weighs, WeighsStrips, TopOf, Tops}
+use Rattle.bound.specs.Weights.{entriesFrom, below, mostOnLink, ForLinks, Behind, WeighsFrom, TopOf, Tops}
 use Rattle.bound.specs.Fronts.{Larger}
 use Rattle.sets.proofs.Sums.{sum-same, sum-first, tests-few}
 
@@ -47,6 +47,13 @@ module _ (table : List ℕ) (slots : ℕ) where
   below-past k h =
       let e : slots - k / mostLinks ≡ zero = omega arith in
       ap (λ (n : ℕ). touchedIn (entryAt table) n (k / mostLinks) (k % mostLinks)) e
+
+  -- at the index of a slot and a link
+  pub below-at : (s e : ℕ) → e < mostLinks → below table slots (indexOf s e) ≡ entriesFrom table slots s e
+  below-at s e l =
+      let slot : indexOf s e / mostLinks ≡ s = omega arith in
+      let link : indexOf s e % mostLinks ≡ e = omega arith in
+      ap₂ (entriesFrom table slots) slot link
 
   pub below-small : (k : ℕ) → below table slots k ≤ slots
   below-small k =
@@ -145,7 +152,7 @@ module _ (table links : List ℕ) (slots : ℕ) (few : slots ≤ mostSlots) (num
     weighing-done h = record { long = g .long; is = λ j l. g .is j (omega arith) (omega arith) }
 
 -- no number for any link
-none-of : (links : List ℕ) → links ≡ replicate mostLinks 0 → (e : ℕ) → getD links e 0 ≡ 0
+pub none-of : (links : List ℕ) → links ≡ replicate mostLinks 0 → (e : ℕ) → getD links e 0 ≡ 0
 none-of links z e = ap (λ (l : List ℕ). getD l e 0) z ∙ by (ltb e mostLinks) refl
   where
     by : (b : Bool) → ltb e mostLinks ≡ b → _≡_ {A = ℕ} (getD (replicate mostLinks 0) e 0) 0
@@ -155,20 +162,6 @@ none-of links z e = ap (λ (l : List ℕ). getD l e 0) z ∙ by (ltb e mostLinks
 
 pub no-links : (links : List ℕ) → links ≡ replicate mostLinks 0 → ForLinks links
 no-links links e = record { long = ap length e ∙ length-replicate {A = ℕ} mostLinks 0; few = λ l. omega (arith, none-of links e l) }
-
-pub weighs-alone : (table links : List ℕ) (slots : ℕ) (weights : List ℕ) → links ≡ replicate mostLinks 0 →
-    WeighsFrom table links slots weights → Weighs table slots weights
-weighs-alone table links slots weights e w =
-    record { long = w .long; is = λ k l. omega (arith, w .is k l, none-of links e (k % mostLinks)) }
-
-pub weighs-strips : (fragile seconds links : List ℕ) (slots : ℕ) (weights : List ℕ) → slots ≤ mostSlots → OnLinks seconds links →
-    WeighsFrom fragile links slots weights → WeighsStrips fragile seconds slots weights
-weighs-strips fragile seconds links slots weights few o w =
-    record {
-      long = w .long;
-      is = λ k l. omega (arith, w .is k l, o .is (k % mostLinks) (omega arith));
-      few = λ k l. omega (arith, w .is k l, whole-small fragile links slots few (o .numbers) k);
-    }
 
 -- a loop over the links of a slot, at link e
 pub record TopBelow (weights : List ℕ) (s top e : ℕ) : Type 0 where

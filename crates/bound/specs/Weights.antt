@@ -51,49 +51,48 @@ pub record WeighsFrom (table links : List ℕ) (slots : ℕ) (weights : List ℕ
   pub long : length weights ≡ planeSize
   pub is : (k : ℕ) → k < slots * mostLinks → getD weights k 0 ≡ below table slots k + getD links (k % mostLinks) 0
 
--- it is how many entries come from there on
-pub record Weighs (table : List ℕ) (slots : ℕ) (weights : List ℕ) : Type 0 where
-  pub long : length weights ≡ planeSize
-  pub is : (k : ℕ) → k < slots * mostLinks → getD weights k 0 ≡ below table slots k
-
--- it is how many fragile entries come from there on, and how many messages have its link on the second path of a robust place
-pub record WeighsStrips (fragile seconds : List ℕ) (slots : ℕ) (weights : List ℕ) : Type 0 where
-  pub long : length weights ≡ planeSize
-  pub is : (k : ℕ) → k < slots * mostLinks → getD weights k 0 ≡ below fragile slots k + onLink seconds (k % mostLinks)
-  pub few : (k : ℕ) → k < slots * mostLinks → getD weights k 0 ≤ mostSlots + mostOnLink
-
 -- a number for each link, and for the name of a cable that of its other way with it
 abbrev pub withOther : List ℕ → (ℕ → ℕ) → ℕ → ℕ
 withOther others count e = count e + cond (ltb e (otherIn others e)) (count (otherIn others e)) 0
 
--- no number of a plane's first slots is large
-abbrev pub SmallIn : ℕ → List ℕ → Type 0
-SmallIn slots plane = (k : ℕ) → k < slots * mostLinks → getD plane k 0 ≤ mostSlots + mostOnLink
-
--- what a link weighs may come to what another one does, and did
+-- what link o weighs may come to what link e does, and did
 pub record MayAddLink (slots e o : ℕ) (plane : List ℕ) : Type 0 where
   pub long : length plane ≡ planeSize
   pub within : slots ≤ mostSlots
   pub link : e < mostLinks
   pub other : o < mostLinks
   pub apart : e < o
-  pub few : (s d : ℕ) → s < slots → d < mostLinks → getD plane (indexOf s d) 0 ≤ 2 * (mostSlots + mostOnLink)
+  pub few : (s : ℕ) → s < slots → getD plane (indexOf s e) 0 + getD plane (indexOf s o) 0 < 65536
 
 pub record AddedLink (slots e o : ℕ) (old new : List ℕ) : Type 0 where
   pub long : length new ≡ planeSize
   pub here : (s : ℕ) → s < slots → getD new (indexOf s e) 0 ≡ getD old (indexOf s e) 0 + getD old (indexOf s o) 0
-  pub same : (s d : ℕ) → s < slots → d < mostLinks → (d ≡ e → ⊥) → getD new (indexOf s d) 0 ≡ getD old (indexOf s d) 0
+  pub same : (s d : ℕ) → d < mostLinks → (d ≡ e → ⊥) → getD new (indexOf s d) 0 ≡ getD old (indexOf s d) 0
 
 -- of all cables
 pub record MayAddOthers (others : List ℕ) (slots : ℕ) (plane : List ℕ) : Type 0 where
   pub long : length plane ≡ planeSize
   pub within : slots ≤ mostSlots
-  pub others : AreLinks others
-  pub few : SmallIn slots plane
+  pub ways : AreLinks others
+  pub few : (s e : ℕ) → s < slots → e < mostLinks → getD plane (indexOf s e) 0 ≤ mostSlots + mostOnLink
 
 pub record AddedOthers (others : List ℕ) (slots : ℕ) (old new : List ℕ) : Type 0 where
   pub long : length new ≡ planeSize
   pub is : (s e : ℕ) → s < slots → e < mostLinks → getD new (indexOf s e) 0 ≡ withOther others (λ d. getD old (indexOf s d) 0) e
+
+-- the weight of each slot and link is its count, and for the name of a cable that of its other way with it; none of them is large
+pub record Weighs (count : ℕ → ℕ → ℕ) (others : List ℕ) (slots : ℕ) (weights : List ℕ) : Type 0 where
+  pub long : length weights ≡ planeSize
+  pub is : (s e : ℕ) → s < slots → e < mostLinks → getD weights (indexOf s e) 0 ≡ withOther others (count s) e
+  pub few : (s e : ℕ) → s < slots → e < mostLinks → getD weights (indexOf s e) 0 ≤ 2 * (mostSlots + mostOnLink)
+
+-- how many entries come from there on, and a number for its link
+abbrev pub entriesAnd : List ℕ → List ℕ → ℕ → ℕ → ℕ → ℕ
+entriesAnd table links slots s e = entriesFrom table slots s e + getD links e 0
+
+-- how many fragile entries come from there on, and how many messages have its link on the second path of a robust place
+abbrev pub stripsFrom : List ℕ → List ℕ → ℕ → ℕ → ℕ → ℕ
+stripsFrom fragile seconds slots s e = entriesFrom fragile slots s e + onLink seconds e
 
 -- the third weights may be put
 pub record MayAdd (slots : ℕ) (weights : List ℕ) : Type 0 where
@@ -112,7 +111,7 @@ pub record MayWeigh (table fragile seconds others : List ℕ) (slots : ℕ) (wei
   pub entries : length table ≡ tableSize
   pub marks : length fragile ≡ tableSize
   pub bytes : length seconds ≡ secondsSize
-  pub others : AreLinks others
+  pub ways : AreLinks others
   pub few : slots ≤ mostSlots
   pub long : length weights ≡ weightsSize
 
@@ -121,7 +120,7 @@ pub record WeighsAll (table fragile seconds others : List ℕ) (slots : ℕ) (we
   pub long : length weights ≡ weightsSize
   pub touches : (s e : ℕ) → s < slots → e < mostLinks → weightIn weights 0 s e ≡ withOther others (entriesFrom table slots s) e
   pub strips : (s e : ℕ) → s < slots → e < mostLinks →
-      weightIn weights 1 s e ≡ withOther others (λ d. entriesFrom fragile slots s d + onLink seconds d) e
+      weightIn weights 1 s e ≡ withOther others (stripsFrom fragile seconds slots s) e
   pub both : (s e : ℕ) → s < slots → e < mostLinks → weightIn weights 2 s e ≡ weightIn weights 0 s e + weightIn weights 1 s e
 
 -- no pair of slot s weighs more than its number

@@ -14,8 +14,9 @@ ghost use lib.Dec.{ltb};
 ghost use Rattle.scope.specs.Limits.{mostSlots, mostLinks, secondsSize, planeSize, topsSize, frontsSize};
 ghost use Rattle.sets.specs.Sums.{oneIf};
 ghost use Rattle.bound.specs.Seconds.{onLink};
-ghost use Rattle.bound.specs.Weights.{mostOnLink, ForLinks, OnLinks, HasRoom, Behind, WeighsFrom, Weighs, WeighsStrips, MayAdd, Added};
-ghost use Rattle.bound.specs.Weights.{MayAddLink, AddedLink, MayAddOthers, AddedOthers};
+ghost use Rattle.cables.specs.Others.{AreLinks};
+ghost use Rattle.bound.specs.Weights.{mostOnLink, ForLinks, OnLinks, HasRoom, Behind, WeighsFrom, Weighs, MayAdd, Added};
+ghost use Rattle.bound.specs.Weights.{entriesFrom, entriesAnd, stripsFrom, MayAddLink, AddedLink, MayAddOthers, AddedOthers};
 ghost use Rattle.bound.specs.Weights.{MayWeigh, WeighsAll, TopOf, Tops, MayTop, TopsEach, TopsAll};
 ghost use Rattle.bound.specs.Bounds.{frontOf, frontIn};
 ghost use Rattle.bound.specs.Fronts.{Larger, MayFront, Bucketed, Carried, RunsDown, Fronts};
@@ -53,13 +54,50 @@ fn weigh_from(table: &[u8], links: &[u16], slots: usize, weights: &mut [u16])
     }
 }
 
+// What link o weighs in each slot comes to what link e does.
+fn add_link(plane: &mut [u16], slots: usize, e: usize, o: usize)
+    requires { ⌜ MayAddLink slots e o (now plane) ⌝ }
+    ensures { λ _. ⌜ AddedLink slots e o (now (plane .entry)) (now (plane .exit)) ⌝ }
+{
+    let mut s = 0;
+    while s < slots {
+        let k = table::index(s, e);
+        plane[k] = plane[k] + plane[table::index(s, o)];
+        s += 1;
+    }
+}
+
+// What the higher link of each cable weighs comes to what the lower one does, which is its name.
+fn add_others(others: &[u8], slots: usize, plane: &mut [u16])
+    requires { ⌜ MayAddOthers (now others) slots (now plane) ⌝ }
+    ensures { λ _. ⌜ AddedOthers (now (others .entry)) slots (now (plane .entry)) (now (plane .exit)) ⌝ }
+{
+    let mut e = 0;
+    while e < LINKS {
+        let o = cables::other(others, e);
+        if e < o {
+            add_link(plane, slots, e, o);
+        }
+        e += 1;
+    }
+}
+
+// The weight of each slot and link as before, and of the name of a cable with that of its other way.
+fn weigh_cables(table: &[u8], links: &[u16], others: &[u8], slots: usize, weights: &mut [u16])
+    requires { ⌜ HasRoom (now table) slots (now weights) × ForLinks (now links) × AreLinks (now others) ⌝ }
+    ensures { λ _. ⌜ Weighs (entriesAnd (now (table .entry)) (now (links .entry)) slots) (now (others .entry)) slots (now (weights .exit)) ⌝ }
+{
+    weigh_from(table, links, slots, weights);
+    add_others(others, slots, weights);
+}
+
 // Of entries alone.
-fn weigh(table: &[u8], slots: usize, weights: &mut [u16])
-    requires { ⌜ HasRoom (now table) slots (now weights) ⌝ }
-    ensures { λ _. ⌜ Weighs (now (table .entry)) slots (now (weights .exit)) ⌝ }
+fn weigh(table: &[u8], others: &[u8], slots: usize, weights: &mut [u16])
+    requires { ⌜ HasRoom (now table) slots (now weights) × AreLinks (now others) ⌝ }
+    ensures { λ _. ⌜ Weighs (entriesFrom (now (table .entry)) slots) (now (others .entry)) slots (now (weights .exit)) ⌝ }
 {
     let links = [0u16; LINKS];
-    weigh_from(table, &links, slots, weights);
+    weigh_cables(table, &links, others, slots, weights);
 }
 
 // How many messages have link e on the second path of a robust place.
@@ -89,13 +127,14 @@ fn on_links(seconds: &[u8], links: &mut [u16])
 }
 
 // What a pair strips: the fragile entries, and the second paths of robust places.
-fn weigh_strips(fragile: &[u8], seconds: &[u8], slots: usize, weights: &mut [u16])
-    requires { ⌜ (length (now seconds) ≡ secondsSize) × HasRoom (now fragile) slots (now weights) ⌝ }
-    ensures { λ _. ⌜ WeighsStrips (now (fragile .entry)) (now (seconds .entry)) slots (now (weights .exit)) ⌝ }
+fn weigh_strips(fragile: &[u8], seconds: &[u8], others: &[u8], slots: usize, weights: &mut [u16])
+    requires { ⌜ (length (now seconds) ≡ secondsSize) × HasRoom (now fragile) slots (now weights) × AreLinks (now others) ⌝ }
+    ensures { λ _. ⌜ Weighs (stripsFrom (now (fragile .entry)) (now (seconds .entry)) slots) (now (others .entry)) slots
+        (now (weights .exit)) ⌝ }
 {
     let mut links = [0u16; LINKS];
     on_links(seconds, &mut links);
-    weigh_from(fragile, &links, slots, weights);
+    weigh_cables(fragile, &links, others, slots, weights);
 }
 
 // Both together.
@@ -108,34 +147,6 @@ fn weigh_both(slots: usize, weights: &mut [u16])
     while k < end {
         weights[2 * PLANE + k] = weights[k] + weights[PLANE + k];
         k += 1;
-    }
-}
-
-// What link o weighs in each slot comes to what link e does.
-fn add_link(plane: &mut [u16], slots: usize, e: usize, o: usize)
-    requires { ⌜ MayAddLink slots e o (now plane) ⌝ }
-    ensures { λ _. ⌜ AddedLink slots e o (now (plane .entry)) (now (plane .exit)) ⌝ }
-{
-    let mut s = 0;
-    while s < slots {
-        let k = table::index(s, e);
-        plane[k] = plane[k] + plane[table::index(s, o)];
-        s += 1;
-    }
-}
-
-// What the higher link of each cable weighs comes to what the lower one does, which is its name.
-fn add_others(others: &[u8], slots: usize, plane: &mut [u16])
-    requires { ⌜ MayAddOthers (now others) slots (now plane) ⌝ }
-    ensures { λ _. ⌜ AddedOthers (now (others .entry)) slots (now (plane .entry)) (now (plane .exit)) ⌝ }
-{
-    let mut e = 0;
-    while e < LINKS {
-        let o = cables::other(others, e);
-        if e < o {
-            add_link(plane, slots, e, o);
-        }
-        e += 1;
     }
 }
 
@@ -152,10 +163,14 @@ pub fn weigh_all(
     ensures { λ _. ⌜ WeighsAll (now (table .entry)) (now (fragile .entry)) (now (seconds .entry)) (now (others .entry)) slots
         (now (weights .exit)) ⌝ }
 {
-    weigh(table, slots, &mut weights[0..PLANE]);
-    add_others(others, slots, &mut weights[0..PLANE]);
-    weigh_strips(fragile, seconds, slots, &mut weights[PLANE..2 * PLANE]);
-    add_others(others, slots, &mut weights[PLANE..2 * PLANE]);
+    weigh(table, others, slots, &mut weights[0..PLANE]);
+    weigh_strips(
+        fragile,
+        seconds,
+        others,
+        slots,
+        &mut weights[PLANE..2 * PLANE],
+    );
     weigh_both(slots, weights);
 }
 

@@ -10,12 +10,15 @@ use Rattle.scope.specs.Outcome.{gives}
 use Rattle.scope.specs.Plan.{Plan, Place, pathOf}
 use Rattle.scope.specs.Good.{areLinks, linksOf, slotsRise, holds}
 use Rattle.scope.specs.Rules.{rules}
+use Rattle.scope.specs.Cables.{otherWay}
+use Rattle.scope.specs.Cuts.{cutsLink}
 use Rattle.scope.specs.Cycle.{tableOf}
 use Rattle.laws.specs.Links.{TableGives}
 use Rattle.laws.proofs.Cases.{cond-cases}
 use Rattle.laws.proofs.Good.{there-or-not}
 use Rattle.laws.proofs.Rising.{rises, rising, earlier}
 use Rattle.laws.proofs.Table.{table-gives, lowest-has, holds-gives, gives-held}
+use Rattle.losses.specs.Touch.{overCut}
 use Rattle.losses.specs.Strips.{isRobust, fragileOf, fragilePaths, fragilePlan}
 
 module _ (plan : Plan) where
@@ -38,6 +41,11 @@ module _ (plan : Plan) where
 
   pub fragile-path : (m : ℕ) → pathOf (fragilePlan plan) m ≡ fragileOf plan m (pathOf plan m)
   fragile-path m = let e : 0 + m ≡ m = omega arith in paths-at 0 m (plan .messages) ∙ ap (λ (j : ℕ). fragileOf plan j (pathOf plan m)) e
+
+  -- a pair cuts the same links in it
+  pub fragile-cut : (d : ℕ) (count : ℕ → ℕ) → overCut (fragilePlan plan) d count ≡ overCut plan d count
+  unfolding otherWay cutsLink
+  fragile-cut d count = refl
 
   module _ (m : ℕ) where
     fragile-holds : (e i : ℕ) (ps : List Place) → holds e i (fragileOf plan m ps) ≡ true → holds e i ps ≡ true

@@ -4,4 +4,4 @@ pub mod Harmed
 pub mod Fragile
 pub mod Strips
 pub mod Sharper
-pub mod OneLink
+pub mod OneCable

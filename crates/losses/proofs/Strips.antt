@@ -29,14 +29,14 @@ use Rattle.laws.proofs.Cuts.{not-cut}
 use Rattle.laws.proofs.Latest.{stranded, left-from}
 use Rattle.laws.proofs.Slack.{leaves-in-time, slack-under-cuts, has-left}
 use Rattle.sets.specs.Sums.{oneIf}
-use Rattle.losses.specs.Touch.{harm}
-use Rattle.losses.specs.Harmed.{hers, isTouched, stands}
+use Rattle.losses.specs.Touch.{harm, overCut}
+use Rattle.losses.specs.Harmed.{hers, hersOn, isTouched, stands}
 use Rattle.losses.specs.Strips.{isRobust, fragileOf, fragilePlan, cutsOneOf, throughRobust, strips, isStripped}
 use Rattle.losses.specs.Strips.{StripsCount, LosesOnly, LosesNoMoreThanBoth}
 use Rattle.sets.proofs.Sums.{sum-le, sum-plus, sum-term}
 use Rattle.losses.proofs.Touch.{all-hers, unharmed, touches-count}
 use Rattle.losses.proofs.Harmed.{loses-each, was-away}
-use Rattle.losses.proofs.Fragile.{fragile-rises, fragile-links, fragile-gives}
+use Rattle.losses.proofs.Fragile.{fragile-cut, fragile-rises, fragile-links, fragile-gives}
 
 abbrev nowhere : Place
 nowhere = record { link = 0; slot = 0; second = [] }
@@ -98,9 +98,9 @@ module _ (plan : Plan) (m : ℕ) where
     -- its fragile places are whole in time, and the second paths of the others at all times
     fragile-whole : WholeInTime (isCut plan cuts) (fragileOf plan m (pathOf plan m))
     fragile-whole =
-        let less = sum-le (λ j. hers (fragilePlan plan) m (cutSlot cuts j) (cutLink cuts j))
+        let less = sum-le (λ j. overCut plan (cutLink cuts j) (hersOn (fragilePlan plan) m (cutSlot cuts j)))
         (λ j. strips plan m (cutSlot cuts j) (cutLink cuts j))
-        (pairs cuts) (λ j l. omega arith) in
+        (pairs cuts) (λ j l. omega (arith, fragile-cut plan (cutLink cuts j) (hersOn (fragilePlan plan) m (cutSlot cuts j)))) in
         unharmed plan (tableOf (fragilePlan plan)) m 0 cuts (fragileOf plan m (pathOf plan m))
         (fragile-links plan m (pathOf plan m) (good-links plan g m))
         (fragile-rises plan m (plan .timeout) 0 (pathOf plan m) (good-rises plan g m))

@@ -7,15 +7,15 @@ use Rattle.bound.proofs.weigh_all.Tie as tie
 weigh-both-requires : tie.Need-weigh-both-requires
 weigh-both-requires c κs =
     let d = c .before .before .before .before .before .before .before in
-    let s = d .before .before .before .before .before .before in
+    let s = d .before .before .before .before .before .before .before in
     may-add _ _ _ _ (s .args .weights .now) _ _ (s .pre .few) (s .pre .long) (d .weigh .ensures)
     (c .before .before .before .weigh-strips .ensures)
 
 returns : tie.Need-returns
 returns c =
     let d = c .before .before .before .before .before .before .before .before .before .before in
-    let s = d .before .before .before .before .before .before in
-    weighs-all _ _ _ _ (s .args .weights .now) _ _ (s .pre .few) (s .pre .long) (d .weigh .ensures)
+    let s = d .before .before .before .before .before .before .before in
+    weighs-all _ _ _ _ _ (s .args .weights .now) _ _ (s .pre .few) (s .pre .long) (d .weigh .ensures)
     (c .before .before .before .before .before .before .weigh-strips .ensures) _ (c .before .before .weigh-both .ensures)
 
 pub weigh-all-spec : {M : Type 1} → statement M
