@@ -115,7 +115,16 @@ with-same : (others : List ℕ) → AreLinks others → (f g : ℕ → ℕ) → 
 with-same others a f g same e l =
     ap₂ (λ (x y : ℕ). x + cond (ltb e (otherIn others e)) y 0) (same e l) (same (otherIn others e) (a .below e l))
 
--- and of two that are small
+-- one that is at most the other
+pub with-less : (others : List ℕ) → AreLinks others → (f g : ℕ → ℕ) → ((e : ℕ) → e < mostLinks → f e ≤ g e) → (e : ℕ) → e < mostLinks →
+    withOther others f e ≤ withOther others g e
+with-less others a f g less e l = by (ltb e (otherIn others e))
+  where
+    by : (b : Bool) → f e + cond b (f (otherIn others e)) 0 ≤ g e + cond b (g (otherIn others e)) 0
+    by true = omega (arith, less e l, less (otherIn others e) (a .below e l))
+    by false = omega (arith, less e l)
+
+-- and one that is small
 with-small : (others : List ℕ) → AreLinks others → (f : ℕ → ℕ) (n : ℕ) → ((e : ℕ) → e < mostLinks → f e ≤ n) → (e : ℕ) → e < mostLinks →
     withOther others f e ≤ 2 * n
 with-small others a f n small e l = by (ltb e (otherIn others e))

@@ -20,7 +20,7 @@ use Rattle.rows.specs.View.{Is, IsPlace}
 use Rattle.rows.specs.declared.RowPlace.{RowPlace}
 use Rattle.spare.proofs.Loops.{numbers-more, numbers-none}
 use Rattle.sets.specs.Sums.{oneIf}
-use Rattle.losses.specs.Strips.{isRobust, cutsOneOf}
+use Rattle.losses.specs.Strips.{isRobust}
 use Rattle.strips.specs.Filled.{Costs, costOf, inTime, SecondsAreLinks}
 
 -- a loop over the links of a path, at link k of n
@@ -115,12 +115,6 @@ module _ (plan : Plan) (m : ℕ) (counts : List ℕ) (c : Costs plan m counts) (
 
   pub robust-is : (p : Place) → areLinks plan (p .second) ≡ true → inTime counts (plan .timeout) p ≡ isRobust plan m p
   robust-is p h = ap (λ (d : ℕ). not (noSecond (p .second)) && leb (p .slot + d) (plan .timeout)) (cost-is (p .second) h)
-
--- a pair cuts one of these links if its link is one of them
-pub cuts-has : (plan : Plan) (d : ℕ) (es : List ℕ) → cutsOneOf plan d es ≡ has d es
-unfolding cutsOneOf has
-cuts-has plan d [] = refl
-cuts-has plan d (e ∷ es) = ap (λ (x : Bool). eqb d e || x) (cuts-has plan d es)
 
 -- the second paths of a good plan have its links
 module _ (plan : Plan) (end : ℕ) where

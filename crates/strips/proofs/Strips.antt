@@ -25,13 +25,13 @@ use Rattle.spare.proofs.Held.{entries-few}
 use Rattle.spare.proofs.Bounds.{lower-few}
 use Rattle.sets.specs.Sums.{oneIf}
 use Rattle.bound.specs.Seconds.{secondIn}
-use Rattle.losses.specs.Strips.{isRobust, fragileOf, fragilePlan, cutsOneOf, throughRobust}
+use Rattle.losses.specs.Strips.{isRobust, fragileOf, fragilePlan, onRobust}
 use Rattle.losses.proofs.Fragile.{fragile-long, fragile-path}
 use Rattle.strips.specs.Filled.{Filled, Put, More, MayMore, Ways, Costs, inTime, SecondsAreLinks, MayStrip, Stripped, StrippedPlace}
 use Rattle.strips.specs.Filled.{StrippedMessage, MayStripAll}
 use Rattle.strips.proofs.Puts.{put-none, put-same, put-then, Upto, upto-none, upto-next, upto-all}
 use Rattle.strips.proofs.Paths.{second-of}
-use Rattle.strips.proofs.Costs.{robust-is, lower-next, cuts-has, good-links}
+use Rattle.strips.proofs.Costs.{robust-is, lower-next, good-links}
 
 module _ (plan : Plan) (m : ℕ) where
   -- a table stays
@@ -41,19 +41,19 @@ module _ (plan : Plan) (m : ℕ) where
   -- no place, a robust one, a fragile one
   pub stripped-none : (table bytes : List ℕ) → length table ≡ tableSize → length bytes ≡ secondsSize →
       Stripped plan m [] table table bytes bytes
-  unfolding fragileOf throughRobust
+  unfolding fragileOf onRobust
   stripped-none table bytes a b = record { table = table-stays table a; bytes = put-none m bytes b }
 
   pub stripped-robust : (p : Place) (table bytes new : List ℕ) → isRobust plan m p ≡ true → length table ≡ tableSize →
       Put m (λ e. has e (p .second)) bytes new →
       Stripped plan m (p ∷ []) table table bytes new
-  unfolding fragileOf throughRobust
+  unfolding fragileOf onRobust
   stripped-robust p table bytes new h a put =
       record {
         table = rw h (table-stays table a);
         bytes =
-            put-same m (λ e. has e (p .second)) (λ e. (isRobust plan m p && cutsOneOf plan e (p .second)) || false) bytes new
-            (λ e l. rw (h, cuts-has plan e (p .second)) (or-none (has e (p .second)))) put;
+            put-same m (λ e. has e (p .second)) (λ e. (isRobust plan m p && has e (p .second)) || false) bytes new
+            (λ e l. rw h (or-none (has e (p .second)))) put;
       }
     where
       or-none : (x : Bool) → x ≡ (x || false)
@@ -62,7 +62,7 @@ module _ (plan : Plan) (m : ℕ) where
 
   pub stripped-fragile : (p : Place) (table bytes new : List ℕ) → isRobust plan m p ≡ false → length bytes ≡ secondsSize →
       Table (λ s e. marked (m + 1) (p .link) (p .slot) s e (entryAt table s e)) new → Stripped plan m (p ∷ []) table new bytes bytes
-  unfolding fragileOf throughRobust
+  unfolding fragileOf onRobust
   stripped-fragile p table bytes new h b t =
       record {
         table = rw h (record {
@@ -76,7 +76,7 @@ module _ (plan : Plan) (m : ℕ) where
   -- one place and then the others
   pub stripped-then : (p : Place) (ps : List Place) (a b c a' b' c' : List ℕ) → Stripped plan m (p ∷ []) a b a' b' →
       Stripped plan m ps b c b' c' → Stripped plan m (p ∷ ps) a c a' c'
-  unfolding fragileOf throughRobust
+  unfolding fragileOf onRobust
   stripped-then p ps a b c a' b' c' x y =
       record {
         table =
@@ -87,10 +87,10 @@ module _ (plan : Plan) (m : ℕ) where
                   both s e (entryAt a s e) (isRobust plan m p);
             };
         bytes =
-            put-same m (λ e. ((isRobust plan m p && cutsOneOf plan e (p .second)) || false) || throughRobust plan m e ps)
-            (λ e. (isRobust plan m p && cutsOneOf plan e (p .second)) || throughRobust plan m e ps) a' c'
-            (λ e l. three (isRobust plan m p && cutsOneOf plan e (p .second)) (throughRobust plan m e ps))
-            (put-then m (λ e. (isRobust plan m p && cutsOneOf plan e (p .second)) || false) (λ e. throughRobust plan m e ps) a' b' c' (x .bytes)
+            put-same m (λ e. ((isRobust plan m p && has e (p .second)) || false) || onRobust plan m e ps)
+            (λ e. (isRobust plan m p && has e (p .second)) || onRobust plan m e ps) a' c'
+            (λ e l. three (isRobust plan m p && has e (p .second)) (onRobust plan m e ps))
+            (put-then m (λ e. (isRobust plan m p && has e (p .second)) || false) (λ e. onRobust plan m e ps) a' b' c' (x .bytes)
             (y .bytes));
       }
     where
@@ -200,7 +200,7 @@ module _ (row : List ℕ) (i m : ℕ) (counts old old' : List ℕ) (may : MayStr
 
 -- which links lie on the second path of a robust place of a message
 abbrev pub robustWays : List ℕ → ℕ → ℕ → Bool
-robustWays row m e = throughRobust (planOf row) m e (pathOf (planOf row) m)
+robustWays row m e = onRobust (planOf row) m e (pathOf (planOf row) m)
 
 -- a loop over the messages, at message m of n, which stands at index j
 pub record StrippingAll (row : List ℕ) (n j m : ℕ) (counts fragile seconds : List ℕ) : Type 0 where
@@ -291,8 +291,8 @@ module _ (row bytes : List ℕ) (good : GoodRow row) (ways : Ways (planOf row) b
               };
           table = record { long = s .stripped .table .long; is = λ i e a b. s .stripped .table .is i e a b ∙ step i e a b };
           upto =
-              upto-next (robustWays row) m (λ e. throughRobust (planOf row) m e (messageAt row j)) seconds seconds'
-              (λ e. ap (throughRobust (planOf row) m e) path-is) (g .upto) (s .stripped .bytes);
+              upto-next (robustWays row) m (λ e. onRobust (planOf row) m e (messageAt row j)) seconds seconds'
+              (λ e. ap (onRobust (planOf row) m e) path-is) (g .upto) (s .stripped .bytes);
         }
       where
         step : (i e : ℕ) → i < mostSlots → e < mostLinks →
@@ -304,7 +304,7 @@ module _ (row bytes : List ℕ) (good : GoodRow row) (ways : Ways (planOf row) b
 
   pub stripping-all-done : (j m : ℕ) (counts fragile seconds : List ℕ) → StrippingAll row n j m counts fragile seconds → n ≤ m →
       Filled (planOf row) fragile seconds
-  unfolding tableOf throughRobust
+  unfolding tableOf onRobust
   stripping-all-done j m counts fragile seconds g h =
       let all : m ≡ length (fragilePlan (planOf row) .messages) = omega (arith, g .most, fragile-long (planOf row), message-count row) in
       record {
@@ -312,6 +312,6 @@ module _ (row bytes : List ℕ) (good : GoodRow row) (ways : Ways (planOf row) b
             record { long = g .table .long; is = λ i e a b. g .table .is i e a b ∙ ap (λ k. ownerBelow (fragilePlan (planOf row)) k i e) all };
         bytes =
             upto-all (robustWays row) m seconds
-            (λ k e past. ap (throughRobust (planOf row) k e)
+            (λ k e past. ap (onRobust (planOf row) k e)
             (List·getD-eq-default (planOf row .messages) [] (omega (arith, message-count row)))) (g .upto);
       }
