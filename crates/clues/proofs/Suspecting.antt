@@ -1,5 +1,5 @@
 -- The links that the slots name, one after another: every list that goes on from the pairs picked and has the crossings of the table has cut
--- them all. They are different links, so that no more can be named than there are pairs to come.
+-- them all. They are of different cables, so that no more can be named than there are pairs to come.
 use Prim.Native.Nat.{ℕ, _+_, _*_, _≤_, _<_}
 use native.Mathlib.Omega.{arith}
 use mathlib.Core.Path.{_≡_, refl, sym, _∙_, ap, subst}
@@ -7,18 +7,20 @@ use mathlib.Core.Bool.{Bool, true, false, and-eq-true-iff, true≢false}
 use mathlib.Core.List.{List, [], _∷_, _++_}
 use lib.ListN.{length, set, length-set, length-append}
 use lib.Dec.{ltb, eqb}
-use borrow.Author.Tests.{ltb-true, ltb-false, eqb-false, eq-eqb}
+use borrow.Author.Tests.{ltb-true, ltb-false, eqb-false}
 use Rattle.scope.specs.Limits.{mostLinks}
 use Rattle.scope.specs.Plan.{planOf}
-use Rattle.scope.specs.Cuts.{cutSlot, cutLink, cutsLink, isCutList, isCut}
+use Rattle.scope.specs.Cuts.{pairs, cutSlot, cutLink, cutsLink, isCutList, isCut}
 use Rattle.scope.specs.Cycle.{orderOf}
-use Rattle.scope.proofs.Cuts.{once}
+use Rattle.scope.proofs.Cables.{cuts-own, named-once}
+use Rattle.scope.proofs.Cuts.{link-below, once, not-higher}
 use Rattle.scope.proofs.Some.{none-below}
 use Rattle.laws.specs.Named.{Within, Convicts}
 use Rattle.laws.proofs.Cuts.{cut-pair, is-cut}
 use Rattle.laws.proofs.Named.{named-under-cuts}
 use Rattle.laws.proofs.Sound.{number-is-link}
-use Rattle.cuts.specs.Down.{isDown}
+use Rattle.cables.specs.Others.{otherIn}
+use Rattle.cuts.specs.Down.{isDown, withCable}
 use Rattle.step.specs.declared.Standing.{Standing}
 use Rattle.order.specs.Search.{Not, NoneOf}
 use Rattle.order.proofs.Parts.{slot-left, link-left, slot-right, link-right}
@@ -56,7 +58,7 @@ pub record Suspecting (row crossed : List ℕ) (z : Sizes) (p : Picked) (down : 
   pub stand : StandAt row (z .messages) cuts i qs
   pub before : MatchesBefore (planOf row) crossed cuts i
   pub within : (x : List ℕ) → Answer row crossed p x → Within (isCut (planOf row) cuts) (isCut (planOf row) (cutsOf p ++ x))
-  pub apart : (x : List ℕ) → Answer row crossed p x → Apart cuts (p .count + named)
+  pub apart : (x : List ℕ) → Answer row crossed p x → Apart (planOf row) cuts (p .count + named)
 
 module _ (row table crossed : List ℕ) (z : Sizes) (ps : Standing) (p : Picked) (may : MaySuspect row table crossed z ps p) where
   -- no link is named yet
@@ -81,10 +83,13 @@ module _ (row table crossed : List ℕ) (z : Sizes) (ps : Standing) (p : Picked)
             (ap (λ (k : ℕ). cutsLink plan k e) (link-left (cutsOf p) x (p .count) (h .chosen .long) (w .0) l) ∙ w .2)
             (omega (arith, slot-left (cutsOf p) x (p .count) (h .chosen .long) (w .0) l, w .3));
         apart = λ x a j k l b same.
+            let good = h .chosen .good in
+            let there : j < pairs (cutsOf p) = omega (arith, h .chosen .long) in
+            let before : k < pairs (cutsOf p) = omega arith in
             eqb-false (cutLink (cutsOf p) k) (cutLink (cutsOf p) j)
-            (none-below (λ y. eqb (cutLink (cutsOf p) y) (cutLink (cutsOf p) j)) j
-            (once plan (cutsOf p) (h .chosen .good) j (omega (arith, h .chosen .long))) k l)
-            same;
+            (none-below (λ y. eqb (cutLink (cutsOf p) y) (cutLink (cutsOf p) j)) j (once plan (cutsOf p) good j there) k l)
+            (named-once plan (cutLink (cutsOf p) k) (cutLink (cutsOf p) j) (link-below plan (cutsOf p) good k before)
+            (not-higher plan (cutsOf p) good k before) (not-higher plan (cutsOf p) good j there) same);
       }
 
   -- an answer cuts a link that is not down: then no pair cuts it yet, and with it there are more links than are named
@@ -94,21 +99,21 @@ module _ (row table crossed : List ℕ) (z : Sizes) (ps : Standing) (p : Picked)
     longer = g .cuts ++ s ∷ e ∷ []
 
     within-longer : Within (isCut (planOf row) longer) (isCut (planOf row) (cutsOf p ++ x))
-    within-longer = within-more (planOf row) (g .cuts) (p .count + named) (g .long) s e (cutsOf p ++ x) (g .within x a) cut
+    within-longer =
+        within-more (planOf row) (g .cuts) (p .count + named) (g .long) s e (cutsOf p ++ x) (may .good) (a .good) (g .within x a) cut
 
-    new : (j : ℕ) → j < p .count + named → cutLink (g .cuts) j ≡ e → ⊥
+    new : (j : ℕ) → j < p .count + named → cutsLink (planOf row) (cutLink (g .cuts) j) e ≡ true → ⊥
     new j h same =
         let k = i + cutSlot (g .cuts) j in
         true≢false
-        (sym (is-cut (planOf row) (g .cuts) k e j (omega (arith, g .long)) (eq-eqb (cutLink (g .cuts) j) e same) (omega arith)) ∙
-        sym (g .are k e (omega arith)) ∙ whole)
+        (sym (is-cut (planOf row) (g .cuts) k e j (omega (arith, g .long)) same (omega arith)) ∙ sym (g .are k e (omega arith)) ∙ whole)
 
-    apart-longer : Apart longer (p .count + named + 1)
-    apart-longer = apart-more (g .cuts) (p .count + named) s e (g .long) (g .apart x a) new
+    apart-longer : Apart (planOf row) longer (p .count + named + 1)
+    apart-longer = apart-more (planOf row) (g .cuts) (p .count + named) s e (g .long) (g .apart x a) new
 
     one-too-many : (j : ℕ) → length x ≡ 2 * j → j ≤ named → ⊥
     one-too-many j long few =
-        too-many (planOf row) longer (cutsOf p ++ x) (p .count + named + 1) (p .count + j) (omega arith)
+        too-many (planOf row) (may .good) longer (cutsOf p ++ x) (a .good) (p .count + named + 1) (p .count + j) (omega arith)
         (omega (arith, length-append (g .cuts) (s ∷ e ∷ []), g .long))
         (omega (arith, length-append (cutsOf p) x, may .holding .chosen .long)) apart-longer within-longer
 
@@ -175,9 +180,9 @@ module _ (row table crossed : List ℕ) (z : Sizes) (ps : Standing) (p : Picked)
         says : SaysOf (Link e)
         says = subst SaysOf is (shows .says)
 
-        -- a link is named
-        pub link-small : e < mostLinks
-        link-small =
+        -- a link of the plan is named
+        link-there : e < length (planOf row .links)
+        link-there =
             let plan = planOf row in
             let v = eventIn plan (g .cuts) i (says .0) in
             let kinds = and-eq-true-iff (ltb 0 (v .kind)) (ltb (v .kind) 4) .0 (says .2) in
@@ -187,9 +192,13 @@ module _ (row table crossed : List ℕ) (z : Sizes) (ps : Standing) (p : Picked)
               arith,
               number-is-link (orderOf plan) (isCut plan (g .cuts)) plan (says .0) i (may .good) low (omega arith),
               says .3,
-              may .play .links,
-              may .play .few,
             )
+
+        pub link-small : e < mostLinks
+        link-small = omega (arith, link-there, may .play .links, may .play .few)
+
+        pub other-small : otherIn (z .others) e < mostLinks
+        other-small = may .play .others .bytes .below e link-small
 
         module _ (x : List ℕ) (a : Answer row crossed p x) where
           convicted : Convicts (isCut (planOf row) (g .cuts) i) (isCut (planOf row) (cutsOf p ++ x) i)
@@ -207,7 +216,7 @@ module _ (row table crossed : List ℕ) (z : Sizes) (ps : Standing) (p : Picked)
             let a : Answer row crossed p x = record { good = good; matches = matches } in
             one-too-many down qs named i g x a i e (is-whole x a) (is-cut-there x a) j long few
 
-        pub suspects-more : Suspecting row crossed z p (set down e 1) qs (named + 1) i
+        pub suspects-more : Suspecting row crossed z p (withCable (z .others) down e) qs (named + 1) i
         suspects-more =
             let plan = planOf row in
             let d = p .count + named in
@@ -217,8 +226,10 @@ module _ (row table crossed : List ℕ) (z : Sizes) (ps : Standing) (p : Picked)
               long = omega (arith, length-append (g .cuts) (i ∷ e ∷ []), g .long);
               bare = λ q. absurd (omega arith);
               early = omega arith;
-              size = length-set down e 1 ∙ g .size;
-              are = λ j y h. down-more plan (g .cuts) down d i e j y (g .long) (omega (arith, link-small, g .size)) h (g .are j y h);
+              size = length-set (set down e 1) (otherIn (z .others) e) 1 ∙ length-set down e 1 ∙ g .size;
+              are = λ j y h.
+                  down-more plan (g .cuts) down d i e (otherIn (z .others) e) j y (g .long) (may .play .others .is e link-there)
+                  (omega (arith, link-small, g .size)) (omega (arith, other-small, g .size)) h (g .are j y h);
               stand =
                   record {
                     time = g .stand .time;
@@ -231,7 +242,7 @@ module _ (row table crossed : List ℕ) (z : Sizes) (ps : Standing) (p : Picked)
               before = matches-more plan (g .cuts) d (g .long) i e crossed (g .before);
               within = λ x a. within-longer down qs named i g x a i e (is-whole x a) (is-cut-there x a);
               apart = λ x a.
-                  subst (Apart (g .cuts ++ i ∷ e ∷ [])) more (apart-longer down qs named i g x a i e (is-whole x a) (is-cut-there x a));
+                  subst (Apart plan (g .cuts ++ i ∷ e ∷ [])) more (apart-longer down qs named i g x a i e (is-whole x a) (is-cut-there x a));
             }
 
   module _ (down : List ℕ) (qs : Standing) (named i : ℕ) (g : Suspecting row crossed z p down qs named i) where
@@ -246,7 +257,7 @@ module _ (row table crossed : List ℕ) (z : Sizes) (ps : Standing) (p : Picked)
     pub suspects-fewer : (j : ℕ) → j < named → NoneOf (planOf row) (Matches (planOf row) crossed) (cutsOf p) j
     suspects-fewer j less x long good matches =
         let a : Answer row crossed p x = record { good = good; matches = matches } in
-        too-many (planOf row) (g .cuts) (cutsOf p ++ x) (p .count + named) (p .count + j) (omega arith) (g .long)
+        too-many (planOf row) (may .good) (g .cuts) (cutsOf p ++ x) good (p .count + named) (p .count + j) (omega arith) (g .long)
         (omega (arith, length-append (cutsOf p) x, may .holding .chosen .long)) (g .apart x a) (g .within x a)
 
     -- where as many links are named as pairs are to come, an answer cuts no other first
@@ -257,7 +268,7 @@ module _ (row table crossed : List ℕ) (z : Sizes) (ps : Standing) (p : Picked)
         let h = may .holding .chosen .long in
         let cut : isCut (planOf row) (cutsOf p ++ y) s e ≡ true =
         is-cut (planOf row) (cutsOf p ++ y) s e (p .count + 0) (omega (arith, length-append (cutsOf p) y, h))
-        (eq-eqb (cutLink (cutsOf p ++ y) (p .count + 0)) e (link-right (cutsOf p) y (p .count) h 0))
+        (ap (λ (k : ℕ). cutsLink (planOf row) k e) (link-right (cutsOf p) y (p .count) h 0) ∙ cuts-own (planOf row) e)
         (omega (arith, slot-right (cutsOf p) y (p .count) h 0)) in
         one-too-many down qs named i g y (record { good = good; matches = matches }) s e whole cut named (omega arith) (omega arith)
 

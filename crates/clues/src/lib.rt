@@ -1,8 +1,8 @@
 // What a capture says of the cuts: a slot is played and held against the table of crossings, up to the foremost message that differs: it
-// names a link that every list with these crossings has cut by then, or there is no such list. `look` reads one slot; `suspect` cuts what
-// is named, slot by slot, and says that no list with at most so many pairs more has the crossings of the table, or how many links such a
-// list cuts at least, and which where it cuts no more. That a link is named at all is `Named` of `laws`; it leans on `step` for a slot, on
-// `picks` for the pairs picked and on `order` for lists with one pair more.
+// names a link that every list with these crossings has cut by then, or there is no such list. `look` reads one slot; `suspect` cuts the
+// cables of what is named, slot by slot, and says that no list with at most so many pairs more has the crossings of the table, or how many
+// links such a list cuts at least, and which where it cuts no more. That a link is named at all is `Named` of `laws`; it leans on `cables`
+// for the other way of a link, on `step` for a slot, on `picks` for the pairs picked and on `order` for lists with one pair more.
 use picks::Picked;
 use picks::Sizes;
 use scope::limits::LINKS;
@@ -74,10 +74,10 @@ fn given_up() -> Suspicion
     }
 }
 
-// Lists that go on from the pairs picked with at most n pairs more: the pairs picked are played on, and each link that a slot names is cut
-// from that slot on. Where more than n links are named, or none can be, no such list has the crossings of the table. Else none has them with
-// fewer pairs more than links are named, and one that has them with as many cuts no other link. Where nothing is named, the pairs picked
-// have them.
+// Lists that go on from the pairs picked with at most n pairs more: the pairs picked are played on, and the cable of each link that a slot
+// names is cut from that slot on. Where more than n links are named, or none can be, no such list has the crossings of the table. Else none
+// has them with fewer pairs more than links are named, and one that has them with as many cuts no other cable. Where nothing is named, the
+// pairs picked have them.
 pub fn suspect(
     row: &[u16],
     table: &[u8],
@@ -90,6 +90,7 @@ pub fn suspect(
     requires { ⌜ MaySuspect (now row) (now table) (now crossed) z ps p ⌝ }
     ensures { λ r. ⌜ Suspected (now (row .entry)) (now (crossed .entry)) p n r ⌝ }
 {
+    let others = z.others;
     let mut down = p.down;
     let mut qs = ps;
     let mut named = 0;
@@ -107,8 +108,9 @@ pub fn suspect(
                 if named == n {
                     return given_up();
                 }
+                let other = cables::other(&others, x);
                 down[x] = 1;
-                down[z.others[x] as usize] = 1;
+                down[other] = 1;
                 named += 1;
             }
             Clue::Dead => return given_up(),
