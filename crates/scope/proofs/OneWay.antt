@@ -1,19 +1,22 @@
 -- A plan without reversed links is answered as document 01 answers it.
-use Prim.Native.Nat.{ℕ, _+_, _*_, _<_}
+use Prim.Native.Nat.{ℕ, zero, suc, _+_, _*_, _<_}
 use native.Mathlib.Omega.{arith}
-use mathlib.Core.Path.{_≡_, refl, _∙_, ap, fun-ext}
+use mathlib.Core.Path.{_≡_, refl, sym, _∙_, ap, fun-ext}
 use mathlib.Core.Bool.{Bool, true, false, not, _&&_, _||_, or-false, or-true}
 use mathlib.Core.List.{List}
 use lib.ListN.{length}
 use lib.Dec.{ltb, leb, eqb}
 use borrow.Author.Tests.{ltb-true, le-ltb}
-use Rattle.scope.specs.Lowest.{some}
+use Rattle.scope.specs.Lowest.{seek, some}
 use Rattle.scope.specs.Outcome.{gives, unlessSome}
-use Rattle.scope.specs.Plan.{Plan}
+use Rattle.scope.specs.Plan.{Plan, linksAt, planOf}
 use Rattle.scope.specs.Cables.{otherWay, isHigher}
 use Rattle.scope.specs.Cuts.{pairs, cutSlot, cutLink, falls, badPair, checkCuts, isCutList, cutsLink, isCut}
 use Rattle.scope.specs.Cycle.{orderOf, tableOf, start, positions, events, arrived, arrivals, eventRow}
-use Rattle.scope.specs.OneWay.{NoReversedLinks, badLinkPair, isLinkCut, AsBefore}
+use Rattle.scope.specs.OneWay.{NoReversedLinks, badLinkPair, isLinkCut, arrivalsOneWay, AsBefore}
+use Rattle.scope.specs.Verdict.{Resistant}
+use Rattle.scope.specs.Cases.{rowA, rowB}
+use Rattle.scope.proofs.Bools.{not-true}
 use Rattle.scope.proofs.Cuts.{link-below}
 use Rattle.scope.proofs.Some.{some-same}
 
@@ -54,11 +57,41 @@ module _ (plan : Plan) (none : NoReversedLinks plan) where
       (λ j. eqb (cutLink cuts j) e && leb (cutSlot cuts j) i) (pairs cuts)
       (λ j l. ap (λ (x : Bool). x && leb (cutSlot cuts j) i) (same-link (cutLink cuts j) e (link-below plan cuts good j l)))))
 
+  same-lists : (cuts : List ℕ) → isCutList plan cuts ≡ not (some (badLinkPair plan cuts) (pairs cuts))
+  same-lists cuts = ap (λ (bad : ℕ → Bool). not (some bad (pairs cuts))) (fun-ext (same-bad cuts))
+
+  same-arrivals : (cuts : List ℕ) → isCutList plan cuts ≡ true → arrivals plan cuts ≡ arrivalsOneWay plan cuts
+  unfolding arrivals
+  same-arrivals cuts good =
+      ap (λ (down : ℕ → ℕ → Bool). arrived (positions (orderOf plan) down (tableOf plan) 0 (plan .timeout) (start plan))) (same-cut cuts good)
+
   pub as-before : AsBefore plan
-  unfolding checkCuts arrivals eventRow
+  unfolding checkCuts eventRow Resistant
   as-before =
       record {
+        lists = same-lists;
+        resists = λ k l all cuts none few.
+            let good : isCutList plan cuts ≡ true = same-lists cuts ∙ ap not none in
+            omega (arith, all cuts good few, same-arrivals cuts good);
+        resistsBack = λ k l all cuts good few.
+            omega (arith, all cuts (not-true _ (sym (same-lists cuts) ∙ good)) few, same-arrivals cuts good);
         refuses = λ cuts. ap (λ (bad : ℕ → Bool). unlessSome 12 bad (pairs cuts) (gives (pairs cuts))) (fun-ext (same-bad cuts));
-        arrives = λ cuts good. ap (λ (down : ℕ → ℕ → Bool). arrived (positions (orderOf plan) down (tableOf plan) 0 (plan .timeout) (start plan))) (same-cut cuts good);
+        arrives = same-arrivals;
         tells = λ cuts good. ap (λ (down : ℕ → ℕ → Bool). events (orderOf plan) down (tableOf plan) 0 (plan .timeout) (start plan)) (same-cut cuts good);
       }
+
+-- "Plans A and B have no reversed links"
+pub A-one-way : NoReversedLinks (planOf rowA)
+unfolding seek otherWay planOf linksAt
+A-one-way zero l = refl
+A-one-way (suc zero) l = refl
+A-one-way (suc (suc zero)) l = refl
+A-one-way (suc (suc (suc zero))) l = refl
+A-one-way (suc (suc (suc (suc e)))) l = absurd (omega arith)
+
+pub B-one-way : NoReversedLinks (planOf rowB)
+unfolding seek otherWay planOf linksAt
+B-one-way zero l = refl
+B-one-way (suc zero) l = refl
+B-one-way (suc (suc zero)) l = refl
+B-one-way (suc (suc (suc e))) l = absurd (omega arith)

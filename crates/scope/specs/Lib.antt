@@ -14,8 +14,8 @@ pub mod Cables
 pub mod Cuts
 pub mod Slot
 pub mod Cycle
-pub mod OneWay
 pub mod Verdict
+pub mod OneWay
 pub mod Game
 pub mod Capture
 pub mod Spare
