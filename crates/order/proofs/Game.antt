@@ -1,11 +1,11 @@
 -- The value of the game is the least number of arrivals over the cut lists of at most k pairs: that number is one alone, it decides every
 -- verdict for k, falls as k rises and is at most the number of messages. And the row of figures, number by number.
-use Prim.Native.Nat.{ℕ, zero, suc, _+_, _≤_, _<_}
+use Prim.Native.Nat.{ℕ, zero, suc, _+_, _≤_}
 use native.Mathlib.Omega.{arith}
 use mathlib.Core.Path.{_≡_, refl, _∙_, ap}
 use mathlib.Core.Bool.{Bool, true, false, cond}
 use mathlib.Core.List.{List, [], _∷_, _++_}
-use lib.ListN.{length, getD, length-map}
+use lib.ListN.{length, length-map}
 use Rattle.scope.specs.Limits.{mostLinks}
 use Rattle.scope.specs.Plan.{Plan}
 use Rattle.scope.specs.Slot.{Position, onFirst, atTarget}

@@ -8,7 +8,7 @@ use mathlib.Core.List.{List}
 use lib.ListN.{length}
 use lib.Dec.{ltb, leb, eqb}
 use Rattle.scope.specs.Lowest.{some}
-use Rattle.scope.specs.Outcome.{Outcome, gives, unlessSome}
+use Rattle.scope.specs.Outcome.{gives, unlessSome}
 use Rattle.scope.specs.Plan.{Plan}
 use Rattle.scope.specs.Cables.{otherWay}
 use Rattle.scope.specs.Cuts.{pairs, cutSlot, cutLink, falls, checkCuts, isCutList}

@@ -2,7 +2,7 @@
 use Prim.Native.Nat.{ℕ, zero, suc, _+_, _-_, _*_, _≤_, _<_}
 use native.Mathlib.Omega.{arith}
 use mathlib.Core.Path.{_≡_, refl, _∙_, ap}
-use mathlib.Core.Bool.{Bool, true, false, cond, not, _&&_, _||_, and-eq-true-iff}
+use mathlib.Core.Bool.{Bool, true, false, cond, not, _&&_, and-eq-true-iff}
 use mathlib.Core.List.{List, [], _∷_}
 use native.Mathlib.Numerals.{add-one}
 use lib.ListN.{length, getD}
@@ -11,7 +11,7 @@ use borrow.Author.Tests.{ltb-true, lt-ltb, le-ltb, not-false}
 use Rattle.scope.specs.Limits.{mostLinks}
 use Rattle.scope.specs.Outcome.{gives}
 use Rattle.scope.specs.Plan.{Plan, Place, at, flagged, secondAt, secondStart, secondCount, numbersAt, placeAt, pathOf, linkOf}
-use Rattle.scope.specs.Good.{has, areLinks, joins, different, visited, isPathFrom, endOf, headOf, linksOf, goodPlace, goodSeconds}
+use Rattle.scope.specs.Good.{areLinks, joins, different, visited, isPathFrom, endOf, headOf, linksOf, goodPlace, goodSeconds}
 use Rattle.scope.specs.Rules.{rules}
 use Rattle.scope.specs.Cycle.{byNumber, orderOf}
 use Rattle.scope.specs.Spare.{hasSecondThrough, lowerThrough, delay, noSecond}
