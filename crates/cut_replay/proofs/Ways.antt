@@ -23,6 +23,7 @@ use Rattle.table.specs.Table.{Table, entryAt}
 use Rattle.forms.proofs.Theorems.{row-most}
 use Rattle.plan.proofs.Outcomes.{only-one, refuses, after-gives}
 use Rattle.plan.specs.Answers.{GoodRow}
+use Rattle.cables.specs.Others.{OtherWays}
 use Rattle.cuts.specs.Down.{cutBelow}
 use Rattle.cycle.specs.Play.{MayPlay, Played}
 use Rattle.cycle.proofs.Slots.{events-length}
@@ -92,14 +93,14 @@ module _ (row cuts entry : List ℕ) (good : Checked row cuts) (needed : ℕ) (n
       refuses _ _ entry _ a o is
 
   -- the arrivals, with the row of events
-  module _ (h : needed ≤ length entry) (table exit : List ℕ) (count : ℕ) (t : Table (tableOf (planOf row)) table)
-      (p : Played row table cuts entry exit count) where
-    same : (j : ℕ) → j < 0 + timeoutOf row → (cutBelow (planOf row) cuts j ≡ isCut (planOf row) cuts j) ×
+  module _ (h : needed ≤ length entry) (table others exit : List ℕ) (count : ℕ) (t : Table (tableOf (planOf row)) table)
+      (o : OtherWays (planOf row) others) (p : Played row table others cuts entry exit count) where
+    same : (j : ℕ) → j < 0 + timeoutOf row → (cutBelow others cuts j ≡ isCut (planOf row) cuts j) ×
         (entryAt table j ≡ tableOf (planOf row) j)
     same j g =
         let l = good-lies row (good .judged) in
         let k : j < mostSlots = omega (arith, l .timeout) in (
-          down-same (planOf row) cuts (good .count) (good .good) (omega (arith, link-count row, l .links)) j,
+          down-same (planOf row) cuts (good .count) (good .good) others o (omega (arith, link-count row, l .links)) j,
           owner-same row l table t j k,
         )
 
@@ -107,16 +108,16 @@ module _ (row cuts entry : List ℕ) (good : Checked row cuts) (needed : ℕ) (n
     unfolding arrivals
     ends =
         p .arrivals
-        ∙ ap arrived (positions-same (orderOf (planOf row)) (cutBelow (planOf row) cuts) (isCut (planOf row) cuts) (entryAt table)
+        ∙ ap arrived (positions-same (orderOf (planOf row)) (cutBelow others cuts) (isCut (planOf row) cuts) (entryAt table)
         (tableOf (planOf row)) (timeoutOf row) 0 (start (planOf row)) same)
         ∙ ap (λ u. arrived (positions (orderOf (planOf row)) (isCut (planOf row) cuts) (tableOf (planOf row)) 0 u
         (start (planOf row)))) (sym (timeout-is row))
 
-    tells-row : events (orderOf (planOf row)) (cutBelow (planOf row) cuts) (entryAt table) 0 (timeoutOf row) (start (planOf row)) ≡
+    tells-row : events (orderOf (planOf row)) (cutBelow others cuts) (entryAt table) 0 (timeoutOf row) (start (planOf row)) ≡
         eventRow (planOf row) cuts
     unfolding eventRow
     tells-row =
-        events-same (orderOf (planOf row)) (cutBelow (planOf row) cuts) (isCut (planOf row) cuts) (entryAt table) (tableOf (planOf row))
+        events-same (orderOf (planOf row)) (cutBelow others cuts) (isCut (planOf row) cuts) (entryAt table) (tableOf (planOf row))
         (timeoutOf row) 0 (start (planOf row)) same
         ∙ ap (λ u. events (orderOf (planOf row)) (isCut (planOf row) cuts) (tableOf (planOf row)) 0 u
         (start (planOf row))) (sym (timeout-is row))

@@ -7,24 +7,24 @@ use Rattle.cut_replay.proofs.replay_cut.Statement.{statement}
 use Rattle.cut_replay.proofs.replay_cut.Tie as tie
 
 event-numbers-requires : tie.Need-event-numbers-requires
-event-numbers-requires c κs = c .before .before .before .pre .judged
+event-numbers-requires c κs = c .before .before .before .before .pre .0 .judged
 
 returns : tie.Need-returns
 returns c =
-    let s = c .before .before .before .before .before .before in
+    let s = c .before .before .before .before .before .before .before in
     let a = s .args in
-    replay-short (a .row .now) (a .cuts .now) (a .events .now) (s .pre) _ (c .before .before .event-numbers .ensures) _
+    replay-short (a .row .now) (a .cuts .now) (a .events .now) (s .pre .0) _ (c .before .before .event-numbers .ensures) _
     (c .before .if1 .taken) (c .refuse .ensures)
 
 fill-table-requires : tie.Need-fill-table-requires
 fill-table-requires c κs =
-    let s = c .before .before .before .before .before .before in
-    (refl, good-lies (s .args .row .now) (s .pre .judged) .messages)
+    let s = c .before .before .before .before .before .before .before in
+    (refl, good-lies (s .args .row .now) (s .pre .0 .judged) .messages)
 
 play-requires : tie.Need-play-requires
 play-requires c κs =
-    let s = c .before .before .before .before .before .before .before .before .before .before in
-    good-may (s .args .row .now) _ (s .pre .judged) (omega (
+    let s = c .before .before .before .before .before .before .before .before .before .before .before in
+    good-may (s .args .row .now) _ (s .pre .0 .judged) (omega (
       arith,
       c .before .before .before .before .before .before .event-numbers .ensures,
       c .before .before .before .before .before .if1 .left,
@@ -32,12 +32,12 @@ play-requires c κs =
 
 returns-2 : tie.Need-returns-2
 returns-2 c =
-    let s = c .before .before .before .before .before .before .before .before .before .before .before .before .before in
+    let s = c .before .before .before .before .before .before .before .before .before .before .before .before .before .before in
     let a = s .args in
-    replay-gives (a .row .now) (a .cuts .now) (a .events .now) (s .pre) _
+    replay-gives (a .row .now) (a .cuts .now) (a .events .now) (s .pre .0) _
     (c .before .before .before .before .before .before .before .before .before .event-numbers .ensures)
-    (c .before .before .before .before .before .before .before .before .if1 .left) _ _ _
-    (c .before .before .before .before .before .before .fill-table .ensures) (c .before .before .play .ensures)
+    (c .before .before .before .before .before .before .before .before .if1 .left) _ _ _ _
+    (c .before .before .before .before .before .before .fill-table .ensures) (s .pre .1) (c .before .before .play .ensures)
 
 pub replay-cut-spec : {M : Type 1} → statement M
 replay-cut-spec =
