@@ -13,9 +13,11 @@ use Rattle.scope.specs.Lowest.{seek, lowest, some}
 use Rattle.scope.proofs.Outcomes.{not-both}
 use Rattle.scope.specs.Outcome.{Outcome, gives, refuse, unlessSome}
 use Rattle.scope.specs.Plan.{Plan}
+use Rattle.scope.specs.Cables.{isHigher}
 use Rattle.scope.specs.Cuts.{pairs, cutSlot, cutLink, falls, badPair, checkCuts}
 use Rattle.scope.specs.Lines.{byteAt, isDigit, numberAt, numberSize, hasWord, isCutLine, slotIndex, spaceIndex, linkIndex, feedIndex, cutsFrom}
 use Rattle.scope.specs.Lines.{cutsOf}
+use Rattle.scope.proofs.Bools.{none-of-six}
 use Rattle.scope.proofs.Lowest.{seek-low, seek-same}
 use Rattle.cut_lines.proofs.Forms.{sizeOf, valueOf}
 use Rattle.cut_lines.proofs.Lines.{cuts-end, cuts-most}
@@ -189,21 +191,18 @@ seek-more test (suc n) k i h =
     by true h r = refl
     by false h r = r (omega arith)
 
-or-split : (a b : Bool) → (a || b) ≡ false → (a ≡ false) × (b ≡ false)
-or-split true b e = absurd (let z : _≡_ {A = ℕ} 0 1 = cc in omega arith)
-or-split false b e = (refl, e)
-
 -- pair j of a list of more than 65 pairs is bad as it is in the first 65
 bad-front : (plan : Plan) (cuts : List ℕ) → 130 < length cuts → (j : ℕ) → j < 65 → badPair plan (take 130 cuts) j ≡ badPair plan cuts j
 bad-front plan cuts many j h =
     let size = length-take-le 130 cuts (omega arith) in
-    five (ne-eqb (length (take 130 cuts)) (2 * j + 1) (λ z. omega arith) ∙ sym (ne-eqb (length cuts) (2 * j + 1) (λ z. omega arith)))
+    six (ne-eqb (length (take 130 cuts)) (2 * j + 1) (λ z. omega arith) ∙ sym (ne-eqb (length cuts) (2 * j + 1) (λ z. omega arith)))
     (ap (λ (k : ℕ). not (ltb k (plan .timeout))) (slot j h))
     (ap (λ (k : ℕ). not (ltb k (length (plan .links)))) (link j h))
     falls-same
     (ap (λ (k : ℕ). ltb k j) (seek-same (λ x. eqb (cutLink (take 130 cuts) x) (cutLink (take 130 cuts) j))
     (λ x. eqb (cutLink cuts x) (cutLink cuts j)) j 0
     (λ x a b. ap (λ (k : ℕ). eqb k (cutLink (take 130 cuts) j)) (link x (omega arith)) ∙ ap (eqb (cutLink cuts x)) (link j h))))
+    (ap (isHigher plan) (link j h))
   where
     slot : (i : ℕ) → i < 65 → cutSlot (take 130 cuts) i ≡ cutSlot cuts i
     slot i h = getD-take 130 cuts (2 * i) 0 (omega arith)
@@ -214,9 +213,9 @@ bad-front plan cuts many j h =
     falls-same : falls (take 130 cuts) j ≡ falls cuts j
     falls-same = rw (slot j h, link j h, slot (j - 1) (omega arith), link (j - 1) (omega arith))
 
-    five : {a a′ b b′ c c′ d d′ e e′ : Bool} → a ≡ a′ → b ≡ b′ → c ≡ c′ → d ≡ d′ → e ≡ e′ →
-        (a || b || c || d || e) ≡ (a′ || b′ || c′ || d′ || e′)
-    five p q r s t = rw (p, q, r, s, t)
+    six : {a a′ b b′ c c′ d d′ e e′ f f′ : Bool} → a ≡ a′ → b ≡ b′ → c ≡ c′ → d ≡ d′ → e ≡ e′ → f ≡ f′ →
+        (a || b || c || d || e || f) ≡ (a′ || b′ || c′ || d′ || e′ || f′)
+    six p q r s t u = rw (p, q, r, s, t, u)
 
 refuses : (test : ℕ → Bool) (n j : ℕ) (after : Outcome) → lowest test n ≡ j → j < n → unlessSome 12 test n after ≡ refuse 12 j
 refuses test n j after e h = ap (λ (k : ℕ). cond (ltb k n) (refuse 12 k) after) e ∙ rw (lt-ltb j n h)
@@ -229,15 +228,12 @@ module _ (plan : Plan) (few : length (plan .links) ≤ 64) where
       parts : (i : ℕ) → badPair plan cuts i ≡ false → (cutLink cuts i < length (plan .links)) ×
           (i ≤ lowest (λ j. eqb (cutLink cuts j) (cutLink cuts i)) i)
       parts i h =
-          let twice = some (λ j. eqb (cutLink cuts j) (cutLink cuts i)) i in
-          let odd = eqb (length cuts) (2 * i + 1) in
-          let slot = not (ltb (cutSlot cuts i) (plan .timeout)) in
-          let link = not (ltb (cutLink cuts i) (length (plan .links))) in
-          let t₅ = or-split (odd || slot || link || falls cuts i) twice h in
-          let t₄ = or-split (odd || slot || link) (falls cuts i) (t₅ .0) in
-          let t₃ = or-split (odd || slot) link (t₄ .0) in (
-            ltb-true (cutLink cuts i) (length (plan .links)) (not-false (ltb (cutLink cuts i) (length (plan .links))) (t₃ .1)),
-            ltb-false (lowest (λ j. eqb (cutLink cuts j) (cutLink cuts i)) i) i (t₅ .1),
+          let p =
+          none-of-six (eqb (length cuts) (2 * i + 1)) (not (ltb (cutSlot cuts i) (plan .timeout)))
+          (not (ltb (cutLink cuts i) (length (plan .links)))) (falls cuts i) (some (λ j. eqb (cutLink cuts j) (cutLink cuts i)) i)
+          (isHigher plan (cutLink cuts i)) h in (
+            ltb-true (cutLink cuts i) (length (plan .links)) (not-false (ltb (cutLink cuts i) (length (plan .links))) (p .2)),
+            ltb-false (lowest (λ j. eqb (cutLink cuts j) (cutLink cuts i)) i) i (p .4),
           )
 
       none : 65 ≤ lowest (badPair plan cuts) 65 → ⊥
