@@ -23,7 +23,7 @@ use Rattle.order.proofs.Steps.{split, after, passed-one, slot-over}
 use Rattle.picks.specs.declared.Sizes.{Sizes}
 use Rattle.picks.specs.declared.Picked.{Picked}
 use Rattle.picks.specs.Picks.{cutsOf, withPair, Holding, StandAt, MayAdvance}
-use Rattle.picks.proofs.Picking.{cuts-more, holding-more, stand-more}
+use Rattle.picks.proofs.Picking.{is-name, cuts-more, holding-more, stand-more}
 use Rattle.picks.proofs.Playing.{may-advance}
 use Rattle.risks.specs.declared.Hits.{Hits}
 use Rattle.risks.specs.declared.Risk.{Risk}
@@ -316,13 +316,9 @@ module _ (row table touchSets stripSets weights most : List ℕ) (z : Sizes) (hi
                     holding = rw isq holds;
                     covers =
                         rw (isq, more-cuts)
-                        (covers-more row touchSets stripSets (cutsOf p) (p .count) s i hits more (board .hit)
-                        (m .turn .holding .chosen .long) (omega (arith, m .turn .early, board .play .timeout)) (omega (
-                          arith,
-                          board .play
-                              .links,
-                        ))
-                        (m .turn .covers) hit);
+                        (covers-more row touchSets stripSets z (cutsOf p) (p .count) s i hits more (board .hit) (board .play .others)
+                        (m .turn .holding .chosen .long) (omega (arith, m .turn .early, board .play .timeout))
+                        (omega (arith, board .play .links)) (is-name row z p (m .turn .holding) i l (g .free l)) (m .turn .covers) hit);
                     stand = rw isq (stand-more row table z p (board .play) (m .turn .holding) s i room (z .messages) ps (m .turn .stand));
                     few = rw isq (omega (arith, m .turn .few, g .some l));
                     from = rw isq (omega arith);

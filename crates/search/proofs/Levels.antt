@@ -30,7 +30,7 @@ use Rattle.risks.proofs.Light.{skipped, none-later}
 use Rattle.search.proofs.Telling.{tells-none, tells-more}
 use Rattle.risks.specs.Risks.{risksOf, MayHit, IsHit, MayWeigh, MayTry}
 use Rattle.picks.proofs.Playing.{may-advance}
-use Rattle.picks.proofs.Picking.{cuts-more, holding-more, stand-more}
+use Rattle.picks.proofs.Picking.{is-name, cuts-more, holding-more, stand-more}
 use Rattle.risks.proofs.Risks.{covers-more, counted, may-weigh}
 
 -- in slot s, from link e on: the lists whose next pair is there and before link i leave enough
@@ -198,11 +198,14 @@ module _ (row table touchSets stripSets weights most : List ℕ) (a : Asked) (p 
 -- the calls
 module _ (row table touchSets stripSets weights most : List ℕ) (a : Asked) (hits : Hits) (ps : Standing) (left : ℕ) (p : Picked) (n s e : ℕ)
     (rest : Rest) (m : MaySeekIn row table touchSets stripSets weights most a hits ps left p n s e rest) where
+  is-open : (i : ℕ) → Looking row weights most a p n s e i rest → i < a .sizes .links → isDown (p .closed) i ≡ false
+  is-open i g =
+      not-cut-yet row table touchSets stripSets weights most a p n (m .ready) (m .holding) (m .some) (m .few) s e i rest g
+
   next-holds : (i : ℕ) → Looking row weights most a p n s e i rest → i < a .sizes .links → Holding row (a .sizes) (withPair (a .sizes) p s i)
   next-holds i g l =
       holding-more row table (a .sizes) p (m .ready .play) (m .holding) s i (omega (arith, m .few, m .some)) (omega (arith, m .later, g .start))
-      (m .early) l
-      (not-cut-yet row table touchSets stripSets weights most a p n (m .ready) (m .holding) (m .some) (m .few) s e i rest g l)
+      (m .early) l (is-open i g l)
 
   pub may-try : MayTry weights most (a .need) rest s
   may-try = record {
@@ -232,9 +235,9 @@ module _ (row table touchSets stripSets weights most : List ℕ) (a : Asked) (hi
         holding = rw is (next-holds i g l);
         covers =
             rw (is, cuts-more row table (a .sizes) p (m .ready .play) (m .holding) s i (omega (arith, m .few, m .some)))
-            (covers-more row touchSets stripSets (cutsOf p) (p .count) s i hits more (m .ready .hit)
-            (m .holding .chosen .long) (omega (arith, m .early, m .ready .play .timeout)) (omega (arith, m .ready .play .links)) (m .covers)
-            hit);
+            (covers-more row touchSets stripSets (a .sizes) (cutsOf p) (p .count) s i hits more (m .ready .hit) (m .ready .play .others)
+            (m .holding .chosen .long) (omega (arith, m .early, m .ready .play .timeout)) (omega (arith, m .ready .play .links))
+            (is-name row (a .sizes) p (m .holding) i l (is-open i g l)) (m .covers) hit);
         stand =
             rw is
             (stand-more row table (a .sizes) p (m .ready .play) (m .holding) s i (omega (arith, m .few, m .some)) (a .sizes .messages) ps

@@ -204,6 +204,7 @@ breaker-pick-requires t c κs =
       omega (arith, start .pre .1 .turn .early, start .pre .1 .turn .board .play .short),
       omega
           (arith, c .loop-test .taken, start .pre .1 .turn .board .play .few),
+      start .pre .1 .turn .board .play .others .bytes,
     )
 
 breaker-hit-requires : (t : ℕ) → breaker-lts.Need-hit-requires (breaker-calls t) (breaker-at t) breaker.Post breaker-Inv-loop breaker-μ-loop

@@ -107,14 +107,11 @@ in-slot-loop-holds t c =
 
 in-slot-pick-requires : (t : ℕ) → in-slot-lts.Need-pick-requires (in-calls t) (in-slot-at t) in-slot.Post in-inv in-less
 in-slot-pick-requires t c κs =
-    omega (
-      arith,
-      c .loop-test .taken,
-      c .before .before .before .before .before .before .before .before .before .before .before .pre .1 .early,
-      c .before .before .before .before .before .before .before .before .before .before .before .pre .1 .few,
-      c .before .before .before .before .before .before .before .before .before .before .before .pre .1 .some,
-      c .before .before .before .before .before .before .before .before .before .before .before .pre .1 .ready .play .few,
-      c .before .before .before .before .before .before .before .before .before .before .before .pre .1 .ready .play .short,
+    let may = c .before .before .before .before .before .before .before .before .before .before .before .pre .1 in (
+      omega (arith, may .few, may .some),
+      omega (arith, may .early, may .ready .play .short),
+      omega (arith, c .loop-test .taken, may .ready .play .few),
+      may .ready .play .others .bytes,
     )
 
 in-slot-hit-requires : (t : ℕ) → in-slot-lts.Need-hit-requires (in-calls t) (in-slot-at t) in-slot.Post in-inv in-less
