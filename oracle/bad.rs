@@ -5,7 +5,7 @@ use crate::good::{broken, ORDER};
 use crate::paths::{break_path, lengthen_first_path, unused_links, OF_FIRST, OF_SECOND};
 use crate::plan::{fields_of, file_of, plan_of_row, row_of, Plan};
 use crate::questions::numbers_of;
-use crate::random::{good_cuts, good_plan, Random, Size};
+use crate::random::{good_cuts, good_plan, two_way_cables, Random, Size};
 
 // --------------------------------------------------------- plans that break a rule
 
@@ -372,9 +372,82 @@ pub fn any_file(r: &mut Random, size: Size, good: usize) -> Vec<u8> {
 
 // ----------------------------------------------------------------- bad cut lists
 
+/// A cut list with a pair that names the higher link of its cable (document 02, [3]), as numbers:
+/// at the first, a middle or the last pair, alone or beside other faults.
+fn cuts_by_higher_links(r: &mut Random, plan: &Plan, cables: &[(usize, usize)]) -> Vec<u16> {
+    let mut cuts = if r.percent(25) { Vec::new() } else { good_cuts(r, plan) };
+    let (lower, higher) = *r.pick(cables);
+    let slot = r.place_below(plan.timeout);
+    let named = |cuts: &[(usize, usize)], link: usize| cuts.iter().position(|pair| pair.1 == link);
+    match r.below(10) {
+        // The cable by its other name: the higher link stands for the lower.
+        0..=3 => match named(&cuts, lower) {
+            Some(at) => cuts[at].1 = higher,
+            None => cuts.push((slot, higher)),
+        },
+        // Every cable of the list by its other name, or some of them.
+        4 | 5 => {
+            let all = r.percent(50);
+            for pair in cuts.iter_mut() {
+                if let Some((_, higher)) = cables.iter().find(|cable| cable.0 == pair.1) {
+                    if all || r.percent(50) {
+                        pair.1 = *higher;
+                    }
+                }
+            }
+            if cuts.is_empty() {
+                cuts.push((slot, higher));
+            }
+        }
+        // By both names: in one slot, the higher one later, or the lower one later.
+        _ => {
+            let at = match named(&cuts, lower) {
+                Some(at) => at,
+                None => {
+                    cuts.push((slot, lower));
+                    cuts.len() - 1
+                }
+            };
+            let first = cuts[at].0;
+            let other = match r.below(3) {
+                0 => first,
+                1 => r.between(first, plan.timeout - 1),
+                _ => r.below(first + 1),
+            };
+            cuts.push((other, higher));
+        }
+    }
+    cuts.sort();
+    let mut numbers = numbers_of(&cuts);
+    if r.percent(30) {
+        // Another fault, before or behind it.
+        let at = r.place_below(cuts.len());
+        match r.below(6) {
+            0 => numbers[2 * at] = plan.timeout as u16,
+            1 => numbers[2 * at + 1] = plan.links.len() as u16,
+            2 => {
+                cuts.insert(at, cuts[at]);
+                numbers = numbers_of(&cuts);
+            }
+            3 => {
+                let other = r.below(cuts.len());
+                cuts.swap(at, other);
+                numbers = numbers_of(&cuts);
+            }
+            4 => numbers.push(r.below(plan.timeout) as u16),
+            _ => numbers.truncate(2 * at + 1),
+        }
+    }
+    numbers
+}
+
 /// A cut list that is bad in one way or another, as numbers; sometimes it turns out
 /// good after all.
 fn bad_cuts(r: &mut Random, plan: &Plan) -> Vec<u16> {
+    let cables = two_way_cables(plan);
+    if !cables.is_empty() && r.percent(60) {
+        return cuts_by_higher_links(r, plan, &cables);
+    }
     let mut cuts = good_cuts(r, plan);
     if cuts.is_empty() {
         cuts.push((r.below(plan.timeout), r.below(plan.links.len())));

@@ -121,12 +121,12 @@ fn verdict_question(r: &mut Random) -> String {
     let k = *r.weighted(&[(5, 0), (20, 1), (32, 2), (36, 3), (5, 4), (1, 5), (1, 65535)]);
     let row = match r.below(20) {
         0..=14 => {
-            let product = match k {
+            let pairs = match k {
                 3 => 24,
                 2 => 50,
                 _ => 64,
             };
-            row_of(&plan_for_verdict(r, product))
+            row_of(&plan_for_verdict(r, pairs))
         }
         15 | 16 => row_of(&good_plan(r, Size::Small)),
         17 => {
@@ -202,12 +202,12 @@ fn explain_question(r: &mut Random) -> String {
     format!("explain {} {} {}{}{}", k, room, triples.len(), spaced(&triples), spaced(&row))
 }
 
-/// A plan for figures, with E x t at most `product`: every other time the one of several that loses
+/// A plan for figures, with at most so many pairs: every other time the one of several that loses
 /// the least to a single cut, for most plans lose something to it and all to two or three.
-pub fn plan_for_figure(r: &mut Random, product: usize) -> Plan {
+pub fn plan_for_figure(r: &mut Random, pairs: usize) -> Plan {
     let number = if r.percent(50) { 1 } else { 6 };
     let plans = (0..number).map(|_| {
-        if r.percent(50) { plan_for_verdict(r, product) } else { plan_for_capture(r, product) }
+        if r.percent(50) { plan_for_verdict(r, pairs) } else { plan_for_capture(r, pairs) }
     });
     let lost = |plan: &Plan| plan.messages.len() - figure(plan, 1);
     plans.min_by_key(|plan| (lost(plan), 32 - plan.messages.len())).unwrap()

@@ -61,7 +61,7 @@ fn turned(plan: &Plan, cuts: &[Pair], slot: usize, m: usize, position: Position)
     if let Position::First { place } = position {
         if !at_target(plan, m, position) {
             let next = &plan.messages[m].places[place];
-            if is_cut(cuts, slot, next.link) && next.second.is_some() {
+            if is_cut(plan, cuts, slot, next.link) && next.second.is_some() {
                 return Position::Second { place, crossed: 0 };
             }
         }
@@ -74,7 +74,7 @@ fn tries(plan: &Plan, cuts: &[Pair], slot: usize, m: usize, position: Position) 
     if let Position::Second { place, crossed } = position {
         if !at_target(plan, m, position) {
             let next = second_path(plan, m, place)[crossed];
-            if !is_cut(cuts, slot, next) {
+            if !is_cut(plan, cuts, slot, next) {
                 return Some(next);
             }
         }
@@ -100,7 +100,7 @@ fn step(
     match position {
         Position::First { place } => {
             let next = &plan.messages[m].places[place];
-            if is_cut(cuts, slot, next.link) {
+            if is_cut(plan, cuts, slot, next.link) {
                 // "first path's next link cut, no second path here: stays"
                 stays(6, next.link)
             } else if next.slot == slot {
@@ -114,7 +114,7 @@ fn step(
         Position::Second { place, crossed } => {
             let next = second_path(plan, m, place)[crossed];
             // "Tests go in the order 7, 4, 5, 3."
-            if is_cut(cuts, slot, next) {
+            if is_cut(plan, cuts, slot, next) {
                 // "next link of the second path cut: stays"
                 return stays(7, next);
             }

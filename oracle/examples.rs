@@ -1,8 +1,9 @@
 //! The examples of document 01, those marked P and those not, the cases "Plausible and
 //! wrong", each refusal in each way (document 02's [1] and [7] too), and a few laws on random plans.
-//! (figure_examples.rs has those of [2].)
+//! (figure_examples.rs has those of [2], cable_examples.rs those of [3].)
 
 use crate::bad;
+use crate::cable_examples;
 use crate::captures;
 use crate::cases;
 use crate::cuts::{cut_list_of_numbers, Pair};
@@ -82,6 +83,7 @@ pub fn run() -> (usize, usize) {
     captures_as_lines(&mut tests);
     captures_at_random(&mut tests);
     figure_examples::run(&mut tests);
+    cable_examples::run(&mut tests);
     (tests.passed, tests.failed)
 }
 

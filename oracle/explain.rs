@@ -2,7 +2,7 @@
 //! and the first list that explains one. Every list is tried, in the verdict's order;
 //! where there are too many, a walk leaves out those that cannot.
 
-use crate::cuts::{bad_pair, Pair};
+use crate::cuts::{bad_pair, cable_names, Pair};
 use crate::cycle::{cycle, one_slot, start, Event, Position};
 use crate::plan::{refusal, Plan, Refusal};
 use crate::verdict::every_list;
@@ -78,14 +78,15 @@ pub fn explaining_list(plan: &Plan, k: usize, capture: &[Triple]) -> Option<Vec<
     }
 }
 
-/// How many cut lists have at most k pairs: as many as there are ways to choose the links
+/// How many cut lists have at most k pairs: as many as there are ways to choose the cables
 /// and a slot for each of them.
 pub fn number_of_lists(plan: &Plan, k: usize) -> usize {
     let mut all = 0;
     let mut of_so_many = 1;
-    for pairs in 0..=k.min(plan.links.len()) {
+    let cables = cable_names(plan).len();
+    for pairs in 0..=k.min(cables) {
         all += of_so_many * plan.timeout.pow(pairs as u32);
-        of_so_many = of_so_many * (plan.links.len() - pairs) / (pairs + 1);
+        of_so_many = of_so_many * (cables - pairs) / (pairs + 1);
     }
     all
 }

@@ -2,6 +2,7 @@
 //! game have it on random plans, names of every length and number.
 
 use crate::cases::{plan_for_figure, ProgramCase};
+use crate::cuts::cable_names;
 use crate::cycle::cycle;
 use crate::examples::{a, b, plan, row, Tests};
 use crate::figures::{figure, figures, game};
@@ -338,19 +339,20 @@ fn wrong_ways(tests: &mut Tests) {
     for seed in 1..=2 {
         let found = misfigured::all_different(&ways, seed, 300);
         for (way, name, within) in misfigured::WRONG {
-            let differs = found.iter().any(|(other, one)| *other == way && one.case < within);
+            let differs = found.iter().any(|(other, one)| *other == way && one.case < within)
+                || within > 300 && !misfigured::all_different(&[way], seed, within).is_empty();
             tests.holds(&format!("{} differs, seed {}, {} plans", name, seed, within), differs);
         }
     }
-    // Exactly k cuts are not wrong where there are so many links: a cut more in the last slot never
+    // Exactly k cuts are not wrong where there are so many cables: a cut more in the last slot never
     // leaves more.
     let mut same = true;
     for case in 0..300 {
         let (plan, k) = misfigured::small_question(3, case);
         let exactly = misfigured::figure(misfigured::Way::ExactlyK, &plan, k);
-        same = same && (plan.links.len() < k || exactly == figure(&plan, k));
+        same = same && (cable_names(&plan).len() < k || exactly == figure(&plan, k));
     }
-    tests.holds("exactly k cuts, where there are so many links", same);
+    tests.holds("exactly k cuts, where there are so many cables", same);
     let shelves = [
         &b""[..], b"a\n", b"a\nb", b"b\nb\n", b"68\n", b"none\n", b"path\na\n", b"a\n\n", b"\na\n",
         b"a\r\n", b" a\n", b"a\0b\n", b"\xff\n", &b"a\n".repeat(250), &b"a\n".repeat(251),

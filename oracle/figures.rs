@@ -1,7 +1,7 @@
 //! Document 02, request [2], "Worst figures for a shelf of plans": the figure of a plan, by trying
 //! every list; and, as a second way that no answer comes from, by the game that the request tells.
 
-use crate::cuts::Pair;
+use crate::cuts::{cable_names, is_cut, Pair};
 use crate::cycle::{at_target, cycle, one_slot, start, Position};
 use crate::plan::Plan;
 use crate::verdict::every_list;
@@ -25,32 +25,32 @@ pub fn figures(plan: &Plan, k: usize) -> Vec<usize> {
     figures
 }
 
-/// "Think of it as a game": how many arrive if the breaker, who may cut k links in all, plays as
+/// "Think of it as a game": how many arrive if the breaker, who may cut k cables in all, plays as
 /// well as can be.
 pub fn game(plan: &Plan, k: usize) -> usize {
     breakers_turn(plan, 0, &start(plan), &mut Vec::new(), 0, k)
 }
 
-/// "in each slot the breaker picks what else to cut": one of the links from this one on that are
+/// "in each slot the breaker picks what else to cut": one of the cables from this name on that are
 /// whole, and then the next, or nothing more in this slot.
 fn breakers_turn(
     plan: &Plan,
     slot: usize,
     positions: &[Position],
     cuts: &mut Vec<Pair>,
-    from_link: usize,
+    from_name: usize,
     left: usize,
 ) -> usize {
     let mut least = networks_turn(plan, slot, positions, cuts, left);
     if left == 0 {
         return least;
     }
-    for link in from_link..plan.links.len() {
-        if cuts.iter().any(|(_, cut)| *cut == link) {
+    for name in cable_names(plan) {
+        if name < from_name || is_cut(plan, cuts, slot, name) {
             continue;
         }
-        cuts.push((slot, link));
-        least = least.min(breakers_turn(plan, slot, positions, cuts, link + 1, left - 1));
+        cuts.push((slot, name));
+        least = least.min(breakers_turn(plan, slot, positions, cuts, name + 1, left - 1));
         cuts.pop();
     }
     least

@@ -6,10 +6,10 @@
 //! if it touches a place of it. "A place is robust if it has a second path and its slot
 //! plus D is at most t, else fragile. A pair (s, e) strips a message if it touches a
 //! fragile place of it, or if e lies on the second path of one of its robust places (in
-//! any slot)."
+//! any slot)." Document 02, [3]: either way of the cable that a pair names counts as e.
 
 use crate::cases::{plan_and_cuts, plan_and_few_cuts};
-use crate::cuts::Pair;
+use crate::cuts::{pair_cuts, Pair};
 use crate::cycle::{at_target, one_slot, start};
 use crate::plan::{Place, Plan};
 use crate::slack::{a, b};
@@ -40,6 +40,12 @@ pub enum Reading {
     SecondOfFragile,
     /// One pair both touches and strips.
     OnePairDoesBoth,
+    /// A pair touches and strips by the link that it names alone.
+    NamedLinkAlone,
+    /// A pair touches by the link that it names alone.
+    TouchesByName,
+    /// A pair strips, by second paths of robust places, by the link that it names alone.
+    StripsByName,
     /// L counts the messages at their targets.
     ThoseAtTargets,
     /// T, C and H count no pairs to come.
@@ -66,7 +72,7 @@ pub enum Reading {
 
 /// The wrong ones, each with a number of cases (plans, with their lists) within which it
 /// is found false.
-pub const WRONG: [(Reading, u64); 15] = [
+pub const WRONG: [(Reading, u64); 18] = [
     (Reading::SlackOneBelow, 200),
     (Reading::NoTable, 500),
     (Reading::NotItsOwnEntries, 5000),
@@ -77,6 +83,9 @@ pub const WRONG: [(Reading, u64); 15] = [
     (Reading::StripsAtItsBegin, 50),
     (Reading::SecondOfFragile, 50),
     (Reading::OnePairDoesBoth, 50),
+    (Reading::NamedLinkAlone, 50),
+    (Reading::TouchesByName, 50),
+    (Reading::StripsByName, 200),
     (Reading::ThoseAtTargets, 20),
     (Reading::NoneToCome, 20),
     (Reading::TouchesToComeAlone, 20),
@@ -138,10 +147,19 @@ impl Judge<'_> {
         self.plan.messages[m].places.iter().zip(self.robust[m].iter().copied())
     }
 
-    fn touches_place(&self, place: &Place, (s, e): Pair) -> bool {
+    /// Whether the pair's cable has a way that is this link.
+    fn cuts(&self, pair: Pair, link: usize) -> bool {
         match self.reading {
-            Reading::TouchesBefore => e == place.link && s < place.slot,
-            _ => e == place.link && s <= place.slot,
+            Reading::NamedLinkAlone => pair.1 == link,
+            _ => pair_cuts(self.plan, pair, link),
+        }
+    }
+
+    fn touches_place(&self, place: &Place, pair: Pair) -> bool {
+        match self.reading {
+            Reading::TouchesBefore => self.cuts(pair, place.link) && pair.0 < place.slot,
+            Reading::TouchesByName => pair.1 == place.link && pair.0 <= place.slot,
+            _ => self.cuts(pair, place.link) && pair.0 <= place.slot,
         }
     }
 
@@ -153,23 +171,27 @@ impl Judge<'_> {
     fn fragile_touched(&self, m: usize, pair: Pair) -> usize {
         let fragile = self.places(m).filter(|(_, robust)| !robust);
         match self.reading {
-            Reading::FragileInAnySlot => fragile.filter(|(place, _)| place.link == pair.1).count(),
+            Reading::FragileInAnySlot => fragile.filter(|(place, _)| self.cuts(pair, place.link)).count(),
             _ => fragile.filter(|(place, _)| self.touches_place(place, pair)).count(),
         }
     }
 
     /// "if e lies on the second path of one of its robust places (in any slot)".
-    fn on_second(&self, m: usize, (s, e): Pair) -> bool {
+    fn on_second(&self, m: usize, pair: Pair) -> bool {
         self.places(m).any(|(place, robust)| match &place.second {
             None => false,
-            Some(second) => match self.reading {
-                Reading::StripsInTheSlot => robust && second.contains(&e) && s == place.slot,
-                Reading::StripsByTheSlot => robust && second.contains(&e) && s <= place.slot,
-                Reading::StripsAtItsBegin => robust && second[0] == e,
-                Reading::SecondOfFragile => !robust && second.contains(&e),
-                Reading::SecondOfAll => second.contains(&e),
-                _ => robust && second.contains(&e),
-            },
+            Some(second) => {
+                let lies_on = second.iter().any(|link| self.cuts(pair, *link));
+                match self.reading {
+                    Reading::StripsInTheSlot => robust && lies_on && pair.0 == place.slot,
+                    Reading::StripsByTheSlot => robust && lies_on && pair.0 <= place.slot,
+                    Reading::StripsAtItsBegin => robust && self.cuts(pair, second[0]),
+                    Reading::StripsByName => robust && second.contains(&pair.1),
+                    Reading::SecondOfFragile => !robust && lies_on,
+                    Reading::SecondOfAll => lies_on,
+                    _ => robust && lies_on,
+                }
+            }
         })
     }
 
@@ -330,7 +352,8 @@ impl Judge<'_> {
             counts.lost_by_second += 1;
             let late = self.places(m).filter(|(_, robust)| *robust).all(|(place, _)| {
                 let second = place.second.as_ref().unwrap();
-                list.iter().all(|(s, e)| !second.contains(e) || *s > place.slot)
+                let lies_on = |pair: &Pair| second.iter().any(|link| self.cuts(*pair, *link));
+                list.iter().all(|pair| !lies_on(pair) || pair.0 > place.slot)
             });
             counts.lost_by_late_cut += u64::from(late);
         }

@@ -3,6 +3,7 @@
 
 mod bad;
 mod bench;
+mod cable_examples;
 mod captures;
 mod cases;
 mod compare;
@@ -16,6 +17,7 @@ mod good;
 mod good01;
 mod lines;
 mod losses;
+mod miscut;
 mod misfigured;
 mod misjudged;
 mod named;
@@ -69,9 +71,12 @@ oracle: document 01 once more, independent, simple and slow
                                     the same for N spoilt plans and wrong ways to refuse a path
   oracle different-figures SEED N [NAME [KEEP]]
                                     the same for N small plans and wrong ways to find a figure
+  oracle different-cuts SEED N [NAME [KEEP]]
+                                    the same for N small questions and wrong ways to cut a cable
   oracle differs NAME               whether this wrong way differs on each question of standard input;
                                     NAME refusals: whether each to refuse a path does on six or more;
-                                    NAME figures: likewise each to find a figure
+                                    NAME figures: likewise each to find a figure; NAME cuts: likewise
+                                    each to cut a cable
   oracle differs sheets DIR         whether each wrong way to print a sheet differs on a stored case of
                                     DIR, whose sources are found from here, and all print what is stored
   oracle help                       this
@@ -236,11 +241,22 @@ fn run(arguments: &[String]) -> Result<bool, String> {
                 }
             }
         }
+        Some("different-cuts") => {
+            let (seed, number) = (number_at(&words, 1)?, number_at(&words, 2)?);
+            match words.plain.get(3) {
+                None => count_different_cuts(seed, number),
+                Some(name) => {
+                    let keep = if words.plain.len() > 4 { number_at(&words, 4)? } else { 10 };
+                    keep_different_cuts(seed, number, name, keep as usize)
+                }
+            }
+        }
         Some("differs") => {
             let name = words.plain.get(1).ok_or("which way?")?;
             match name.as_str() {
                 "refusals" => every_way_to_refuse_differs(),
                 "figures" => every_way_to_find_figures_differs(),
+                "cuts" => every_way_to_cut_differs(),
                 "sheets" => every_way_to_print_sheets_differs(words.plain.get(2).ok_or("which folder?")?),
                 _ => differs(name),
             }
@@ -329,10 +345,12 @@ fn kinds(seed: u64, number: u64, without: &[String]) -> Result<bool, String> {
     let mut part_of_length_0 = 0;
     let of_paths = tally::numbers();
     let mut tallies: Vec<tally::Tally> = of_paths.iter().map(|_| Default::default()).collect();
+    let mut cables = tally::Cables::default();
     for case in 0..number {
         let (name, line) = cases::question(seed, case, without);
         let question = cases::QUESTIONS.iter().position(|other| *other == name).unwrap();
         asked[question] += 1;
+        cables.count(name, &line);
         let answer = probe::answer(line.as_bytes());
         let words: Vec<&str> = answer.split(' ').collect();
         if words[0] == "refused" {
@@ -410,6 +428,7 @@ fn kinds(seed: u64, number: u64, without: &[String]) -> Result<bool, String> {
         );
     }
     println!("second paths of length 0: {}", part_of_length_0);
+    cables.print();
     tally::print(&tallies);
     Ok(true)
 }
@@ -430,6 +449,13 @@ fn theorems(seed: u64, number: u64) -> Result<bool, String> {
             println!("    slack below 0 and yet in time: {}", counts.negative_slack_in_time);
             println!("untouched under cuts: {}", counts.untouched);
             println!("  while others were diverted: {}", counts.untouched_though_others_diverted);
+            println!("touched by other ways of the named links alone: {}", counts.touched_by_other_way);
+            println!("  with other events than without cuts: {}", counts.changed_by_other_way);
+            println!(
+                "second paths cut by other ways of the named links alone, s + D within the timeout: {}",
+                counts.cut_by_other_way
+            );
+            println!("  not there by s + D: {}", counts.late_by_other_way);
             Ok(refused_as_before(seed, number)? && losses_of(seed, number)?)
         }
     }
@@ -483,16 +509,23 @@ fn way_to_find_figures(name: &str) -> Result<misfigured::Way, String> {
     found.map(|(way, _, _)| *way).ok_or(format!("{}: no such way", name))
 }
 
-/// Whether this wrong way, to explain a capture, to refuse a path or to find a figure, differs on
-/// every question of standard input.
+fn way_to_cut(name: &str) -> Result<miscut::Way, String> {
+    let found = miscut::WRONG.iter().find(|(_, other, _)| *other == name);
+    found.map(|(way, _, _)| *way).ok_or(format!("{}: no such way", name))
+}
+
+/// Whether this wrong way, to explain a capture, to refuse a path, to find a figure or to cut a
+/// cable, differs on every question of standard input.
 fn differs(name: &str) -> Result<bool, String> {
-    let differs_on: Box<dyn Fn(&str) -> Option<bool>> = match (way_of(name), way_to_refuse(name)) {
-        (Ok(way), _) => Box::new(move |line| named::differs_on(way, line)),
-        (_, Ok(way)) => Box::new(move |line| misjudged::differs_on(way, line)),
-        _ => {
-            let way = way_to_find_figures(name)?;
-            Box::new(move |line| misfigured::differs_on(way, line))
-        }
+    let differs_on: Box<dyn Fn(&str) -> Option<bool>> = if let Ok(way) = way_of(name) {
+        Box::new(move |line| named::differs_on(way, line))
+    } else if let Ok(way) = way_to_refuse(name) {
+        Box::new(move |line| misjudged::differs_on(way, line))
+    } else if let Ok(way) = way_to_find_figures(name) {
+        Box::new(move |line| misfigured::differs_on(way, line))
+    } else {
+        let way = way_to_cut(name)?;
+        Box::new(move |line| miscut::differs_on(way, line))
     };
     let (mut passed, mut failed) = (0, 0);
     for line in std::io::stdin().lock().lines() {
@@ -523,6 +556,16 @@ fn every_way_to_find_figures_differs() -> Result<bool, String> {
     let lines = lines_of_standard_input()?;
     let ways = misfigured::WRONG.iter().map(|(way, name, _)| {
         let differs = |line: &&String| misfigured::differs_on(*way, line) == Some(true);
+        (*name, lines.iter().filter(differs).count())
+    });
+    each_differs_on(6, ways)
+}
+
+/// The same of the wrong ways to cut a cable.
+fn every_way_to_cut_differs() -> Result<bool, String> {
+    let lines = lines_of_standard_input()?;
+    let ways = miscut::WRONG.iter().map(|(way, name, _)| {
+        let differs = |line: &&String| miscut::differs_on(*way, line) == Some(true);
         (*name, lines.iter().filter(differs).count())
     });
     each_differs_on(6, ways)
@@ -579,6 +622,38 @@ fn count_different_figures(seed: u64, number: u64) -> Result<bool, String> {
         let cases: Vec<u64> =
             found.iter().filter(|(other, _)| *other == way).map(|(_, one)| one.case).collect();
         println!("{:22} {:7}, the first {:?}", name, cases.len(), cases.first());
+    }
+    Ok(true)
+}
+
+/// How often each wrong way to cut a cable differs, and that the right one never does.
+fn count_different_cuts(seed: u64, number: u64) -> Result<bool, String> {
+    let mut ways = vec![miscut::Way::Right];
+    ways.extend(miscut::WRONG.map(|(way, _, _)| way));
+    let found = miscut::all_different(&ways, seed, number);
+    if let Some((_, one)) = found.iter().find(|(way, _)| *way == miscut::Way::Right) {
+        println!("FAILED\nthe right way differs, seed {} case {}: {}", seed, one.case, one.question);
+        return Ok(false);
+    }
+    println!("{} small questions of seed {}: the right way never differs", number, seed);
+    let names = ["replay", "verdict", "figure", "explain", "slack"];
+    println!("{:24} {:>7} {}  the first", "", "all", names.map(|name| format!("{:>8}", name)).concat());
+    for (way, name, _) in miscut::WRONG {
+        let found: Vec<&miscut::Different> =
+            found.iter().filter(|(other, _)| *other == way).map(|(_, one)| one).collect();
+        let of = |name: &str| found.iter().filter(|one| one.question.starts_with(name)).count();
+        let numbers = names.map(|name| format!("{:8}", of(name))).concat();
+        println!("{:24} {:7} {}  {:?}", name, found.len(), numbers, found.first().map(|one| one.case));
+    }
+    Ok(true)
+}
+
+/// The shortest questions on which this wrong way to cut a cable differs; what it answers is said on
+/// standard error.
+fn keep_different_cuts(seed: u64, number: u64, name: &str, keep: usize) -> Result<bool, String> {
+    for one in miscut::to_keep(way_to_cut(name)?, seed, number, keep) {
+        eprintln!("seed {} case {}: {}, not {}", seed, one.case, one.right, one.wrong);
+        println!("{}", one.question);
     }
     Ok(true)
 }

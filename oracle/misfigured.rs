@@ -3,13 +3,13 @@
 //! differ the question is worth keeping. No answer of this program comes from this file.
 
 use crate::cases::plan_for_figure;
-use crate::cuts::Pair;
+use crate::cuts::{cable_names, is_cut, pair_cuts, Pair};
 use crate::cycle::{at_target, cycle, one_slot, start, Position};
 use crate::figures::figures;
 use crate::plan::{plan_of_file, refusal, row_of, Plan};
 use crate::probe::spaced;
 use crate::questions::good_plan_of_row;
-use crate::random::{good_plan, Random, Size};
+use crate::random::{good_plan, number_of_pairs, Random, Size};
 use crate::shelf::{totals, words_of, Told, LONGEST_NAME, MOST_NAMES};
 use crate::verdict::{every_list, failing_list};
 
@@ -36,11 +36,11 @@ pub enum Way {
     SlotsCount,
     /// k cuts in each slot.
     KASlot,
-    /// Exactly k cuts; all arrive where there are fewer links.
+    /// Exactly k cuts; all arrive where there are fewer cables.
     ExactlyK,
     /// Links rise over the whole list, not within a slot.
     LinksRise,
-    /// Links of first paths alone.
+    /// Cables of first paths alone.
     FirstPathsAlone,
     /// The worst list of one cut fewer, and the cut that does the most harm to it.
     Greedy,
@@ -65,11 +65,11 @@ pub const WRONG: [(Way, &str, u64); 17] = [
     (Way::OneSlotShort, "one-slot-short", 50),
     (Way::SlotZero, "cuts-in-slot-zero", 300),
     (Way::OneASlot, "one-a-slot", 300),
-    (Way::OneSlotAlone, "one-slot-alone", 300),
+    (Way::OneSlotAlone, "one-slot-alone", 1500),
     (Way::SlotsCount, "slots-count", 50),
     (Way::KASlot, "k-a-slot", 50),
     (Way::ExactlyK, "exactly-k", 100),
-    (Way::LinksRise, "links-rise", 300),
+    (Way::LinksRise, "links-rise", 1500),
     (Way::FirstPathsAlone, "links-of-first-paths", 50),
     (Way::Greedy, "greedy", 300),
     (Way::CutsHeal, "cuts-heal", 300),
@@ -118,7 +118,7 @@ fn k_a_slot(
     slot: usize,
     positions: &[Position],
     cuts: &mut Vec<Pair>,
-    from_link: usize,
+    from_name: usize,
     left: usize,
 ) -> usize {
     let next = one_slot(plan, cuts, slot, positions).0;
@@ -127,13 +127,13 @@ fn k_a_slot(
     } else {
         k_a_slot(plan, k, slot + 1, &next, cuts, 0, k)
     };
-    for link in from_link..plan.links.len() {
+    for name in cable_names(plan) {
         if least == 0 || left == 0 {
             break;
         }
-        if cuts.iter().all(|(_, cut)| *cut != link) {
-            cuts.push((slot, link));
-            least = least.min(k_a_slot(plan, k, slot, positions, cuts, link + 1, left - 1));
+        if name >= from_name && !is_cut(plan, cuts, slot, name) {
+            cuts.push((slot, name));
+            least = least.min(k_a_slot(plan, k, slot, positions, cuts, name + 1, left - 1));
             cuts.pop();
         }
     }
@@ -144,7 +144,7 @@ fn k_a_slot(
 fn greedy(plan: &Plan, k: usize) -> usize {
     let mut list: Vec<Pair> = Vec::new();
     let mut least = plan.messages.len();
-    for _ in 0..k.min(plan.links.len()) {
+    for _ in 0..k.min(cable_names(plan).len()) {
         let mut longer: Vec<Vec<Pair>> = Vec::new();
         every_list(plan, 1, &mut |one| {
             if list.iter().all(|(_, link)| *link != one[0].1) {
@@ -186,7 +186,7 @@ pub fn figure(way: Way, plan: &Plan, k: usize) -> usize {
         }
         Way::SlotsCount if k == 0 => messages,
         Way::SlotsCount => {
-            let all: Vec<Pair> = (0..plan.links.len()).map(|link| (0, link)).collect();
+            let all: Vec<Pair> = cable_names(plan).into_iter().map(|name| (0, name)).collect();
             arrivals(&all)
         }
         Way::KASlot => k_a_slot(plan, k, 0, &start(plan), &mut Vec::new(), 0, k),
@@ -195,11 +195,11 @@ pub fn figure(way: Way, plan: &Plan, k: usize) -> usize {
             least(plan, k, |list| list.windows(2).all(|two| two[0].1 < two[1].1), arrivals)
         }
         Way::FirstPathsAlone => {
-            let on_first_path = |link: usize| {
+            let on_first_path = |pair: &Pair| {
                 let mut places = plan.messages.iter().flat_map(|message| &message.places);
-                places.any(|place| place.link == link)
+                places.any(|place| pair_cuts(plan, *pair, place.link))
             };
-            least(plan, k, |list| list.iter().all(|(_, link)| on_first_path(*link)), arrivals)
+            least(plan, k, |list| list.iter().all(on_first_path), arrivals)
         }
         Way::Greedy => greedy(plan, k),
         Way::CutsHeal => least(plan, k, any, |list| {
@@ -227,16 +227,17 @@ pub fn small_question(seed: u64, case: u64) -> (Plan, usize) {
     let r = &mut random;
     let k = *r.weighted(&[(1, 0), (5, 1), (8, 2), (6, 3)]);
     let plan = if r.percent(10) {
-        // Fewer links than cuts, if it can be.
+        // Fewer cables than cuts, if it can be.
         let plans: Vec<Plan> = (0..20).map(|_| good_plan(r, Size::Tiny)).collect();
-        plans.into_iter().min_by_key(|plan| plan.links.len().max(2) * plan.timeout).unwrap()
+        plans.into_iter().min_by_key(|plan| number_of_pairs(plan).max(2 * plan.timeout)).unwrap()
     } else {
         plan_for_figure(r, if k == 3 { 18 } else { SMALL })
     };
     (plan, k)
 }
 
-/// The largest E x t of the plans that the wrong ways are asked about; some take long on others.
+/// How many pairs there may be in the plans that the wrong ways are asked about; some take long on
+/// others.
 const SMALL: usize = 28;
 
 /// Whether a way differs on a question of the probe about a small good plan and a k of at most 3.
@@ -251,7 +252,7 @@ pub fn differs_on(way: Way, question: &str) -> Option<bool> {
         _ => return None,
     };
     let plan = good_plan_of_row(row).ok()?;
-    if plan.links.len() * plan.timeout > SMALL {
+    if number_of_pairs(&plan) > SMALL {
         return None;
     }
     let right = figures(&plan, k);

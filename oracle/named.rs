@@ -7,7 +7,7 @@
 //! program comes from this file.
 
 use crate::captures::good_capture;
-use crate::cuts::{is_cut, Pair};
+use crate::cuts::{cable_names, is_cut, name_of, Pair};
 use crate::cycle::{one_slot, start, Event, Position};
 use crate::explain::{
     capture_of_numbers, crossings, numbers_of_capture, of_every_list, Triple,
@@ -75,11 +75,11 @@ pub const WRONG: [(Way, &str, u64); 14] = [
     (Way::SlotZero, "slot-zero", 100),
 ];
 
-/// What a slot says: nothing, a link that every explaining list has cut, or that there is
-/// no such list.
+/// What a slot says: nothing, a cable, by its name, that every explaining list has cut, or that
+/// there is no such list.
 enum Name {
     None,
-    Link(usize),
+    Cable(usize),
     Dead,
 }
 
@@ -104,7 +104,7 @@ struct Quick<'a> {
 
 impl Quick<'_> {
     /// "for m from the foremost on: c = link + 1 of its event if kind 2 or 3, else 0; if
-    /// c != crossed[i][m]: kind 1, 2, 3 -> Link; any other -> Dead".
+    /// c != crossed[i][m]: kind 1, 2, 3 -> Link; any other -> Dead". The cable of that link is named.
     fn named(&self, slot: usize, events: &[Event]) -> Name {
         let differs = |m: &usize| {
             let event = events[*m];
@@ -125,7 +125,7 @@ impl Quick<'_> {
         match found {
             None => Name::None,
             Some(m) if dead.contains(&events[m].kind) => Name::Dead,
-            Some(m) => Name::Link(events[m].number),
+            Some(m) => Name::Cable(name_of(self.plan, events[m].number)),
         }
     }
 
@@ -150,9 +150,9 @@ impl Quick<'_> {
                     slot += 1;
                 }
                 Name::Dead => return None,
-                Name::Link(_) if left == 0 => return None,
-                Name::Link(link) => {
-                    down.push((slot, link));
+                Name::Cable(_) if left == 0 => return None,
+                Name::Cable(name) => {
+                    down.push((slot, name));
                     left -= 1;
                     if self.way == Way::SlotNotAgain {
                         positions = one_slot(self.plan, &down, slot, &positions).0;
@@ -185,13 +185,13 @@ impl Quick<'_> {
         let mut positions = positions.to_vec();
         let mut first_link = from.1;
         for slot in from.0..self.plan.timeout {
-            for link in first_link..self.plan.links.len() {
-                if is_cut(list, slot, link) {
+            for name in cable_names(self.plan) {
+                if name < first_link || is_cut(self.plan, list, slot, name) {
                     continue;
                 }
                 let mut longer = list.to_vec();
-                longer.push((slot, link));
-                let found = self.level(&positions, &longer, (slot, link + 1), missing - 1);
+                longer.push((slot, name));
+                let found = self.level(&positions, &longer, (slot, name + 1), missing - 1);
                 if found.is_some() {
                     return found;
                 }
@@ -208,7 +208,7 @@ impl Quick<'_> {
 
     /// "first list: n = 0, 1, .. k in turn".
     fn first_list(&self, k: usize) -> Option<Vec<Pair>> {
-        let pairs = k.min(self.plan.links.len());
+        let pairs = k.min(cable_names(self.plan).len());
         (0..=pairs).find_map(|pairs| self.level(&start(self.plan), &[], (0, 0), pairs))
     }
 }

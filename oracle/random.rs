@@ -1,8 +1,8 @@
 //! The random generator: numbers, good plans in which second paths compete with each
-//! other and with the table, and good cut lists. (bad.rs spoils them, cases.rs makes
-//! questions and programs' inputs of them.)
+//! other and with the table, with cables that go both ways or not, and good cut lists.
+//! (bad.rs spoils them, cases.rs makes questions and programs' inputs of them.)
 
-use crate::cuts::Pair;
+use crate::cuts::{cable_names, name_of, other_way, Pair};
 use crate::plan::{Link, Message, Place, Plan};
 use crate::slack::d;
 
@@ -125,6 +125,7 @@ pub fn good_plan(r: &mut Random, size: Size) -> Plan {
         Size::Large => {
             Bounds { active: (8, 16), links: (40, 64), messages: (16, 32), timeout: (20, 64) }
         }
+        Size::Limit if r.percent(35) => return two_way_limit_plan(r),
         Size::Limit => {
             let full = r.percent(25);
             return limit_plan(r, full);
@@ -144,8 +145,13 @@ pub fn largest_plan(r: &mut Random) -> Plan {
     }
 }
 
-/// A plan small enough for the exhaustive verdict: E x t is at most `product`.
-pub fn plan_for_verdict(r: &mut Random, product: usize) -> Plan {
+/// How many pairs a cut list may have as its first: so many cables, each in so many slots.
+pub fn number_of_pairs(plan: &Plan) -> usize {
+    cable_names(plan).len() * plan.timeout
+}
+
+/// A plan small enough for the exhaustive verdict: there are at most so many pairs.
+pub fn plan_for_verdict(r: &mut Random, pairs: usize) -> Plan {
     let bounds = Bounds { active: (2, 5), links: (2, 9), messages: (1, 5), timeout: (2, 8) };
     let robust = r.percent(60);
     for tries in 0.. {
@@ -153,16 +159,16 @@ pub fn plan_for_verdict(r: &mut Random, product: usize) -> Plan {
         // If possible two messages and more, each with a second path from its start.
         let fits_well = plan.messages.len() > 1
             && plan.messages.iter().all(|message| message.places[0].second.is_some());
-        if plan.links.len() * plan.timeout <= product && (!robust || fits_well || tries > 50) {
+        if number_of_pairs(&plan) <= pairs && (!robust || fits_well || tries > 50) {
             return plan;
         }
     }
     unreachable!()
 }
 
-/// A plan for captures: E x t is at most `product`, and mostly there are messages that share
+/// A plan for captures: there are at most so many pairs, and mostly there are messages that share
 /// a link of their second paths, so that they hold each other, and messages that wait.
-pub fn plan_for_capture(r: &mut Random, product: usize) -> Plan {
+pub fn plan_for_capture(r: &mut Random, pairs: usize) -> Plan {
     let bounds = Bounds { active: (3, 5), links: (3, 10), messages: (2, 6), timeout: (2, 9) };
     for tries in 0.. {
         let plan = if r.percent(25) {
@@ -174,7 +180,7 @@ pub fn plan_for_capture(r: &mut Random, product: usize) -> Plan {
         } else {
             network_plan(r, &bounds)
         };
-        if plan.links.len() * plan.timeout <= product && (shares_second_paths(&plan) || tries > 40) {
+        if number_of_pairs(&plan) <= pairs && (shares_second_paths(&plan) || tries > 40) {
             return plan;
         }
     }
@@ -191,6 +197,26 @@ fn shares_second_paths(plan: &Plan) -> bool {
         plan.messages.iter().filter(|message| passes(message, link)).count() > 1
     })
 }
+
+/// How many links of a network have their other way in it.
+#[derive(Clone, Copy, PartialEq)]
+enum Cables {
+    /// None.
+    OneWay,
+    /// Those of one to three cables.
+    FewBothWays,
+    /// Most of them.
+    MostBothWays,
+    /// All of them.
+    BothWays,
+}
+
+const CABLES: [(usize, Cables); 4] = [
+    (35, Cables::OneWay),
+    (20, Cables::FewBothWays),
+    (12, Cables::MostBothWays),
+    (33, Cables::BothWays),
+];
 
 /// How the paths of a plan are laid.
 #[derive(Clone, Copy, PartialEq)]
@@ -254,15 +280,70 @@ fn network(r: &mut Random, names: &[usize], bounds: Range) -> Vec<Link> {
         }
     }
     r.shuffle(&mut links);
-    let highest = bounds.1.min(links.len());
-    let lowest = bounds.0.min(highest);
+    // One way of each cable.
+    let mut one_way: Vec<Link> = Vec::new();
+    for link in links {
+        if !one_way.contains(&reversed(link)) {
+            one_way.push(link);
+        }
+    }
+    let cables = *r.weighted(&CABLES);
+    // Where most go both ways, the bounds are those of cables, as far as there may be links.
+    let ways = match cables {
+        Cables::OneWay | Cables::FewBothWays => 1,
+        Cables::MostBothWays | Cables::BothWays => 2,
+    };
+    let highest = (ways * bounds.1.min(one_way.len())).min(64);
+    let lowest = (ways * bounds.0).min(highest);
     // Dense networks more often: they have more second paths.
     let number = match r.below(10) {
         0..=5 => highest,
         6 | 7 => r.between((lowest + highest) / 2, highest),
         _ => r.between(lowest, highest),
     };
-    links.truncate(number);
+    with_other_ways(r, one_way, cables, number)
+}
+
+/// The same ends the other way round.
+fn reversed(link: Link) -> Link {
+    Link { from: link.to, to: link.from }
+}
+
+/// About so many of these links, and the other ways of some or all of them.
+fn with_other_ways(r: &mut Random, one_way: Vec<Link>, cables: Cables, number: usize) -> Vec<Link> {
+    let mut links = one_way;
+    match cables {
+        Cables::OneWay => links.truncate(number),
+        Cables::FewBothWays => {
+            let few = r.between(1, 3).min((number / 2).max(1));
+            links.truncate((number - few).max(1));
+            let backwards: Vec<Link> = links.iter().take(few).copied().map(reversed).collect();
+            links.extend(backwards);
+            r.shuffle(&mut links);
+        }
+        Cables::MostBothWays => {
+            links.truncate((number / 2).max(1));
+            let backwards: Vec<Link> =
+                links.iter().copied().filter(|_| r.percent(75)).map(reversed).collect();
+            links.extend(backwards);
+            r.shuffle(&mut links);
+        }
+        Cables::BothWays => {
+            links.truncate((number / 2).max(1));
+            let backwards: Vec<Link> = links.iter().copied().map(reversed).collect();
+            match r.below(4) {
+                // Both ways of a cable next to each other; first all one way, then all the other, in
+                // the same order or from the last one back; or in any order.
+                0 => links = links.into_iter().zip(backwards).flat_map(|(a, b)| [a, b]).collect(),
+                1 => links.extend(backwards),
+                2 => links.extend(backwards.into_iter().rev()),
+                _ => {
+                    links.extend(backwards);
+                    r.shuffle(&mut links);
+                }
+            }
+        }
+    }
     links
 }
 
@@ -298,10 +379,13 @@ fn network_plan(r: &mut Random, bounds: &Bounds) -> Plan {
     } else {
         r.between(bounds.messages.0, bounds.messages.1)
     };
-    // The few starts and targets of the crowd.
+    // The few starts and targets of the crowd; every other time also from target to start.
     let number_of_ends = r.between(1, 3);
-    let ends: Vec<(usize, usize)> =
+    let mut ends: Vec<(usize, usize)> =
         (0..number_of_ends).map(|_| two_way_ends(r, &ground, &names)).collect();
+    if r.percent(50) {
+        ends = ends.into_iter().flat_map(|(from, to)| [(from, to), (to, from)]).collect();
+    }
 
     let mut messages = Vec::new();
     for _ in 0..4 * wanted {
@@ -310,6 +394,8 @@ fn network_plan(r: &mut Random, bounds: &Bounds) -> Plan {
         }
         let path = if manner == Manner::Crowd && r.percent(30) {
             stretch_of_a_second_path(r, &messages)
+        } else if manner != Manner::Document000 && r.percent(25) {
+            way_back(r, &ground, &messages).or_else(|| stretch_of_a_second_path(r, &messages))
         } else {
             let (from, to) = match manner {
                 Manner::Crowd if r.percent(85) => *r.pick(&ends),
@@ -385,6 +471,36 @@ fn stretch_of_a_second_path(r: &mut Random, messages: &[Message]) -> Option<Vec<
     Some(second[begin..end].to_vec())
 }
 
+/// A first path that goes back over the cables of another message's path, or of a stretch of it.
+fn way_back(r: &mut Random, ground: &Ground, messages: &[Message]) -> Option<Vec<usize>> {
+    if messages.is_empty() {
+        return None;
+    }
+    let places = &r.pick(messages).places;
+    let of_first: Vec<usize> = places.iter().map(|place| place.link).collect();
+    let path = match &r.pick(places).second {
+        Some(second) if r.percent(40) => second.clone(),
+        _ => of_first,
+    };
+    let begin = if r.percent(50) { 0 } else { r.below(path.len()) };
+    let end = if r.percent(50) { path.len() } else { r.between(begin + 1, path.len()) };
+    let back = path[begin..end].iter().rev().map(|link| other_way_on(ground, *link));
+    back.collect()
+}
+
+/// The other way of a link of the ground, if it has one.
+fn other_way_on(ground: &Ground, link: usize) -> Option<usize> {
+    ground.links.iter().position(|other| *other == reversed(ground.links[link]))
+}
+
+/// A path uses a link; its cable's other way is then as likely to be taken by other paths.
+fn load(ground: &mut Ground, link: usize) {
+    ground.load[link] += 1;
+    if let Some(other) = other_way_on(ground, link) {
+        ground.load[other] += 1;
+    }
+}
+
 /// A message with this first path, if there are slots for it, and second paths.
 fn new_message(
     r: &mut Random,
@@ -401,7 +517,7 @@ fn new_message(
     let mut places = Vec::new();
     for (place, link) in path.iter().enumerate() {
         ground.held.push((*link, slots[place]));
-        ground.load[*link] += 1;
+        load(ground, *link);
         places.push(Place { link: *link, slot: slots[place], second: None });
     }
     for place in 0..places.len() {
@@ -419,7 +535,7 @@ fn new_message(
         if let Some(second) = second {
             if second.len() <= 16 && second[0] != path[place] {
                 for link in &second {
-                    ground.load[*link] += 1;
+                    load(ground, *link);
                 }
                 places[place].second = Some(second);
             }
@@ -577,6 +693,12 @@ pub fn limit_plan(r: &mut Random, full: bool) -> Plan {
     for from in side.iter().rev().take(9) {
         links.push(Link { from: *from, to: target }); // 46 to 54: back, the last one first
     }
+    if !full && r.percent(50) {
+        // The others are other ways of some of these.
+        let mut others: Vec<Link> = links.iter().copied().map(reversed).collect();
+        r.shuffle(&mut others);
+        links.extend(others.into_iter().take(r.between(1, 64 - links.len())));
+    }
     for two in rest.windows(2).take(64 - links.len()) {
         links.push(Link { from: two[0], to: two[1] });
     }
@@ -606,6 +728,72 @@ pub fn limit_plan(r: &mut Random, full: bool) -> Plan {
         messages.push(Message { places });
     }
     Plan { vertices: 64, timeout: 64, links: numbered, messages }
+}
+
+/// A plan at the limits, all of whose 64 links are both ways of 32 cables: two rails of eleven
+/// vertices, rungs between them, and a cable apart. Messages run both ways over either rail, and from
+/// each place there is a second path by a rung, the other rail and a rung; some of these first go back
+/// over the cables of their own first path.
+fn two_way_limit_plan(r: &mut Random) -> Plan {
+    const RUNGS: usize = 11;
+    let mut names: Vec<usize> = (0..64).collect();
+    r.shuffle(&mut names);
+    let vertex = |rail: usize, rung: usize| names[RUNGS * rail + rung];
+    let mut one_way = vec![Link { from: names[62], to: names[63] }];
+    for rung in 0..RUNGS {
+        one_way.push(Link { from: vertex(0, rung), to: vertex(1, rung) });
+        if rung + 1 < RUNGS {
+            one_way.push(Link { from: vertex(0, rung), to: vertex(0, rung + 1) });
+            one_way.push(Link { from: vertex(1, rung), to: vertex(1, rung + 1) });
+        }
+    }
+    r.shuffle(&mut one_way);
+    let links = with_other_ways(r, one_way, Cables::BothWays, 64);
+    let load = vec![0; links.len()];
+    let mut ground = Ground { links, load, held: Vec::new(), timeout: 64 };
+    // The links of a way along these vertices.
+    let along = |ground: &Ground, vertices: &[usize]| -> Vec<usize> {
+        let link = |two: &[usize]| {
+            let ends = Link { from: two[0], to: two[1] };
+            ground.links.iter().position(|link| *link == ends).unwrap()
+        };
+        vertices.windows(2).map(link).collect()
+    };
+    let mut messages = Vec::new();
+    while messages.len() < 32 {
+        let rail = r.below(2);
+        let (from, to) = (r.below(RUNGS), r.below(RUNGS));
+        if from == to {
+            continue;
+        }
+        // The rungs from one to the other, rising or falling.
+        let between = |from: usize, to: usize| -> Vec<usize> {
+            if from < to { (from..=to).collect() } else { (to..=from).rev().collect() }
+        };
+        let rungs = between(from, to);
+        let on = |rail: usize, rungs: &[usize]| -> Vec<usize> {
+            rungs.iter().map(|rung| vertex(rail, *rung)).collect()
+        };
+        let path = along(&ground, &on(rail, &rungs));
+        let slots = match free_slots(r, &ground, &path) {
+            None => continue,
+            Some(slots) => slots,
+        };
+        let mut places = Vec::new();
+        for (place, link) in path.iter().enumerate() {
+            ground.held.push((*link, slots[place]));
+            let back = if r.percent(25) { r.below(place + 1) } else { 0 };
+            let turn = rungs[place - back];
+            let mut vertices = on(rail, &between(rungs[place], turn));
+            vertices.extend(on(1 - rail, &between(turn, to)));
+            vertices.push(vertex(rail, to));
+            let second = Some(along(&ground, &vertices));
+            let second = second.filter(|path| path.len() <= 16 && r.percent(90));
+            places.push(Place { link: *link, slot: slots[place], second });
+        }
+        messages.push(Message { places });
+    }
+    Plan { vertices: 64, timeout: 64, links: ground.links, messages }
 }
 
 /// A plan for the promise about lost messages: with many places whose second path has
@@ -639,11 +827,15 @@ pub fn plan_with_slack(r: &mut Random) -> Plan {
 /// One to three chains, each with a side vertex to which its vertices are linked and which
 /// is linked to its end or to a vertex before it: the messages of a chain share their
 /// second paths over it, and some of these come back to the first path. A few messages
-/// have their first path over the side vertex.
+/// have their first path over the side vertex. Where all links have their other way, every
+/// other message goes back along the chain, and around over the side vertex.
 fn ladder_plan(r: &mut Random) -> Plan {
     let mut links = Vec::new();
     let mut firsts: Vec<Vec<(usize, Option<Vec<usize>>)>> = Vec::new();
     let mut vertices = 0;
+    let cables = *r.weighted(&CABLES);
+    // Those that go back: each link, and whether its other way is meant.
+    let mut backs: Vec<Vec<((usize, bool), Option<Vec<(usize, bool)>>)>> = Vec::new();
     for _ in 0..r.between(1, 3) {
         let length = r.between(1, 4);
         let (begin, side) = (vertices, vertices + length + 1);
@@ -658,6 +850,10 @@ fn ladder_plan(r: &mut Random) -> Plan {
             links.push(Link { from: begin + step, to: side });
         }
         links.push(Link { from: side, to: begin + joins });
+        if joins < length && cables == Cables::OneWay {
+            // The vertex where the side vertex leads to is not linked to it.
+            links[chain + length + joins] = Link { from: side, to: begin + length };
+        }
         let along = |from: usize| chain + from..chain + length;
         let around = |from: usize| {
             let mut path = vec![chain + length + from, chain + 2 * length];
@@ -666,6 +862,20 @@ fn ladder_plan(r: &mut Random) -> Plan {
         };
         for _ in 0..*r.pick(&[1, 1, 2, 3]) {
             let from = r.below(joins);
+            if cables == Cables::BothWays && r.percent(50) {
+                let places = (from..joins).rev().map(|step| {
+                    // From the vertex behind this step to the side vertex, and from there on.
+                    let to_side = if step + 1 == joins {
+                        (chain + 2 * length, true)
+                    } else {
+                        (chain + length + step + 1, false)
+                    };
+                    let second = vec![to_side, (chain + length + from, true)];
+                    ((chain + step, true), Some(second).filter(|_| r.percent(85)))
+                });
+                backs.push(places.collect());
+                continue;
+            }
             firsts.push(if r.percent(80) {
                 let places = from..length;
                 places
@@ -680,6 +890,30 @@ fn ladder_plan(r: &mut Random) -> Plan {
                 path
             });
         }
+    }
+    // The other ways stand behind the links, as far as they are not there: all, or a few.
+    let few = match cables {
+        Cables::OneWay => 0,
+        Cables::FewBothWays => r.between(1, 3).min(links.len()),
+        Cables::MostBothWays => r.between(links.len() / 2, links.len()),
+        Cables::BothWays => links.len(),
+    };
+    for link in 0..few {
+        let back = reversed(links[link]);
+        if !links.contains(&back) {
+            links.push(back);
+        }
+    }
+    let of = |(link, back): (usize, bool)| {
+        let ends = if back { reversed(links[link]) } else { links[link] };
+        links.iter().position(|link| *link == ends).unwrap()
+    };
+    for places in backs {
+        let places = places.into_iter();
+        let first = places.map(|(link, second)| {
+            (of(link), second.map(|second| second.into_iter().map(of).collect()))
+        });
+        firsts.push(first.collect());
     }
     r.shuffle(&mut firsts);
     let timeout = r.between(6, 32);
@@ -700,7 +934,29 @@ fn ladder_plan(r: &mut Random) -> Plan {
     if messages.is_empty() {
         return ladder_plan(r); // no path found its slots
     }
-    Plan { vertices, timeout, links: ground.links, messages }
+    let plan = Plan { vertices, timeout, links: ground.links, messages };
+    if cables != Cables::OneWay && r.percent(60) {
+        renumbered(r, plan)
+    } else {
+        plan
+    }
+}
+
+/// The same plan with other numbers for its links.
+fn renumbered(r: &mut Random, mut plan: Plan) -> Plan {
+    let mut numbers: Vec<usize> = (0..plan.links.len()).collect();
+    r.shuffle(&mut numbers);
+    let links = plan.links.clone();
+    for (link, number) in numbers.iter().enumerate() {
+        plan.links[*number] = links[link];
+    }
+    for place in plan.messages.iter_mut().flat_map(|message| &mut message.places) {
+        place.link = numbers[place.link];
+        for link in place.second.iter_mut().flatten() {
+            *link = numbers[*link];
+        }
+    }
+    plan
 }
 
 /// The same plan with another timeout, as far as the slots let it: one at which a second
@@ -733,9 +989,9 @@ fn retimed(r: &mut Random, mut plan: Plan) -> Plan {
 
 // ----------------------------------------------------------------- cut lists
 
-/// A good cut list: mostly links that somebody uses, at slots that matter.
+/// A good cut list: mostly cables that somebody uses, at slots that matter.
 pub fn good_cuts(r: &mut Random, plan: &Plan) -> Vec<Pair> {
-    let most = plan.links.len();
+    let most = cable_names(plan).len();
     let number = match r.below(20) {
         0 => 0,
         1..=4 => 1,
@@ -772,16 +1028,16 @@ pub fn good_cuts(r: &mut Random, plan: &Plan) -> Vec<Pair> {
                 cuts.push((later, link));
             }
         }
-        cuts = without_repeats(cuts);
+        cuts = without_repeats(plan, cuts);
         cuts.truncate(number);
         if cuts.len() == number {
             break;
         }
     }
     if number == most {
-        // Every link, each in some slot.
-        cuts.extend((0..most).map(|link| (r.below(plan.timeout), link)));
-        cuts = without_repeats(cuts);
+        // Every cable, each in some slot.
+        cuts.extend(cable_names(plan).into_iter().map(|name| (r.below(plan.timeout), name)));
+        cuts = without_repeats(plan, cuts);
     }
     if r.percent(12) {
         // Many in the same slot.
@@ -798,7 +1054,7 @@ pub fn good_cuts(r: &mut Random, plan: &Plan) -> Vec<Pair> {
 /// path at its slot or before, and links of its second paths, often late.
 pub fn few_cuts(r: &mut Random, plan: &Plan) -> Vec<Pair> {
     let number = *r.weighted(&[(3, 0), (20, 1), (34, 2), (25, 3), (18, 4)]);
-    let number = number.min(plan.links.len());
+    let number = number.min(cable_names(plan).len());
     let last = plan.timeout - 1;
     let mut message = r.pick(&plan.messages);
     let mut cuts: Vec<Pair> = Vec::new();
@@ -826,7 +1082,7 @@ pub fn few_cuts(r: &mut Random, plan: &Plan) -> Vec<Pair> {
             };
             (slot, place.link)
         });
-        cuts = without_repeats(cuts);
+        cuts = without_repeats(plan, cuts);
         if cuts.len() == number {
             break;
         }
@@ -835,13 +1091,20 @@ pub fn few_cuts(r: &mut Random, plan: &Plan) -> Vec<Pair> {
     cuts
 }
 
-/// The pairs whose link did not come before.
-fn without_repeats(cuts: Vec<Pair>) -> Vec<Pair> {
+/// The pairs whose cable did not come before, each by its name.
+fn without_repeats(plan: &Plan, cuts: Vec<Pair>) -> Vec<Pair> {
     let mut kept: Vec<Pair> = Vec::new();
-    for pair in cuts {
-        if kept.iter().all(|(_, link)| *link != pair.1) {
-            kept.push(pair);
+    for (slot, link) in cuts {
+        let name = name_of(plan, link);
+        if kept.iter().all(|(_, other)| *other != name) {
+            kept.push((slot, name));
         }
     }
     kept
+}
+
+/// The cables of a plan that go both ways: the lower and the higher link of each.
+pub fn two_way_cables(plan: &Plan) -> Vec<(usize, usize)> {
+    let both = |name| other_way(plan, name).map(|other| (name, other));
+    cable_names(plan).into_iter().filter_map(both).collect()
 }

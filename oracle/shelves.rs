@@ -202,10 +202,11 @@ pub fn shelf_case(seed: u64, case: u64) -> ProgramCase {
         // The longest names there can be.
         lines.iter_mut().for_each(|line| *line = long_name(r, LONGEST_NAME));
     }
-    if r.percent(if number > MOST_NAMES { 60 } else { 20 }) {
+    if r.percent(if number > MOST_NAMES { 85 } else { 20 }) {
         for _ in 0..*r.pick(&[1, 1, 1, 2, 3]) {
             let line = other_line(r);
-            let at = r.place_below(lines.len() + 1);
+            let last = number > MOST_NAMES && r.percent(50);
+            let at = if last { lines.len() } else { r.place_below(lines.len() + 1) };
             lines.insert(at, line);
         }
     }

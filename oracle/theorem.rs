@@ -1,6 +1,6 @@
 //! The promises about every replay, tried on random plans and cut lists: arrival by
 //! s + D (document 00, demand 3), the untouched message (document 01, "Also to be
-//! proved"), and all arrivals where nothing is cut.
+//! proved"), and all arrivals where nothing is cut. Cuts are those of cables (document 02, [3]).
 
 use crate::cuts::{is_cut, Pair};
 use crate::cycle::{cycle, Cycle};
@@ -24,10 +24,18 @@ pub struct Counts {
     pub slack_not_negative: u64,
     /// Second path whole, slack below 0, and yet in time.
     pub negative_slack_in_time: u64,
-    /// Messages no link of whose first path is cut at or before its slot there, in
+    /// Messages no cable of whose first path is cut at or before its slot there, in
     /// replays with cuts.
     pub untouched: u64,
     pub untouched_though_others_diverted: u64,
+    /// Messages that are touched by other ways of the links that are named, and by none of these; and
+    /// those of them whose events are not those of the replay without cuts.
+    pub touched_by_other_way: u64,
+    pub changed_by_other_way: u64,
+    /// Messages that left their first path, with only other ways of the named links on the second one
+    /// and s + D at most t; and those of them that are not there by then.
+    pub cut_by_other_way: u64,
+    pub late_by_other_way: u64,
 }
 
 /// Checks one plan under one cut list.
@@ -48,7 +56,8 @@ pub fn check(plan: &Plan, cuts: &[Pair], counts: &mut Counts) -> Result<(), Stri
 }
 
 /// "if no link of a message's first path is cut at or before its slot there, that
-/// message's events are those of the replay without cuts, whatever else is cut."
+/// message's events are those of the replay without cuts, whatever else is cut." [3]: "the rule on
+/// untouched first paths read[s] cuts in this sense".
 fn check_untouched(
     plan: &Plan,
     cuts: &[Pair],
@@ -58,8 +67,17 @@ fn check_untouched(
     any_diverted: bool,
     counts: &mut Counts,
 ) -> Result<(), String> {
-    let touched = plan.messages[m].places.iter().any(|place| is_cut(cuts, place.slot, place.link));
-    if touched || cuts.is_empty() {
+    let touched = plan.messages[m].places.iter().any(|place| is_cut(plan, cuts, place.slot, place.link));
+    if touched {
+        let named = plan.messages[m].places.iter().any(|place| is_named(cuts, place.slot, place.link));
+        if !named {
+            let mut slots = without_cuts.events.iter().zip(&with_cuts.events);
+            counts.touched_by_other_way += 1;
+            counts.changed_by_other_way += u64::from(slots.any(|(one, other)| one[m] != other[m]));
+        }
+        return Ok(());
+    }
+    if cuts.is_empty() {
         return Ok(());
     }
     counts.untouched += 1;
@@ -72,6 +90,11 @@ fn check_untouched(
         }
     }
     Ok(())
+}
+
+/// Whether a pair names this very link at or before this slot: document 01's sense of a cut.
+fn is_named(cuts: &[Pair], slot: usize, link: usize) -> bool {
+    cuts.iter().any(|(from_slot, named)| *named == link && *from_slot <= slot)
 }
 
 /// The slot in which a message leaves its first path, if it does: its first event of
@@ -90,7 +113,8 @@ fn arrival_time(plan: &Plan, cycle: &Cycle, m: usize) -> Option<usize> {
 
 /// "Suppose a message leaves its first path in slot s and no link of its second path
 /// is cut before it arrives. [...] Then it arrives by time s + D if that is within the
-/// timeout, however many other links are cut."
+/// timeout, however many other links are cut." [3]: "demand 3's premise becomes that no cable of the
+/// second path is cut before arrival".
 fn check_arrival(
     plan: &Plan,
     cuts: &[Pair],
@@ -108,11 +132,16 @@ fn check_arrival(
     let arrival = arrival_time(plan, cycle, m);
     // In the slots s to arrival - 1; where it does not arrive, s to t - 1.
     let last_slot = arrival.unwrap_or(plan.timeout) - 1;
-    if second.iter().any(|link| is_cut(cuts, last_slot, *link)) {
+    let bound = s + d(plan, m, second);
+    if second.iter().any(|link| is_cut(plan, cuts, last_slot, *link)) {
+        let named = second.iter().any(|link| is_named(cuts, last_slot, *link));
+        if !named && bound <= plan.timeout {
+            counts.cut_by_other_way += 1;
+            counts.late_by_other_way += u64::from(!arrival.is_some_and(|time| time <= bound));
+        }
         return Ok(());
     }
     counts.whole += 1;
-    let bound = s + d(plan, m, second);
     if bound <= plan.timeout {
         counts.bound_in_time += 1;
         match arrival {

@@ -9,7 +9,12 @@ the second program played (target/oracle), and what is made of them here. Not ma
   explain-wait-is-dead   on which it matters that a message that waits names its link: target/oracle different 1 5000 wait-is-dead 12
   explain-wrong-ways     six for each other wrong way to explain a capture: target/oracle different 1 3000 NAME 6, in the order that it lists them
   path-rules-wrong-ways  six for each wrong way to refuse a path: target/oracle different-refusals 1 5000 NAME 6, likewise
-  figure-wrong-ways      six for each wrong way to find a figure: target/oracle different-figures 1 3000 NAME 6, likewise"""
+  figure-wrong-ways      six for each wrong way to find a figure: target/oracle different-figures 1 3000 NAME 6, likewise
+  cables-wrong-ways      eight for each wrong way to cut a cable: target/oracle different-cuts 1 10000 NAME 8, likewise
+
+With request [3] a seed has other cases. The questions that were found before it were kept, but for those on which their way no longer differed, because
+a cable of their plan goes both ways: one of explain-wait-is-dead, four of explain-wrong-ways and 36 of figure-wrong-ways, found again by these commands
+(one-slot-alone and links-rise by 8000 cases)."""
 import subprocess
 
 B = [1, 2, 2, 1, 3, 0, 1, 0, 2, 2, 1, 0, 0, 0, 1, 1, 1, 2, 0, 0, 1, 1, 1, 1, 2]
@@ -330,7 +335,7 @@ def questions_verdict():
     q += ["verdict 2 1 3 " + nums(A), "verdict 3 1 5 " + nums(A), "verdict 1 2 0 " + nums(A), "verdict 1 1 2 " + nums(A[:-1]), "verdict 65535 0 0 " + nums(A)]
     # cuts before the cycle do no harm, and one in slot 2 does; and an order by slot before link
     late = [1, 2, 2, 1, 2, 0, 1, 0, 2, 2, 1, 0, 0, 0, 1, 1, 1, 2, 0, 0, 2, 1, 1, 1, 2]
-    order = [1, 2, 3, 2, 2, 0, 1, 0, 2, 2, 1, 1, 0, 0, 0, 0, 1, 1, 1, 2, 0, 0, 2, 1, 1, 1, 2, 0, 3, 0, 0]
+    order = [1, 3, 3, 2, 2, 0, 1, 0, 2, 2, 1, 1, 3, 0, 0, 0, 1, 1, 1, 2, 0, 0, 2, 1, 1, 1, 2, 0, 3, 0, 0]
     q += ["verdict 1 2 2 " + nums(late), "verdict 1 3 2 " + nums(order)]
     example = example_41()
     q += ["verdict %d %d 6 %s" % (k, l, nums(example)) for k in range(4) for l in range(5)]
@@ -460,7 +465,7 @@ def questions_explain():
     q += [ask(mended, 2, crossings(accident, (3, 1))), ask(accident, 2, crossings(mended, (3, 1)))]
     # a plan of the largest size: captures that few slots decide, and one of more triples than 2,048
     large = [int(x) for x in open("../../samples/large/row.txt").read().split()]
-    q += [of(large, 3), of(large, 0), of(large, 1, 0, 0), of(large, 3, 0, 0), of(large, 2, 1, 0, 1, 1), ask(large, 1, []), ask(large, 0, [(63, 63, 31)])]
+    q += [of(large, 3), of(large, 0), of(large, 1, 0, 0), of(large, 3, 0, 0), of(large, 2, 1, 0, 1, 2), ask(large, 1, []), ask(large, 0, [(63, 63, 31)])]
     every = [(i, x, j) for i in range(2) for x in range(64) for j in range(32)]
     q += [ask(large, 3, every[:2048]), ask(large, 3, every[:2049]), ask(large, 3, every[:3000]), ask(large, 3, every[:3000] + [(1, 0, 0)])]
     q += ["explain", "explain 1", "explain 1 2", "explain 1 2 1", "explain 1 2 3 0 0", "explain 1 2 00 " + nums(B), "explain 1  2 0 " + nums(B), "explain 1 2 0 " + nums(B) + " "]
@@ -490,7 +495,7 @@ def questions_figure():
             q += both(until(plan, t), 1) + both(until(plan, t), 3)
     # cuts before the cycle do no harm, and one in slot 2 does; and an order by slot before link
     late = [1, 2, 2, 1, 2, 0, 1, 0, 2, 2, 1, 0, 0, 0, 1, 1, 1, 2, 0, 0, 2, 1, 1, 1, 2]
-    order = [1, 2, 3, 2, 2, 0, 1, 0, 2, 2, 1, 1, 0, 0, 0, 0, 1, 1, 1, 2, 0, 0, 2, 1, 1, 1, 2, 0, 3, 0, 0]
+    order = [1, 3, 3, 2, 2, 0, 1, 0, 2, 2, 1, 1, 3, 0, 0, 0, 1, 1, 1, 2, 0, 0, 2, 1, 1, 1, 2, 0, 3, 0, 0]
     # the plans of other questions: a message a link; two that differ at once; a queue; three starts and a hub
     chain = line(5, 4, 4, 3, [(0, 1), (1, 2), (2, 3), (3, 4)], [[(i, 1, None)] for i in range(4)])
     foremost = line(4, 5, 2, 4, [(0, 1), (1, 2), (0, 2), (3, 2), (3, 0)], [[(0, 2, [2]), (1, 3, None)], [(3, 3, [4, 2])]])
@@ -542,6 +547,108 @@ def questions_figure():
     return q
 
 
-for name, made in (("figure", questions_figure()), ("explain", questions_explain()), ("replay", questions_replay()), ("slack", questions_slack()), ("verdict", questions_verdict()), ("files", questions_files()), ("rows", questions_rows()), ("rules", questions_rules()), ("path-rules", questions_path_rules()), ("second", questions_second()), ("where", questions_where())):
+# A cable is two links with the same ends reversed; the lower one names it (document 02, [3]).
+def questions_cables():
+    def replay(plan, cuts, room=None):
+        needed = 2 * (plan[4] + 1) * (plan[3] + 1)
+        return "replay %d %d %s" % (needed if room is None else room, len(cuts), nums(list(cuts) + plan))
+
+    def explain(plan, k, triples):
+        numbers = [x for triple in triples for x in triple]
+        return "explain %d %d %d %s" % (k, 2 * k, len(numbers), nums(numbers + plan))
+
+    def other(plan, link):
+        ends = [tuple(plan[5 + 2 * i : 7 + 2 * i]) for i in range(plan[2] + 1)]
+        back = ends[link][::-1]
+        return ends.index(back) if back in ends else None
+
+    def lower(plan):
+        return [i for i in range(plan[2] + 1) if other(plan, i) is None or other(plan, i) > i]
+
+    # three vertices and three cables: 0, 1 between 0 and 1, 2, 4 between 0 and 2, 3, 5 between 1 and 2. Message 0 goes there over link 0, message 1 back
+    # over link 1, and their second paths go over vertex 2, one each way
+    there = line(3, 6, 2, 4, [(0, 1), (1, 0), (0, 2), (2, 1), (2, 0), (1, 2)], [[(0, 0, [2, 3])], [(1, 1, [5, 4])]])
+    # the same with the links numbered from the last: what was the lower of a cable is the higher now
+    reversed_numbers = line(3, 6, 2, 4, [(1, 2), (2, 0), (2, 1), (0, 2), (1, 0), (0, 1)], [[(5, 0, [3, 2])], [(4, 1, [0, 1])]])
+    # the same three cables with the lower links first: the message goes over link 0 and has slack 1, its second path has the higher links 3 and 4. Named
+    # with link 0, links 1 and 2 are cables of that second path and no links of it: the premise of demand 3 differs
+    higher = line(3, 6, 1, 3, [(0, 1), (2, 0), (1, 2), (0, 2), (2, 1), (1, 0)], [[(0, 0, [3, 4])]])
+    # the same with slack 0
+    higher_0 = line(3, 6, 1, 2, [(0, 1), (2, 0), (1, 2), (0, 2), (2, 1), (1, 0)], [[(0, 0, [3, 4])]])
+    # one cable, a message each way; the lower link leads to 0, or from it
+    one = line(2, 2, 2, 1, [(1, 0), (0, 1)], [[(1, 0, None)], [(0, 0, None)]])
+    two = line(2, 2, 2, 2, [(0, 1), (1, 0)], [[(1, 0, None)], [(0, 1, None)]])
+    # the second path goes back over the cable that the message came by
+    back = line(3, 4, 1, 4, [(0, 1), (1, 2), (1, 0), (0, 2)], [[(0, 0, None), (1, 1, [2, 3])]])
+    # one cable with both ways among links without: link 4 is the other way of link 1
+    one_of_four = line(4, 5, 3, 5, [(0, 1), (1, 3), (0, 2), (2, 3), (3, 1)], [[(0, 0, [2, 3]), (1, 1, None)], [(2, 0, [0, 1]), (3, 1, None)], [(4, 2, None)]])
+    # a square with all its cables both ways, four messages that run both ways over two of them, second paths over the cables of the others' first paths
+    square = line(4, 8, 4, 6, [(0, 1), (2, 3), (1, 0), (3, 2), (0, 2), (1, 3), (2, 0), (3, 1)], [[(0, 0, [4, 1, 7])], [(2, 1, [5, 3, 6])], [(1, 2, [6, 0, 5])], [(3, 0, [7, 2, 4])]])
+    # 32 cables from one vertex, links 2i out and 2i + 1 in; message i goes out or in by turns
+    star = line(33, 64, 32, 1, [x for end in range(1, 33) for x in ((0, end), (end, 0))], [[(2 * i + i % 2, 0, None)] for i in range(32)])
+    # a ring of 32 vertices, link i from vertex i to the next and link 63 - i back; the even messages go half way round by the first, the odd ones by the
+    # second, all at once, and from where they start the other half is their second path
+    ends = [(i, (i + 1) % 32) for i in range(32)]
+    on, off = [[x % 32 for x in range(v, v + 16)] for v in range(32)], [[63 - (v - 1 - x) % 32 for x in range(16)] for v in range(32)]
+    ring_32 = [[(link, slot, None if slot else (off if v % 2 == 0 else on)[v]) for slot, link in enumerate((on if v % 2 == 0 else off)[v])] for v in range(32)]
+    ring_32 = line(32, 64, 32, 64, ends + [x[::-1] for x in ends[::-1]], ring_32)
+    large = [int(x) for x in open("../../samples/large/row.txt").read().split()]
+    small = (there, reversed_numbers, higher, higher_0, one, two, back, one_of_four, square)
+    q = []
+    # no cut, each single one, and each two of a few; the higher link named alone is 12
+    for plan in small:
+        e, t = plan[2] + 1, plan[4] + 1
+        q.append(replay(plan, []))
+        q += [replay(plan, [slot, link]) for slot in range(t) for link in range(e)]
+    for plan in (there, reversed_numbers, higher, back):
+        e = plan[2] + 1
+        pairs = [(slot, link) for slot in range(3) for link in range(e)]
+        q += [replay(plan, [*x, *y]) for x in pairs[: 2 * e : 2] for y in pairs if x < y and y[0] < plan[4] + 1]
+    # a higher link at the first, a middle and the last pair, behind the lower one of its cable and before it, beside each other fault; room too short
+    for cuts in ([0, 0, 0, 1], [0, 0, 3, 1], [0, 1, 1, 0], [0, 1, 0, 2], [0, 2, 0, 4, 0, 5], [0, 0, 0, 2, 0, 3, 0, 5], [0, 0, 1, 4, 2, 3], [0, 0, 0, 1, 0, 2, 0, 3, 0, 4, 0, 5]):
+        q += [replay(there, cuts), replay(there, cuts, 15), replay(there, cuts, 0)]
+    for cuts in ([0, 4, 9, 0], [9, 0, 0, 4], [0, 4, 0], [0, 0, 0], [0, 2, 0, 2, 0, 4], [0, 2, 1, 2, 2, 5], [1, 5, 0, 3], [1, 3, 0, 5], [0, 6, 0, 1], [0, 1, 0, 6], [0, 65535, 1, 5], [3, 5, 4, 0]):
+        q += [replay(there, cuts), replay(reversed_numbers, cuts)]
+    q += [replay(there, [0, 0, 0, 2, 0, 3]), replay(there, [0, 3, 1, 2, 2, 0]), replay(there, [0, 0, 0, 2, 0, 3, 0, 0]), replay(there, [0, 0, 0, 2, 0, 3], 15)]
+    # a plan without reversed links is as it was: every link names itself
+    q += [replay(plan, cuts) for plan in (A, B) for cuts in ([0, 0, 0, 1, 0, 2], [0, 1, 1, 0], [0, 2, 2, 1], [1, 1, 2, 2, 3, 0], [0, 0, 1, 0])]
+    # verdicts and figures, each k and l
+    for plan in small:
+        m = plan[3] + 1
+        for k in range(4):
+            q += ["verdict %d %d %d %s" % (k, l, 2 * k, nums(plan)) for l in range(m + 1)]
+            q.append("figure %d %s" % (k, nums(plan)))
+        q.append("figures 3 4 " + nums(plan))
+    q += ["verdict 3 1 5 " + nums(there), "figures 3 3 " + nums(there), "verdict 4 1 8 " + nums(there), "figure 4 " + nums(there)]
+    # captures: of each single cut and of some lists of two and three; each single crossing; without each of its crossings
+    for plan in small:
+        names, t, m = lower(plan), plan[4] + 1, plan[3] + 1
+        for slot in range(t):
+            q += [explain(plan, k, crossings(plan, [slot, name])) for name in names for k in (1, 2)]
+        for x in names:
+            q += [explain(plan, k, crossings(plan, [0, x, min(1, t - 1), y])) for y in names if x < y for k in (1, 2, 3)]
+        if plan not in (square, one_of_four):
+            q += [explain(plan, 2, [(slot, link, i)]) for slot in range(t) for link in range(plan[2] + 1) for i in range(m)]
+        whole = crossings(plan, [])
+        q += [explain(plan, 2, [x for x in whole if x != gone]) for gone in whole] + [explain(plan, 3, []), explain(plan, 1, whole)]
+    # what one way alone cut would give: message 0 is diverted and message 1 is not, and the other way round
+    q += [explain(there, k, triples) for k in (1, 2, 3) for triples in ([(0, 2, 0), (1, 1, 1), (1, 3, 0)], [(0, 0, 0), (0, 5, 1), (1, 4, 1)], [(0, 2, 0), (1, 1, 1)], [(0, 0, 0), (1, 5, 1)])]
+    # slack counts links, not cables
+    for plan in small + (large,):
+        q += ["slack %d 0 %s" % (i, nums(plan)) for i in range(min(4, plan[3] + 1))]
+    third = line(3, 6, 3, 4, [(0, 1), (1, 0), (0, 2), (2, 1), (2, 0), (1, 2)], [[(0, 0, [2, 3])], [(1, 1, [5, 4])], [(3, 0, None)]])
+    q += ["slack 0 0 " + nums(third), "slack 1 0 " + nums(third), replay(third, [0, 0]), replay(third, [0, 0, 0, 3])]
+    # 64 links that are 32 cables: all cut, one too many, every link named, the first and the last link
+    names = [x for i in range(32) for x in (0, 2 * i)]
+    q += [replay(star, names), replay(star, names + [0, 63]), replay(star, names[:-2] + [0, 63]), replay(star, [x for i in range(64) for x in (0, i)]), replay(star, [0, 0]), replay(star, [0, 1]), replay(star, [0, 62]), replay(star, [0, 63])]
+    q += ["figures 3 4 " + nums(star), "verdict 3 30 6 " + nums(star), "verdict 3 29 6 " + nums(star), "verdict 1 32 2 " + nums(star), explain(star, 3, [(0, 2 * i + i % 2, i) for i in range(32) if i not in (0, 1, 31)]), explain(star, 2, [(0, 2 * i + i % 2, i) for i in range(30)])]
+    # the largest size: the first link and the last, which is the other way of the first; two in the middle; all 32 cables in their order; one cut's figure
+    q += [replay(ring_32, cuts) for cuts in ([0, 0], [0, 63], [3, 31], [3, 32], [1, 0, 2, 16], [0, 0, 0, 63], [63, 31], [x for i in range(32) for x in (i // 2, i)], [x for i in range(33) for x in (5, i)])]
+    q += ["figures 1 2 " + nums(ring_32), "verdict 1 32 2 " + nums(ring_32), "verdict 1 31 2 " + nums(ring_32), explain(ring_32, 1, crossings(ring_32, [0, 0])), explain(ring_32, 2, crossings(ring_32, [0, 0, 1, 5]))]
+    q += [replay(large, [3, 0, 5, 56, 24, 26]), replay(large, [3, 0, 3, 1, 5, 56, 24, 26, 24, 27]), replay(large, [0, 1]), replay(large, [63, 63]), replay(large, [3, 0, 5, 57])]
+    return q
+
+
+for name, made in (("cables", questions_cables()), ("figure", questions_figure()), ("explain", questions_explain()), ("replay", questions_replay()), ("slack", questions_slack()), ("verdict", questions_verdict()), ("files", questions_files()), ("rows", questions_rows()), ("rules", questions_rules()), ("path-rules", questions_path_rules()), ("second", questions_second()), ("where", questions_where())):
     with open(name + ".questions", "w") as f:
         f.write("\n".join(made) + "\n")
