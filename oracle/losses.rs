@@ -75,7 +75,7 @@ pub enum Reading {
 pub const WRONG: [(Reading, u64); 18] = [
     (Reading::SlackOneBelow, 200),
     (Reading::NoTable, 500),
-    (Reading::NotItsOwnEntries, 5000),
+    (Reading::NotItsOwnEntries, 8000),
     (Reading::NoLowerMessages, 5000),
     (Reading::TouchesBefore, 20),
     (Reading::StripsInTheSlot, 50),
@@ -85,7 +85,7 @@ pub const WRONG: [(Reading, u64); 18] = [
     (Reading::OnePairDoesBoth, 50),
     (Reading::NamedLinkAlone, 50),
     (Reading::TouchesByName, 50),
-    (Reading::StripsByName, 200),
+    (Reading::StripsByName, 50),
     (Reading::ThoseAtTargets, 20),
     (Reading::NoneToCome, 20),
     (Reading::TouchesToComeAlone, 20),

@@ -37,6 +37,8 @@ pub enum Way {
     // What a pair cuts.
     /// The named link alone, whichever it is: document 01's sense.
     OneWay,
+    /// The named link alone, which is the lower one of its cable.
+    NamedLinkAlone,
     /// The lower link cuts both; the higher may be named, and cuts that link alone.
     HigherCutsOne,
     /// The named link and the first link that begins where it ends, wherever that leads to.
@@ -72,7 +74,7 @@ pub enum Way {
 }
 
 /// By their names, and within how many small questions of a seed each is found.
-pub const WRONG: [(Way, &str, u64); 21] = [
+pub const WRONG: [(Way, &str, u64); 22] = [
     (Way::EitherName, "either-name", 100),
     (Way::HigherName, "higher-name", 50),
     (Way::BothMayBeNamed, "both-may-be-named", 100),
@@ -80,6 +82,7 @@ pub const WRONG: [(Way, &str, u64); 21] = [
     (Way::HigherLookedForLast, "higher-looked-for-last", 500),
     (Way::HigherLookedForFirst, "higher-looked-for-first", 500),
     (Way::OneWay, "one-way", 50),
+    (Way::NamedLinkAlone, "named-link-alone", 50),
     (Way::HigherCutsOne, "higher-cuts-one", 100),
     (Way::OneEnd, "one-end", 50),
     (Way::NextNumber, "next-number", 50),
@@ -245,7 +248,7 @@ fn is_cut(way: Way, plan: &Plan, list: &[Pair], slot: usize, on: On, link: usize
             return in_force;
         }
         match way {
-            Way::OneWay => false,
+            Way::OneWay | Way::NamedLinkAlone => false,
             Way::HigherCutsOne => in_force && *named < link && is_other(),
             Way::OneEnd => {
                 let end = plan.links[*named].to;

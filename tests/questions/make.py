@@ -13,7 +13,7 @@ the second program played (target/oracle), and what is made of them here. Not ma
   cables-wrong-ways      eight for each wrong way to cut a cable: target/oracle different-cuts 1 10000 NAME 8, likewise
 
 With request [3] a seed has other cases. The questions that were found before it were kept, but for those on which their way no longer differed, because
-a cable of their plan goes both ways: one of explain-wait-is-dead, four of explain-wrong-ways and 36 of figure-wrong-ways, found again by these commands
+a cable of their plan goes both ways: one of explain-wait-is-dead, four of explain-wrong-ways and 33 of figure-wrong-ways, found again by these commands
 (one-slot-alone and links-rise by 8000 cases)."""
 import subprocess
 
