@@ -197,7 +197,7 @@ module _ (row table crossed : List ℕ) (z : Sizes) (ps : Standing) (p : Picked)
         pub link-small : e < mostLinks
         link-small = omega (arith, link-there, may .play .links, may .play .few)
 
-        pub other-small : otherIn (z .others) e < mostLinks
+        other-small : otherIn (z .others) e < mostLinks
         other-small = may .play .others .bytes .below e link-small
 
         module _ (x : List ℕ) (a : Answer row crossed p x) where

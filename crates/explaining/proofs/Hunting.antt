@@ -26,11 +26,11 @@ pub record Hunting (row crossed : List ℕ) (k n : ℕ) : Type 0 where
   pub none : (i : ℕ) → i < n → NoneOf (planOf row) (Matches (planOf row) crossed) [] i
 
 -- so at first, by what the table says of the lists of at most k pairs: none matches, or none with fewer pairs than links are named
-module _ (row crossed : List ℕ) (k : ℕ) (p : Picked) (v : Suspicion) (told : Suspected row crossed p k v) where
-  pub hunt-none : p ≡ noPair → v .hopeless ≡ true → Hunting row crossed k (k + 1)
+module _ (row crossed : List ℕ) (z : Sizes) (k : ℕ) (p : Picked) (v : Suspicion) (told : Suspected row crossed p k v) where
+  pub hunt-none : p ≡ noPair z → v .hopeless ≡ true → Hunting row crossed k (k + 1)
   hunt-none is t = record { within = omega arith; none = λ i l. rw is at (told .none t i (omega arith)) }
 
-  pub hunt-first : p ≡ noPair → v .hopeless ≡ false → Hunting row crossed k (v .named)
+  pub hunt-first : p ≡ noPair z → v .hopeless ≡ false → Hunting row crossed k (v .named)
   hunt-first is hope = record { within = omega (arith, told .few hope); none = λ i l. rw is at (told .fewer hope i l) }
 
   -- what it says holds of the lists of at most n pairs too, where no more links are named
@@ -57,29 +57,29 @@ hunt-over row crossed k n h g over is =
     }
 
 module _ (row table crossed : List ℕ) (z : Sizes) (ps : Standing) (k : ℕ) (m : MayHunt row table crossed z ps k) where
-  pub may-ask : (p : Picked) → p ≡ noPair → MaySuspect row table crossed z ps p
+  pub may-ask : (p : Picked) → p ≡ noPair z → MaySuspect row table crossed z ps p
   may-ask p is =
       record {
         good = m .good;
         play = m .play;
-        holding = rw is (holding-none row z);
+        holding = rw is (holding-none row table z (m .play));
         stand = rw is (m .stand);
         before = rw is (λ i l. absurd (omega arith));
         size = m .size;
       }
 
-  pub may-seek : (n : ℕ) (p : Picked) (v : Suspicion) (last : List ℕ) → p ≡ noPair → Suspected row crossed p k v → v .named ≤ n → n ≤ k →
+  pub may-seek : (n : ℕ) (p : Picked) (v : Suspicion) (last : List ℕ) → p ≡ noPair z → Suspected row crossed p k v → v .named ≤ n → n ≤ k →
       Lasts crossed z last → MaySeek row table crossed z ps p n v last
   may-seek n p v last is told low high lasts =
       record {
         suspect = may-ask p is;
         few = rw is (omega (arith, m .few));
-        told = told-fewer row crossed k p v told n low high;
+        told = told-fewer row crossed z k p v told n low high;
         lasts = lasts;
       }
 
-  module _ (n : ℕ) (g : Hunting row crossed k n) (p : Picked) (r : Found) (is : p ≡ noPair) (f : Sought row crossed p n r) where
-    told : Sought row crossed noPair n r
+  module _ (n : ℕ) (g : Hunting row crossed k n) (p : Picked) (r : Found) (is : p ≡ noPair z) (f : Sought row crossed p n r) where
+    told : Sought row crossed (noPair z) n r
     told = rw is at f
 
     same : 2 * (0 + n) ≡ 2 * n
@@ -103,9 +103,9 @@ module _ (row table crossed : List ℕ) (z : Sizes) (ps : Standing) (k : ℕ) (m
         record { within = omega arith; none = none-more (planOf row) (Matches (planOf row) crossed) n (g .none) (told .none t) }
 
   -- no link is named: it is the list without a pair
-  pub hunt-empty : (p : Picked) (v : Suspicion) → p ≡ noPair → Suspected row crossed p k v → v .hopeless ≡ false → v .named ≡ 0 →
+  pub hunt-empty : (p : Picked) (v : Suspicion) → p ≡ noPair z → Suspected row crossed p k v → v .hopeless ≡ false → v .named ≡ 0 →
       (h : Hunted) → h .found ≡ true → h .pairs ≡ 0 → h .numbers ≡ p .numbers → Hunts row crossed k h
   hunt-empty p v is told hope none h t q w =
       let r : Found = record { found = true; numbers = p .numbers } in
-      hunt-some 0 (subst (Hunting row crossed k) none (hunt-first row crossed k p v told is hope)) p r is
+      hunt-some 0 (subst (Hunting row crossed k) none (hunt-first row crossed z k p v told is hope)) p r is
       (is-it row crossed z p 0 (may-ask p is .holding) r refl refl refl (told .whole hope none)) h (omega arith) refl t q w

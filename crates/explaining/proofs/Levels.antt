@@ -19,7 +19,7 @@ use Rattle.order.proofs.Steps.{itself, all-over, first-of-all}
 use Rattle.picks.specs.declared.Sizes.{Sizes}
 use Rattle.picks.specs.declared.Picked.{Picked}
 use Rattle.picks.specs.Picks.{cutsOf, withPair, Holding, StandAt}
-use Rattle.picks.proofs.Picking.{down-already, cuts-more, holding-more, stand-more}
+use Rattle.picks.proofs.Picking.{closed-already, cuts-more, holding-more, stand-more}
 use Rattle.clues.specs.declared.Seen.{Seen}
 use Rattle.clues.specs.declared.Suspicion.{Suspicion}
 use Rattle.clues.specs.Clues.{MatchesIn, MatchesBefore, Matches, MayLook, Shows, Looked, MaySuspect, Suspected}
@@ -27,16 +27,16 @@ use Rattle.clues.proofs.Lists.{matches-more}
 use Rattle.explaining.specs.declared.Found.{Found}
 use Rattle.explaining.specs.Walk.{isUnseen, isOpen, isClue, noFound, MaySeek, MaySeekIn, Sought, SoughtIn}
 use Rattle.explaining.proofs.Seen.{cut-too-early}
-use Rattle.explaining.proofs.Opening.{closed, open-whole}
+use Rattle.explaining.proofs.Opening.{not-open, open-whole}
 use Rattle.explaining.proofs.Matching.{still-differs, says-nothing, seen-same, seen-other}
 use Rattle.explaining.proofs.Telling.{tells-none, tells-some, tells-more}
 
--- in slot s, from link e on: no list matches whose next pair is there and before link i, which is not cut already
+-- in slot s, from link e on: no list matches whose next pair is there and before link i, which may still be named
 pub record Looking (row crossed : List ℕ) (z : Sizes) (p : Picked) (n s e i : ℕ) : Type 0 where
   pub none : NoneIn (planOf row) (Matches (planOf row) crossed) (cutsOf p) (n - 1) (code s e) (code s i)
   pub start : e ≤ i
   pub within : i ≤ z .links
-  pub whole : i < z .links → isDown (p .down) i ≡ false
+  pub whole : i < z .links → isDown (p .closed) i ≡ false
 
 -- over the slots: no list matches whose next pair comes before slot s and link e, and up to slot s the pairs picked do
 pub record Climbing (row crossed : List ℕ) (z : Sizes) (p : Picked) (n s e : ℕ) (qs : Standing) : Type 0 where
@@ -60,12 +60,12 @@ module _ (row table crossed : List ℕ) (z : Sizes) (ps : Standing) (p : Picked)
   few : length (planOf row .links) ≤ mostLinks
   few = omega (arith, m .play .links, m .play .few)
 
-  -- links of slot s that are not to be tried are passed over: they are cut already, or crossed in this slot or later, or no list goes on
-  -- with them
+  -- links of slot s that are not to be tried are passed over: they are closed, or crossed in this slot or later, or no list goes on with
+  -- them
   looked : (i r : ℕ) → e ≤ i → i ≤ z .links → NoneIn (planOf row) (Matches (planOf row) crossed) (cutsOf p) (n - 1) (code s e) (code s i) →
-      r ≡ seek (isOpen (p .down) named last all s) (z .links - i) i → Looking row crossed z p n s e r
+      r ≡ seek (isOpen (p .closed) named last all s) (z .links - i) i → Looking row crossed z p n s e r
   looked i r low high none found =
-      let test = isOpen (p .down) named last all s in
+      let test = isOpen (p .closed) named last all s in
       let from = seek-from test (z .links - i) i in
       let most = seek-most test (z .links - i) i in
       record {
@@ -73,24 +73,24 @@ module _ (row table crossed : List ℕ) (z : Sizes) (ps : Standing) (p : Picked)
             passed (planOf row) (Matches (planOf row) crossed) few (cutsOf p) (p .count) start (m .holding .chosen) (n - 1) (code s e) s i r
             (omega (arith, m .play .few)) none
             (λ b u w x long.
-            closed (isDown (p .down) b) (isUnseen last s b) all (isDown named b) (seek-low test (z .links - i) i b u (omega arith))
-            (λ cut. down-already row z p (m .holding) b (Matches (planOf row) crossed) few (n - 1) s cut x)
-            (λ later good.
-            cut-too-early (planOf row) crossed z (cutsOf p) (p .count) s b x (m .play .timeout) (m .play .messages) (m .holding .chosen .long)
+            not-open (isDown (p .closed) b) (isUnseen last s b) all (isDown named b) (seek-low test (z .links - i) i b u (omega arith))
+            (λ shut. closed-already row z p (m .holding) b (Matches (planOf row) crossed) few (omega arith) (n - 1) s shut x)
+            (λ later.
+            cut-too-early row table crossed z (m .good) (m .play) (cutsOf p) (p .count) s b x (m .holding .chosen .long)
             (m .lasts .seen s b (leb-false (getD last b 0) s later)))
             (λ every other. m .only every s b x (omega (arith, m .some)) other));
         start = omega arith;
         within = omega arith;
         whole = λ l.
-            open-whole (isDown (p .down) r) (isUnseen last s r && (not all || isDown named r))
+            open-whole (isDown (p .closed) r) (isUnseen last s r && (not all || isDown named r))
             (rw found (seek-is test (z .links - i) i (omega arith)));
       }
 
-  pub looks-first : (r : ℕ) → r ≡ seek (isOpen (p .down) named last all s) (z .links - e) e → Looking row crossed z p n s e r
+  pub looks-first : (r : ℕ) → r ≡ seek (isOpen (p .closed) named last all s) (z .links - e) e → Looking row crossed z p n s e r
   looks-first r = looked e r (omega arith) (m .link) (λ a b x long low high. absurd (omega arith))
 
   module _ (i : ℕ) (g : Looking row crossed z p n s e i) where
-    pub may-suspect : (q : Picked) → i < z .links → q ≡ withPair p s i → MaySuspect row table crossed z ps q
+    pub may-suspect : (q : Picked) → i < z .links → q ≡ withPair z p s i → MaySuspect row table crossed z ps q
     may-suspect q l is =
         let room : p .count < mostCuts = omega (arith, m .few, m .some) in
         record {
@@ -106,16 +106,16 @@ module _ (row table crossed : List ℕ) (z : Sizes) (ps : Standing) (p : Picked)
           size = m .size;
         }
 
-    pub may-go-on : (q : Picked) (v : Suspicion) → i < z .links → q ≡ withPair p s i → Suspected row crossed q (n - 1) v →
+    pub may-go-on : (q : Picked) (v : Suspicion) → i < z .links → q ≡ withPair z p s i → Suspected row crossed q (n - 1) v →
         MaySeek row table crossed z ps q (n - 1) v last
     may-go-on q v l is told =
         record { suspect = may-suspect q l is; few = rw is (omega (arith, m .few, m .some)); told = told; lasts = m .lasts }
 
-    module _ (q : Picked) (r : Found) (l : i < z .links) (is : q ≡ withPair p s i) (f : Sought row crossed q (n - 1) r) where
-      told : Sought row crossed (withPair p s i) (n - 1) r
+    module _ (q : Picked) (r : Found) (l : i < z .links) (is : q ≡ withPair z p s i) (f : Sought row crossed q (n - 1) r) where
+      told : Sought row crossed (withPair z p s i) (n - 1) r
       told = rw is at f
 
-      more : cutsOf (withPair p s i) ≡ cutsOf p ++ s ∷ i ∷ []
+      more : cutsOf (withPair z p s i) ≡ cutsOf p ++ s ∷ i ∷ []
       more = cuts-more row table z p (m .play) (m .holding) s i (omega (arith, m .few, m .some))
 
       pub looks-some : r .found ≡ true → SoughtIn row crossed p n s e r
@@ -125,7 +125,7 @@ module _ (row table crossed : List ℕ) (z : Sizes) (ps : Standing) (p : Picked)
           first-here (planOf row) (Matches (planOf row) crossed) few (cutsOf p) (p .count) start (m .holding .chosen) (n - 1) (code s e) s i
           (take (2 * (p .count + n)) (r .numbers)) (omega (arith, m .play .few)) (omega (arith, g .start)) (g .none) (rw more at first))
 
-      pub looks-on : (j : ℕ) → r .found ≡ false → j ≡ seek (isOpen (p .down) named last all s) (z .links - (i + 1)) (i + 1) →
+      pub looks-on : (j : ℕ) → r .found ≡ false → j ≡ seek (isOpen (p .closed) named last all s) (z .links - (i + 1)) (i + 1) →
           Looking row crossed z p n s e j
       looks-on j t next =
           let all : NoneOf (planOf row) (Matches (planOf row) crossed) (cutsOf p ++ s ∷ i ∷ []) (n - 1) = rw more at (told .none t) in

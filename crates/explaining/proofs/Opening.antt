@@ -2,17 +2,17 @@
 use mathlib.Core.Path.{_≡_, refl, sym}
 use mathlib.Core.Bool.{Bool, true, false, not, _&&_, _||_, true≢false}
 
--- a link that is not to be tried is down, or crossed later or, where all are named, not named
-pub closed : {P : Type 0} (down unseen all named : Bool) → (not down && (unseen && (not all || named))) ≡ false → (down ≡ true → P) →
+-- a link that is not to be tried is closed, or crossed later or, where all are named, not named
+pub not-open : {P : Type 0} (closed unseen all named : Bool) → (not closed && (unseen && (not all || named))) ≡ false → (closed ≡ true → P) →
     (unseen ≡ false → P) → (all ≡ true → named ≡ false → P) → P
-closed true unseen all named e cut later other = cut refl
-closed false false all named e cut later other = later refl
-closed false true true true e cut later other = absurd (true≢false e)
-closed false true true false e cut later other = other refl refl
-closed false true false named e cut later other = absurd (true≢false e)
+not-open true unseen all named e shut later other = shut refl
+not-open false false all named e shut later other = later refl
+not-open false true true true e shut later other = absurd (true≢false e)
+not-open false true true false e shut later other = other refl refl
+not-open false true false named e shut later other = absurd (true≢false e)
 
--- one that is to be tried is not down
-pub open-whole : (down rest : Bool) → (not down && rest) ≡ true → down ≡ false
+-- one that is to be tried is not closed
+pub open-whole : (closed rest : Bool) → (not closed && rest) ≡ true → closed ≡ false
 open-whole true rest e = absurd (true≢false (sym e))
 open-whole false rest e = refl
 

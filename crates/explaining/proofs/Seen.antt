@@ -2,25 +2,33 @@
 use Prim.Native.Nat.{ℕ, _+_, _-_, _*_, _/_, _%_, _≤_, _<_}
 use native.Mathlib.Omega.{arith}
 use mathlib.Core.Path.{_≡_, refl, sym, _∙_, ap, subst}
-use mathlib.Core.Bool.{Bool, true, false, true≢false}
+use mathlib.Core.Logic.{_⊎_, inl, inr, ⊎-elim}
+use mathlib.Core.Bool.{Bool, true, false, cond, _||_, true≢false}
 use mathlib.Core.List.{List, _∷_, _++_}
 use lib.ListN.{length, getD, set, replicate, length-replicate, length-set, length-append, getD-replicate, List·getD-eq-default}
 use lib.Seq.{getD-set-same, getD-set-other}
 use lib.Dec.{ltb, eqb}
-use borrow.Author.Tests.{ltb-true, ltb-false, eqb-true, eqb-false, eq-eqb, le-leb}
+use borrow.Author.Tests.{ltb-true, ltb-false, eqb-true, eqb-false, le-leb}
 use Rattle.scope.specs.Limits.{mostLinks, mostMessages}
-use Rattle.scope.specs.Plan.{Plan}
-use Rattle.scope.specs.Slot.{Position, Moved, turn}
-use Rattle.scope.specs.Cuts.{isCut}
+use Rattle.scope.specs.Outcome.{gives}
+use Rattle.scope.specs.Plan.{Plan, planOf}
+use Rattle.scope.specs.Rules.{rules}
+use Rattle.scope.specs.Slot.{Position, Event, Moved, turn}
+use Rattle.scope.specs.Cuts.{isCutList, cutsLink, isCut}
 use Rattle.scope.specs.Cycle.{orderOf, tableOf, positions, start}
+use Rattle.scope.proofs.Cables.{cuts-own}
 use Rattle.laws.specs.Message.{positionOf, moveIn}
 use Rattle.laws.proofs.One.{acts, triedIn, move-at}
 use Rattle.laws.proofs.Slots.{one-slot}
 use Rattle.laws.proofs.Cuts.{is-cut}
+use Rattle.laws.proofs.Cables.{cut-both-ways}
+use Rattle.laws.proofs.Sound.{number-is-link}
 use Rattle.order.proofs.Parts.{slot-right, link-right}
+use Rattle.cables.specs.Others.{otherIn, AreLinks}
 use Rattle.picks.specs.declared.Sizes.{Sizes}
+use Rattle.picks.specs.Picks.{Playable}
 use Rattle.step.specs.Events.{crossingOf}
-use Rattle.clues.specs.Clues.{Matches}
+use Rattle.clues.specs.Clues.{eventIn, crossingIn, Matches}
 use Rattle.explaining.specs.Walk.{isUnseen, SeenFrom, Lasts}
 
 -- a link past the list is crossed by nobody
@@ -54,20 +62,52 @@ cut-behind : (plan : Plan) (pre : List ℕ) (d s e j : ℕ) (x : List ℕ) → l
     isCut plan (pre ++ s ∷ e ∷ x) j e ≡ true
 cut-behind plan pre d s e j x long h =
     is-cut plan (pre ++ s ∷ e ∷ x) j e (d + 0) (omega (arith, length-append pre (s ∷ e ∷ x)))
-    (eq-eqb _ e (link-right pre (s ∷ e ∷ x) d long 0)) (omega (arith, slot-right pre (s ∷ e ∷ x) d long 0))
+    (ap (λ (k : ℕ). cutsLink plan k e) (link-right pre (s ∷ e ∷ x) d long 0) ∙ cuts-own plan e)
+    (omega (arith, slot-right pre (s ∷ e ∷ x) d long 0))
 
--- so no list that matches cuts a link that is crossed in its slot or later
-pub cut-too-early : (plan : Plan) (crossed : List ℕ) (z : Sizes) (pre : List ℕ) (d s e : ℕ) (x : List ℕ) → z .timeout ≡ plan .timeout →
-    z .messages ≡ length (plan .messages) → length pre ≡ 2 * d → SeenFrom crossed z s e → Matches plan crossed (pre ++ s ∷ e ∷ x) → ⊥
-cut-too-early plan crossed z pre d s e x time many long seen it =
-    let cuts = pre ++ s ∷ e ∷ x in
-    let i = seen .slot in
-    let m = seen .message in
-    true≢false
-    (sym (cut-behind plan pre d s e i x long (seen .from)) ∙
-    crossed-whole (orderOf plan) (isCut plan cuts) (tableOf plan) m i e
-    (positions (orderOf plan) (isCut plan cuts) (tableOf plan) 0 i (start plan))
-    (it i (omega (arith, seen .early)) m (omega (arith, seen .there)) ∙ seen .crosses))
+-- what an event crosses is its number, and it is of kind 2 or 3
+crossing-of : (v : Event) (e : ℕ) → crossingOf v ≡ e + 1 → (0 < v .kind) × (v .kind ≤ 3) × (v .number ≡ e)
+crossing-of v e = by (eqb (v .kind) 2) refl (eqb (v .kind) 3) refl
+  where
+    by : (a : Bool) → eqb (v .kind) 2 ≡ a → (b : Bool) → eqb (v .kind) 3 ≡ b → cond (a || b) (v .number + 1) 0 ≡ e + 1 →
+        (0 < v .kind) × (v .kind ≤ 3) × (v .number ≡ e)
+    by true h b k is = let two : v .kind ≡ 2 = eqb-true (v .kind) 2 h in (omega arith, omega arith, omega arith)
+    by false h true k is = let three : v .kind ≡ 3 = eqb-true (v .kind) 3 k in (omega arith, omega arith, omega arith)
+    by false h false k is = absurd (omega arith)
+
+-- so no list that matches cuts a link whose cable is crossed in its slot or later
+module _ (row table crossed : List ℕ) (z : Sizes) (keeps : rules (planOf row) ≡ gives 0) (play : Playable row table z) (pre : List ℕ)
+    (d s e : ℕ) (x : List ℕ) (long : length pre ≡ 2 * d) (seen : SeenFrom crossed z s e)
+    (good : isCutList (planOf row) (pre ++ s ∷ e ∷ x) ≡ true) (it : Matches (planOf row) crossed (pre ++ s ∷ e ∷ x)) where
+  abbrev cuts : List ℕ
+  cuts = pre ++ s ∷ e ∷ x
+
+  crossing : crossingIn (planOf row) cuts (seen .slot) (seen .message) ≡ seen .link + 1
+  crossing =
+      it (seen .slot) (omega (arith, seen .early, play .timeout)) (seen .message) (omega (arith, seen .there, play .messages)) ∙ seen .crosses
+
+  in-plan : seen .link < length (planOf row .links)
+  in-plan =
+      let plan = planOf row in
+      let c = crossing-of (eventIn plan cuts (seen .slot) (seen .message)) (seen .link) crossing in
+      omega (arith, number-is-link (orderOf plan) (isCut plan cuts) plan (seen .message) (seen .slot) keeps (c .0) (c .1), c .2)
+
+  is-cut-there : isCut (planOf row) cuts (seen .slot) (seen .link) ≡ true
+  is-cut-there =
+      let plan = planOf row in
+      let behind = cut-behind plan pre d s e (seen .slot) x long (seen .from) in
+      ⊎-elim (λ own. ap (isCut plan cuts (seen .slot)) own ∙ behind)
+      (λ other. sym (cut-both-ways plan cuts keeps good (seen .slot) (seen .link) in-plan) ∙
+      ap (isCut plan cuts (seen .slot)) (sym (play .others .is (seen .link) in-plan) ∙ other) ∙ behind)
+      (seen .cable)
+
+  pub cut-too-early : ⊥
+  cut-too-early =
+      let plan = planOf row in
+      true≢false
+      (sym is-cut-there ∙
+      crossed-whole (orderOf plan) (isCut plan cuts) (tableOf plan) (seen .message) (seen .slot) (seen .link)
+      (positions (orderOf plan) (isCut plan cuts) (tableOf plan) 0 (seen .slot) (start plan)) crossing)
 
 -- the loop over the table: nothing is noted at first, and then what was seen
 abbrev noneSeen : List ℕ
@@ -91,26 +131,43 @@ lasts-none crossed z = record { size = none-long; seen = λ s e l. absurd (omega
 pub link-below : (c : ℕ) → 0 < c → c ≤ mostLinks → c - 1 < mostLinks
 link-below c some few = omega arith
 
-pub lasts-more : (crossed : List ℕ) (z : Sizes) (last : List ℕ) (k c : ℕ) → Lasts crossed z last → k < z .timeout * mostMessages →
-    c ≡ getD crossed k 0 → k % mostMessages < z .messages → 0 < c → c ≤ mostLinks → Lasts crossed z (set last (c - 1) (k / mostMessages + 1))
-lasts-more crossed z last k c g early is there some few =
-    record { size = length-set last (c - 1) (k / mostMessages + 1) ∙ g .size; seen = λ s e l. by s e l (eqb (c - 1) e) refl }
+-- a slot is noted for a link whose cable is crossed there
+lasts-put : (crossed : List ℕ) (z : Sizes) (last : List ℕ) (e b : ℕ) → Lasts crossed z last → e < mostLinks →
+    ((s : ℕ) → s < b → SeenFrom crossed z s e) → Lasts crossed z (set last e b)
+lasts-put crossed z last e b g there seen =
+    record { size = length-set last e b ∙ g .size; seen = λ s x l. by s x l (eqb e x) refl }
   where
-    by : (s e : ℕ) → s < getD (set last (c - 1) (k / mostMessages + 1)) e 0 → (t : Bool) → eqb (c - 1) e ≡ t → SeenFrom crossed z s e
-    by s e l false h =
-        g .seen s e
-        (omega (arith, getD-set-other last (c - 1) e (k / mostMessages + 1) 0 (λ q. eqb-false (c - 1) e h (sym q))))
-    by s e l true h =
-        let same : c - 1 ≡ e = eqb-true (c - 1) e h in
-        let put : getD (set last e (k / mostMessages + 1)) e 0 ≡ k / mostMessages + 1 =
-        getD-set-same last e (k / mostMessages + 1) 0 (omega (arith, g .size)) in
-        let low : s < getD (set last e (k / mostMessages + 1)) e 0 = rw same at l in
-        let at : k / mostMessages * mostMessages + k % mostMessages ≡ k = omega arith in
-        record {
-          slot = k / mostMessages;
-          message = k % mostMessages;
-          from = omega (arith, low, put);
-          early = omega arith;
-          there = there;
-          crosses = ap (λ (n : ℕ). getD crossed n 0) at ∙ sym is ∙ omega arith;
-        }
+    by : (s x : ℕ) → s < getD (set last e b) x 0 → (t : Bool) → eqb e x ≡ t → SeenFrom crossed z s x
+    by s x l false h = g .seen s x (omega (arith, getD-set-other last e x b 0 (λ q. eqb-false e x h (sym q))))
+    by s x l true h =
+        let same : e ≡ x = eqb-true e x h in
+        let put : getD (set last e b) x 0 ≡ b =
+        ap (λ (i : ℕ). getD (set last e b) i 0) (sym same) ∙ getD-set-same last e b 0 (omega (arith, g .size)) in
+        subst (SeenFrom crossed z s) same (seen s (omega (arith, put)))
+
+-- so for the link that is crossed, and for its other way
+module _ (crossed : List ℕ) (z : Sizes) (last : List ℕ) (k c : ℕ) (g : Lasts crossed z last) (early : k < z .timeout * mostMessages)
+    (is : c ≡ getD crossed k 0) (there : k % mostMessages < z .messages) (some : 0 < c) (few : c ≤ mostLinks)
+    (links : AreLinks (z .others)) where
+  abbrev behind : ℕ
+  behind = k / mostMessages + 1
+
+  was-seen : (e : ℕ) → (c - 1 ≡ e) ⊎ (otherIn (z .others) (c - 1) ≡ e) → (s : ℕ) → s < behind → SeenFrom crossed z s e
+  was-seen e cable s l =
+      let at : k / mostMessages * mostMessages + k % mostMessages ≡ k = omega arith in
+      record {
+        link = c - 1;
+        slot = k / mostMessages;
+        message = k % mostMessages;
+        from = omega arith;
+        early = omega arith;
+        there = there;
+        crosses = ap (λ (n : ℕ). getD crossed n 0) at ∙ sym is ∙ omega arith;
+        cable = cable;
+      }
+
+  pub lasts-more : Lasts crossed z (set (set last (c - 1) behind) (otherIn (z .others) (c - 1)) behind)
+  lasts-more =
+      lasts-put crossed z (set last (c - 1) behind) (otherIn (z .others) (c - 1)) behind
+      (lasts-put crossed z last (c - 1) behind g (link-below c some few) (was-seen (c - 1) (inl refl)))
+      (links .below (c - 1) (link-below c some few)) (was-seen (otherIn (z .others) (c - 1)) (inr refl))

@@ -2,9 +2,9 @@
 // 01's verdict, fewest pairs first. `clues::suspect` is asked before a pair is picked and after each one: it says of most that no list from
 // here can match, so that nearly every list that is tried leads to one; no list is tried with fewer pairs than links are named at first;
 // where as many links are named as pairs are to come, only these are tried; a link is tried only behind the last slot in which the table
-// has it crossed, since it is whole there; and where the slot before the next pair differs from the table, no later pair mends it. It leans
-// on `picks` for the pairs picked, on `clues` for what a slot says, on `order` for the steps from pair to pair and on `laws` for who
-// crosses a link.
+// has its cable crossed, since that is whole there; and where the slot before the next pair differs from the table, no later pair mends it.
+// It leans on `cables` for the other way of a link, on `picks` for the pairs picked, on `clues` for what a slot says, on `order` for the
+// steps from pair to pair and on `laws` for who crosses a link.
 use clues::Clue;
 use clues::Suspicion;
 use picks::Picked;
@@ -77,6 +77,7 @@ fn last_seen(crossed: &[u8], z: Sizes) -> [u8; LINKS]
     requires { ⌜ (length (now crossed) ≡ crossedSize) × (z .timeout ≤ mostSlots) × AreLinks (z .others) ⌝ }
     ensures { λ r. ⌜ Lasts (now (crossed .entry)) z r ⌝ }
 {
+    let others = z.others;
     let mut last = [0u8; LINKS];
     let end = z.timeout * MESSAGES;
     let mut k = 0;
@@ -84,8 +85,9 @@ fn last_seen(crossed: &[u8], z: Sizes) -> [u8; LINKS]
         let c = crossed[k] as usize;
         if k % MESSAGES < z.messages && 0 < c && c <= LINKS {
             let behind = (k / MESSAGES + 1) as u8;
+            let other = cables::other(&others, c - 1);
             last[c - 1] = behind;
-            last[z.others[c - 1] as usize] = behind;
+            last[other] = behind;
         }
         k += 1;
     }

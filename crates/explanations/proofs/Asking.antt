@@ -12,6 +12,7 @@ use Rattle.rows.specs.Lies.{PlanLies}
 use Rattle.rows.proofs.Parts.{message-count, link-count, timeout-is}
 use Rattle.rows.proofs.Walked.{walked}
 use Rattle.table.specs.Table.{Table}
+use Rattle.cables.specs.Others.{OtherWays}
 use Rattle.forms.proofs.Theorems.{row-most}
 use Rattle.plan.specs.Answers.{GoodRow}
 use Rattle.step.specs.declared.Standing.{Standing}
@@ -35,10 +36,11 @@ module _ (row : List ℕ) (good : GoodRow row) where
       rw is (record { few = lies .messages; fit = omega (arith, lies .ends) })
 
 pub may-hunt : (row : List ℕ) (k : ℕ) (crossed : List ℕ) → MayDecide row k crossed → (table : List ℕ) → Table (tableOf (planOf row)) table →
-    (t e n : ℕ) (ps : Standing) → t ≡ timeoutOf row → e ≡ linkCount row → n ≡ messageCount row → Begins row n ps →
-    MayHunt row table crossed (record { timeout = t; links = e; messages = n }) ps k
+    (t e n : ℕ) (others : List ℕ) (ps : Standing) → t ≡ timeoutOf row → e ≡ linkCount row → n ≡ messageCount row →
+    OtherWays (planOf row) others → Begins row n ps →
+    MayHunt row table crossed (record { timeout = t; links = e; messages = n; others = others }) ps k
 unfolding positions
-may-hunt row k crossed m table tab t e n ps ht he hn b =
+may-hunt row k crossed m table tab t e n others ps ht he hn ho b =
     record {
       good = m .good .keeps;
       play =
@@ -48,6 +50,7 @@ may-hunt row k crossed m table tab t e n ps ht he hn b =
             links = he ∙ sym (link-count row);
             few = omega (arith, lies row (m .good) .links);
             messages = hn ∙ sym (message-count row);
+            others = ho;
             owner = owner-same row (lies row (m .good)) table tab;
           };
       stand =

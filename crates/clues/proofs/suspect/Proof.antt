@@ -11,7 +11,6 @@ use Rattle.clues.proofs.Suspecting.{
   suspects-on,
   suspects-dead,
   link-small,
-  other-small,
   suspects-none,
   suspects-more,
   suspects-over,
@@ -69,18 +68,17 @@ slice-aggregate-other c =
 
 array-write-down : tie.Need-array-write-down Inv-loop μ-loop
 array-write-down c =
-    let may = c .before .before .before .before .before .before .before .before .before .before .before .before .before .before .before .before .pre in
+    let may =
+    c .before .before .before .before .before .before .before .before .before .before .before .before .before .before .before .before .pre in
     let inv = c .before .before .before .before .before .before .before .before .before .before .loop .inv .of _ may refl refl in
     link-small _ _ _ _ _ _ may _ _ _ _ inv (c .before .before .before .before .before .before .before .before .if1 .taken) _
     (c .before .before .before .before .before .before .look .ensures) _ (c .before .before .before .before .clue .given .1)
 
 array-write-down-2 : tie.Need-array-write-down-2 Inv-loop μ-loop
 array-write-down-2 c =
-    let may = c .before .before .before .before .before .before .before .before .before .before .before .before .before .before .before .before .pre in
-    let inv = c .before .before .before .before .before .before .before .before .before .before .loop .inv .of _ may refl refl in
-    let other = other-small _ _ _ _ _ _ may _ _ _ _ inv (c .before .before .before .before .before .before .before .before .if1 .taken) _
-    (c .before .before .before .before .before .before .look .ensures) _ (c .before .before .before .before .clue .given .1) in
-    omega (arith, c .other .ensures, other)
+    let may =
+    c .before .before .before .before .before .before .before .before .before .before .before .before .before .before .before .before .pre in
+    omega (arith, c .other .ensures, may .play .others .bytes .below _ (array-write-down c))
 
 loop-again-2 : tie.Need-loop-again-2 Inv-loop μ-loop
 loop-again-2 c =
@@ -88,7 +86,8 @@ loop-again-2 c =
     record {
       of = λ p m d s.
           rw (c .other .ensures)
-          (suspects-more _ _ _ _ _ p m _ _ _ _ (inv .of p m d s) (c .before .before .before .before .before .before .before .before .if1 .taken) _
+          (suspects-more _ _ _ _ _ p m _ _ _ _ (inv .of p m d s)
+          (c .before .before .before .before .before .before .before .before .if1 .taken) _
           (c .before .before .before .before .before .before .look .ensures) _ (c .before .before .before .before .clue .given .1));
       few = omega (arith, inv .few, c .before .before .if2 .left);
     }

@@ -70,10 +70,10 @@ level-calls t = (
 )
 
 abbrev in-inv : in-slot-lts.InvT-loop
-in-inv row table crossed z ps p n all s e named last down links i₀ i = Looking row crossed z p n s e i
+in-inv row table crossed z ps p n all s e named last closed links i₀ i = Looking row crossed z p n s e i
 
 abbrev in-less : in-slot-lts.MeasureT-loop
-in-less row table crossed z ps p n all s e named last down links i₀ i = links - i
+in-less row table crossed z ps p n all s e named last closed links i₀ i = links - i
 
 in-slot-slice-aggregate-next-link : (t : ℕ) → in-slot-lts.Need-slice-aggregate-next-link (in-calls t) (in-slot-at t) in-slot.Post in-inv in-less
 in-slot-slice-aggregate-next-link t c = search needs
@@ -96,14 +96,11 @@ in-slot-loop-holds t c =
 
 in-slot-pick-requires : (t : ℕ) → in-slot-lts.Need-pick-requires (in-calls t) (in-slot-at t) in-slot.Post in-inv in-less
 in-slot-pick-requires t c κs =
-    omega (
-      arith,
-      c .loop-test .taken,
-      c .before .before .before .before .before .before .before .before .before .before .pre .1 .early,
-      c .before .before .before .before .before .before .before .before .before .before .pre .1 .few,
-      c .before .before .before .before .before .before .before .before .before .before .pre .1 .some,
-      c .before .before .before .before .before .before .before .before .before .before .pre .1 .play .few,
-      c .before .before .before .before .before .before .before .before .before .before .pre .1 .play .short,
+    let may = c .before .before .before .before .before .before .before .before .before .before .pre .1 in (
+      omega (arith, may .few, may .some),
+      omega (arith, may .early, may .play .short),
+      omega (arith, c .loop-test .taken, may .play .few),
+      may .play .others .bytes,
     )
 
 in-slot-sub-suspect : (t : ℕ) → in-slot-lts.Need-sub-suspect (in-calls t) (in-slot-at t) in-slot.Post in-inv in-less
@@ -139,15 +136,14 @@ in-slot-slice-aggregate-next-link-4 : (t : ℕ) →
 in-slot-slice-aggregate-next-link-4 t c =
     let may =
     c .before .before .before .before .before .before .before .before .before .before .before .before .before .before .before .pre .1 in
-    sym (may .holding .size)
+    sym (may .holding .shut)
 
 in-slot-slice-aggregate-next-link-5 : (t : ℕ) →
     in-slot-lts.Need-slice-aggregate-next-link-5 (in-calls t) (in-slot-at t) in-slot.Post in-inv in-less
 in-slot-slice-aggregate-next-link-5 t c =
-    search (
-      needs,
-      c .before .before .before .before .before .before .before .before .before .before .before .before .before .before .before .before .good,
-    )
+    let good =
+    c .before .before .before .before .before .before .before .before .before .before .before .before .before .before .before .before .good in
+    search (needs, good .1 .1 .1 .1 .1 .1 .1 .0)
 
 in-slot-slice-aggregate-next-link-6 : (t : ℕ) →
     in-slot-lts.Need-slice-aggregate-next-link-6 (in-calls t) (in-slot-at t) in-slot.Post in-inv in-less

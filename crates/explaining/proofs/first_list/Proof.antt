@@ -19,7 +19,8 @@ suspect-requires c κs = may-ask _ _ _ _ _ _ (c .before .before .before .before 
 returns : tie.Need-returns Inv-loop μ-loop
 returns c =
     hunt-over _ _ _ _ _
-    (hunt-none _ _ _ _ _ (c .before .before .suspect .ensures) (c .before .before .before .no-pair .ensures) (c .before .if1 .taken))
+    (hunt-none _ _ (c .before .before .before .before .before .before .before .args .z) _ _ _ (c .before .before .suspect .ensures)
+    (c .before .before .before .no-pair .ensures) (c .before .if1 .taken))
     (omega arith) (c .no-list .ensures)
 
 returns-2 : tie.Need-returns-2 Inv-loop μ-loop
@@ -29,11 +30,13 @@ returns-2 c =
     (c .before .before .before .if1 .left) (c .before .if2 .taken) _ refl refl refl
 
 last-seen-requires : tie.Need-last-seen-requires Inv-loop μ-loop
-last-seen-requires c κs = let may = c .before .before .before .before .before .before .before .before .pre in (may .size, may .play .short)
+last-seen-requires c κs =
+    let may = c .before .before .before .before .before .before .before .before .pre in (may .size, may .play .short, may .play .others .bytes)
 
 loop-holds : tie.Need-loop-holds Inv-loop μ-loop
 loop-holds c = (
-  hunt-first _ _ _ _ _ (c .before .before .before .before .suspect .ensures) (c .before .before .before .before .before .no-pair .ensures)
+  hunt-first _ _ (c .before .before .before .before .before .before .before .before .before .args .z) _ _ _
+      (c .before .before .before .before .suspect .ensures) (c .before .before .before .before .before .no-pair .ensures)
       (c .before .before .before .if1 .left),
   omega arith,
 )

@@ -9,11 +9,11 @@ use Rattle.explaining.proofs.next_link.Statement.{statement}
 use Rattle.explaining.proofs.next_link.Tie as tie
 
 abbrev Inv-loop : tie.InvT-loop
-Inv-loop down named last all s e links i₀ i =
-    (i ≤ links) × (seek (isOpen down named last all s) (links - i) i ≡ seek (isOpen down named last all s) (links - e) e)
+Inv-loop closed named last all s e links i₀ i =
+    (i ≤ links) × (seek (isOpen closed named last all s) (links - i) i ≡ seek (isOpen closed named last all s) (links - e) e)
 
 abbrev μ-loop : tie.MeasureT-loop
-μ-loop down named last all s e links i₀ i = links - i
+μ-loop closed named last all s e links i₀ i = links - i
 
 loop-holds : tie.Need-loop-holds Inv-loop μ-loop
 loop-holds c = (c .before .before .before .pre .0, refl)
