@@ -23,7 +23,7 @@ use Rattle.order.proofs.Steps.{after, passed}
 use Rattle.picks.specs.declared.Sizes.{Sizes}
 use Rattle.picks.specs.declared.Picked.{Picked}
 use Rattle.picks.specs.Picks.{cutsOf, Playable, Holding}
-use Rattle.picks.proofs.Picking.{down-already}
+use Rattle.picks.proofs.Picking.{closed-already}
 use Rattle.risks.specs.declared.Rest.{Rest}
 use Rattle.risks.specs.Weighed.{lossWith, tooLight, passes, Leaves}
 use Rattle.risks.proofs.Weigh.{which, too-light}
@@ -90,27 +90,27 @@ module _ (row table weights most : List ℕ) (z : Sizes) (p : Picked) (Answers :
         strips-light false one less = any-strips (omega (arith, less, v .strips, tops (topIn most 1 s)))
 
     -- a link that may not be tried in slot s is not to be tried in a later one
-    pub not-tried : (i b : ℕ) → s ≤ i → b < z .links → passes (p .down) weights most need rest s b ≡ false →
+    pub not-tried : (i b : ℕ) → s ≤ i → b < z .links → passes (p .closed) weights most need rest s b ≡ false →
         (x : List ℕ) → length x ≡ 2 * j → Not (planOf row) Answers (cutsOf p ++ i ∷ b ∷ x)
-    not-tried i b later l no-pass x long = by (isDown (p .down) b) refl no-pass
+    not-tried i b later l no-pass x long = by (isDown (p .closed) b) refl no-pass
       where
-        by : (t : Bool) → isDown (p .down) b ≡ t → (not t && not (tooLight need (lossWith rest weights most need s b))) ≡ false →
+        by : (t : Bool) → isDown (p .closed) b ≡ t → (not t && not (tooLight need (lossWith rest weights most need s b))) ≡ false →
             Not (planOf row) Answers (cutsOf p ++ i ∷ b ∷ x)
         by false e light = all-light i b later l (not-false (tooLight need (lossWith rest weights most need s b)) light) x long
-        by true e light = down-already row z p h b Answers few j i e x
+        by true e light = closed-already row z p h b Answers few l j i e x
 
     -- links of slot s passed over, none of which may be tried
-    pub skipped : (lo e f : ℕ) → f ≤ z .links → ((b : ℕ) → e ≤ b → b < f → passes (p .down) weights most need rest s b ≡ false) →
+    pub skipped : (lo e f : ℕ) → f ≤ z .links → ((b : ℕ) → e ≤ b → b < f → passes (p .closed) weights most need rest s b ≡ false) →
         NoneIn (planOf row) Answers (cutsOf p) j lo (code s e) → NoneIn (planOf row) Answers (cutsOf p) j lo (code s f)
     skipped lo e f within none leave =
         passed (planOf row) Answers few (cutsOf p) (p .count) (code (p .slot) (p .link)) (h .chosen) j lo s e f (omega (arith, play .few)) leave
         (λ b u w. not-tried s b (omega arith) (omega arith) (none b u w))
 
     -- where no link of slot s may be tried, none of a later slot may
-    pub none-later : (f : ℕ) → f ≡ seek (passes (p .down) weights most need rest s) (z .links - 0) 0 → z .links ≤ f →
+    pub none-later : (f : ℕ) → f ≡ seek (passes (p .closed) weights most need rest s) (z .links - 0) 0 → z .links ≤ f →
         (a b : ℕ) (x : List ℕ) → length x ≡ 2 * j → code s 0 ≤ code a b → Not (planOf row) Answers (cutsOf p ++ a ∷ b ∷ x)
     none-later f found over a b x long low good it =
         let next = after (planOf row) Answers few (cutsOf p) (p .count) (code (p .slot) (p .link)) (h .chosen) j a b x good in
         let there : b < z .links = omega (arith, next .link, play .links) in
         not-tried a b (omega (arith, low, next .link, few)) there
-        (seek-low (passes (p .down) weights most need rest s) (z .links - 0) 0 b (omega arith) (omega arith)) x long good it
+        (seek-low (passes (p .closed) weights most need rest s) (z .links - 0) 0 b (omega arith) (omega arith)) x long good it

@@ -2,7 +2,7 @@
 use Prim.Native.Nat.{ℕ, _+_, _*_, _≤_, _<_}
 use native.Mathlib.Omega.{arith}
 use mathlib.Core.Path.{_≡_, refl, sym, _∙_, ap, ap₂}
-use mathlib.Core.Bool.{Bool, true, false, not, _&&_, _||_, and-true, and-false, or-true, or-false, and-eq-true-iff}
+use mathlib.Core.Bool.{Bool, true, false, cond, not, _&&_, _||_, and-true, and-false, or-true, or-false, and-eq-true-iff}
 use mathlib.Core.List.{List, [], _∷_, _++_}
 use lib.ListN.{length, getD, take, List·getD-map}
 use lib.Seq.{getD-take}
@@ -10,11 +10,14 @@ use lib.Dec.{ltb, eqb}
 use lib.Arith.{lt-of-le-ne}
 use borrow.Author.Tests.{ltb-true, ltb-false, eqb-true, eqb-false, lt-ltb, le-ltb}
 use Rattle.scope.specs.Limits.{mostCuts, mostMessages, mostSlots, topsSize}
-use Rattle.scope.specs.Plan.{planOf, placesAt}
+use Rattle.scope.specs.Plan.{Plan, planOf, placesAt}
 use Rattle.scope.specs.Slot as S
+use Rattle.scope.specs.Cables.{otherWay, isHigher}
 use Rattle.scope.specs.Cuts.{pairs, isCut}
 use Rattle.scope.specs.Cycle.{orderOf, tableOf, start, positions}
+use Rattle.scope.proofs.Cables.{other-below}
 use Rattle.laws.specs.Message as L
+use Rattle.cables.specs.Others.{otherIn, OtherWays}
 use Rattle.step.specs.declared.Position.{Position}
 use Rattle.step.specs.Where.{positionOf}
 use Rattle.step.proofs.Steps.{home-is}
@@ -24,19 +27,21 @@ use Rattle.sets.specs.Sums.{sumOf, oneIf}
 use Rattle.sets.specs.Sets.{has, size, IsOneIf, IsEither, IsBoth}
 use Rattle.sets.proofs.Sums.{sum-le, sum-same, sum-fewer, tests-few}
 use Rattle.sets.proofs.Sets.{has-none}
-use Rattle.losses.specs.Touch.{harm}
-use Rattle.losses.specs.Harmed.{hers, isTouched, stands, away}
-use Rattle.losses.specs.Strips.{strips, isStripped, lost}
+use Rattle.losses.specs.Touch.{harm, onCable}
+use Rattle.losses.specs.Harmed.{hersOn, hers, isTouched, stands, away}
+use Rattle.losses.specs.Strips.{stripsOn, strips, isStripped, lost}
 use Rattle.table.specs.Table.{indexOf}
 use Rattle.bound.specs.Sets.{setIn}
 use Rattle.losses.proofs.Parts.{harm-both}
+use Rattle.losses.proofs.OneCable.{hers-most, strips-most}
 use Rattle.order.proofs.Parts.{pairs-both}
+use Rattle.picks.specs.declared.Sizes.{Sizes}
 use Rattle.picks.specs.Picks.{StandAt}
 use Rattle.risks.specs.declared.Hits.{Hits}
 use Rattle.risks.specs.declared.Risk.{Risk}
 use Rattle.risks.specs.declared.Rest.{Rest}
 use Rattle.risks.specs.Weighed.{noHits, restOf, Fits, Hittable, AreAway, Covers, Leaves}
-use Rattle.risks.specs.Risks.{countIn, risksOf, IsHit, MayWeigh}
+use Rattle.risks.specs.Risks.{countIn, risksOf, IsHitIn, IsHit, MayWeigh}
 
 -- what one pair weighs
 one-pair : (weight : ℕ → ℕ → ℕ) (s e : ℕ) → harm weight (s ∷ e ∷ []) 1 ≡ weight s e
@@ -73,29 +78,48 @@ covers-none row =
       stripped = λ m l z. absurd (omega (arith, ltb-true 0 0 z));
     }
 
--- with one pair more, from the sets at its index
-pub hit-is : (touchSets stripSets : List ℕ) (old new : Hits) (s e k : ℕ) → k ≡ indexOf s e →
-    IsEither (old .touched) (getD touchSets k 0) (new .touched) → IsEither (old .stripped) (getD stripSets k 0) (new .stripped) →
-    IsHit touchSets stripSets old s e new
-hit-is touchSets stripSets old new s e k p a b =
-    let there : (sets : List ℕ) (m : ℕ) → has (getD sets k 0) m ≡ has (setIn sets s e) m = λ sets m. ap (λ (i : ℕ). has (getD sets i 0) m) p in
-    record {
-      touched = λ m. a m ∙ ap (λ (x : Bool). has (old .touched) m || x) (there touchSets m);
-      stripped = λ m. b m ∙ ap (λ (x : Bool). has (old .stripped) m || x) (there stripSets m);
-    }
+-- with one pair more, from the sets at the indices of its cable's links
+pub hit-in : (sets : List ℕ) (s e o k j old pair new : ℕ) → k ≡ indexOf s e → j ≡ indexOf s o →
+    IsEither (getD sets k 0) (getD sets j 0) pair → IsEither old pair new → IsHitIn sets s e o old new
+hit-in sets s e o k j old pair new p q a b m =
+    let there : (i f : ℕ) → i ≡ indexOf s f → has (getD sets i 0) m ≡ has (setIn sets s f) m =
+    λ i f is. ap (λ (n : ℕ). has (getD sets n 0) m) is in
+    b m ∙ ap (λ (x : Bool). has old m || x) (a m ∙ ap₂ _||_ (there k e p) (there j o q))
+
+-- whom a pair hits is hit on one of its cable's links
+on-one : (plan : Plan) (e : ℕ) → e < length (plan .links) → (count : ℕ → ℕ) (hit : ℕ → Bool) →
+    ((d : ℕ) → d < length (plan .links) → 0 < count d → hit d ≡ true) → 0 < onCable plan e count → (hit e || hit (otherWay plan e)) ≡ true
+on-one plan e there count hit on = by (ltb 0 (count e)) refl (ltb e (otherWay plan e))
+  where
+    by : (b : Bool) → ltb 0 (count e) ≡ b → (t : Bool) → 0 < count e + cond t (count (otherWay plan e)) 0 →
+        (hit e || hit (otherWay plan e)) ≡ true
+    by true q t some = rw (on e there (ltb-true 0 (count e) q))
+    by false q true some =
+        rw (on (otherWay plan e) (other-below plan e there) (omega (arith, ltb-false 0 (count e) q))) (or-true (hit e))
+    by false q false some = absurd (omega (arith, ltb-false 0 (count e) q))
 
 -- one pair more
-pub covers-more : (row touchSets stripSets cuts : List ℕ) (d s e : ℕ) (old new : Hits) → Hittable row touchSets stripSets →
-    length cuts ≡ 2 * d → s < planOf row .timeout → e < length (planOf row .links) →
-    Covers row cuts old → IsHit touchSets stripSets old s e new → Covers row (cuts ++ s ∷ e ∷ []) new
-covers-more row touchSets stripSets cuts d s e old new y long early there c h =
+pub covers-more : (row touchSets stripSets : List ℕ) (z : Sizes) (cuts : List ℕ) (d s e : ℕ) (old new : Hits) →
+    Hittable row touchSets stripSets → OtherWays (planOf row) (z .others) → length cuts ≡ 2 * d → s < planOf row .timeout →
+    e < length (planOf row .links) → isHigher (planOf row) e ≡ false → Covers row cuts old → IsHit touchSets stripSets z old s e new →
+    Covers row (cuts ++ s ∷ e ∷ []) new
+covers-more row touchSets stripSets z cuts d s e old new y ways long early there low c h =
+    let plan = planOf row in
+    let o = otherIn (z .others) e in
+    let back : o ≡ otherWay plan e = ways .is e there in
     record {
       touched = λ m l.
-          hit-more (hers (planOf row) m) cuts d s e (has (old .touched) m) (has (setIn touchSets s e) m) (has (new .touched) m) long
-          (y .touched m s e l early there) (c .touched m l) (h .touched m);
+          hit-more (hers plan m) cuts d s e (has (old .touched) m) (has (setIn touchSets s e) m || has (setIn touchSets s o) m)
+          (has (new .touched) m) long
+          (λ some. rw back (on-one plan e there (hersOn plan m s) (λ f. has (setIn touchSets s f) m) (λ f. y .touched m s f l early)
+          (omega (arith, hers-most plan e low m s))))
+          (c .touched m l) (h .touched m);
       stripped = λ m l.
-          hit-more (strips (planOf row) m) cuts d s e (has (old .stripped) m) (has (setIn stripSets s e) m) (has (new .stripped) m) long
-          (y .stripped m s e l early there) (c .stripped m l) (h .stripped m);
+          hit-more (strips plan m) cuts d s e (has (old .stripped) m) (has (setIn stripSets s e) m || has (setIn stripSets s o) m)
+          (has (new .stripped) m) long
+          (λ some. rw back (on-one plan e there (stripsOn plan m s) (λ f. has (setIn stripSets s f) m) (λ f. y .stripped m s f l early)
+          (omega (arith, strips-most plan e low s m))))
+          (c .stripped m l) (h .stripped m);
     }
 
 -- what is hit more is counted no less

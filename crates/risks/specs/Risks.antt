@@ -38,7 +38,7 @@ pub record MayHit (touchSets stripSets : List ℕ) (z : Sizes) (s e : ℕ) : Typ
 
 -- in the new set are those of the old one, and of the sets of both links
 abbrev pub IsHitIn : List ℕ → ℕ → ℕ → ℕ → ℕ → ℕ → Type 0
-IsHitIn sets s e o old new = (m : ℕ) → has new m ≡ (has old m || has (setIn sets s e) m || has (setIn sets s o) m)
+IsHitIn sets s e o old new = (m : ℕ) → has new m ≡ (has old m || (has (setIn sets s e) m || has (setIn sets s o) m))
 
 pub record IsHit (touchSets stripSets : List ℕ) (z : Sizes) (old : Hits) (s e : ℕ) (new : Hits) : Type 0 where
   pub touched : IsHitIn touchSets s e (otherIn (z .others) e) (old .touched) (new .touched)

@@ -11,10 +11,10 @@ ghost use Prim.Native.Nat.{_+_, _-_, _*_, _<_, _≤_};
 ghost use mathlib.Core.Path.{_≡_};
 ghost use lib.ListN.{length, getD};
 ghost use lib.Dec.{ltb};
-ghost use Rattle.scope.specs.Limits.{mostCuts, mostLinks, mostMessages};
+ghost use Rattle.scope.specs.Limits.{mostCuts, mostSlots, mostLinks, mostMessages, planeSize};
 ghost use Rattle.scope.specs.Lowest.{seek};
 ghost use Rattle.risks.specs.Weighed.{noHits, restOf, stripsWith, lossWith, tooLight, passes, Fits, AreAway};
-ghost use Rattle.risks.specs.Risks.{risksOf, MayHit, IsHit, MayWeigh, MayStrip, MayTry};
+ghost use Rattle.risks.specs.Risks.{risksOf, MayHit, IsHitIn, IsHit, MayWeigh, MayStrip, MayTry};
 
 // The sets of messages that the pairs picked touch and strip.
 pub struct Hits {
@@ -232,15 +232,25 @@ pub fn no_hits() -> Hits
     }
 }
 
+// Those of a set, and of the sets of two links in a slot.
+fn hit_in(sets: &[u32], old: u32, s: usize, e: usize, o: usize) -> u32
+    requires { ⌜ (length (now sets) ≡ planeSize) × (s < mostSlots) × (e < mostLinks) × (o < mostLinks) ⌝ }
+    ensures { λ r. ⌜ IsHitIn (now (sets .entry)) s e o old r ⌝ }
+{
+    let one = sets[table::index(s, e)];
+    let other = sets[table::index(s, o)];
+    sets::either(old, sets::either(one, other))
+}
+
 // Those that are hit with one pair more, either way of its cable.
 pub fn hit(touches: &[u32], strips: &[u32], z: Sizes, hits: Hits, s: usize, e: usize) -> Hits
     requires { ⌜ MayHit (now touches) (now strips) z s e ⌝ }
     ensures { λ r. ⌜ IsHit (now (touches .entry)) (now (strips .entry)) z hits s e r ⌝ }
 {
-    let k = table::index(s, e);
-    let j = table::index(s, z.others[e] as usize);
+    let others = z.others;
+    let o = cables::other(&others, e);
     Hits {
-        touched: sets::either(hits.touched, sets::either(touches[k], touches[j])),
-        stripped: sets::either(hits.stripped, sets::either(strips[k], strips[j])),
+        touched: hit_in(touches, hits.touched, s, e, o),
+        stripped: hit_in(strips, hits.stripped, s, e, o),
     }
 }

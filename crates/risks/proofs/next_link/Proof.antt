@@ -9,11 +9,11 @@ use Rattle.risks.proofs.next_link.Statement.{statement}
 use Rattle.risks.proofs.next_link.Tie as tie
 
 abbrev Inv-loop : tie.InvT-loop
-Inv-loop down weights most need rest s e links i₀ i =
-    (i ≤ links) × (seek (passes down weights most need rest s) (links - i) i ≡ seek (passes down weights most need rest s) (links - e) e)
+Inv-loop closed weights most need rest s e links i₀ i =
+    (i ≤ links) × (seek (passes closed weights most need rest s) (links - i) i ≡ seek (passes closed weights most need rest s) (links - e) e)
 
 abbrev μ-loop : tie.MeasureT-loop
-μ-loop down weights most need rest s e links i₀ i = links - i
+μ-loop closed weights most need rest s e links i₀ i = links - i
 
 loop-holds : tie.Need-loop-holds Inv-loop μ-loop
 loop-holds c = (c .before .before .before .pre .1, refl)
