@@ -1,7 +1,7 @@
-# Shows a row of numbers (standard input) as it is understood: index of the first number, the numbers, and what they say. It goes up to the number
-# at which the row is refused, which it marks. The refusal is the program's and comes as CHECK_REFUSAL in the environment, empty where the row
-# is good. That of a path names the link itself, by message, place and step; which number of a link or message another one means is looked up
-# here. POSIX awk.
+# Shows a row of numbers (standard input) as it is understood: index of the first number, the numbers, and what they say. Two links that are one cable
+# name each other. It goes up to the number at which the row is refused, which it marks. The refusal is the program's and comes as CHECK_REFUSAL in the
+# environment, empty where the row is good. That of a path names the link itself, by message, place and step; which number of a link or message
+# another one means is looked up here. POSIX awk.
 
 BEGIN {
     refusal = ENVIRON["CHECK_REFUSAL"]
@@ -51,7 +51,7 @@ function plan(    i) {
     for (i = 0; i < messages && !over; i++) message(i)
 }
 
-function link(e,    i) {
+function link(e,    i, back) {
     begin()
     from[e] = take("where link " e " begins", 63)
     if (no == 5 && e == place && from[e] >= vertices) mark("there is no vertex " from[e])
@@ -59,7 +59,14 @@ function link(e,    i) {
     if (no == 5 && e == place && !over) mark(to[e] >= vertices ? "there is no vertex " to[e] : "it ends where it begins")
     if (no == 6 && e == place)
         for (i = 0; i < e; i++) if (from[i] == from[e] && to[i] == to[e]) mark("link " i " has the same ends")
-    line("", "link " e ": " from[e] " to " to[e])
+    back = other_way(e)
+    line("", "link " e ": " from[e] " to " to[e] (back == "" ? "" : ", one cable with link " back))
+}
+
+# The link with the same ends reversed, which may stand further on in the row.
+function other_way(e,    i) {
+    for (i = 0; i < links; i++) if (i != e && word[5 + 2 * i] == to[e] "" && word[6 + 2 * i] == from[e] "") return i
+    return ""
 }
 
 function message(m,    places, p) {

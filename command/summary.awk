@@ -52,10 +52,14 @@ function number_lists(    k, l) {
     }
 }
 
-# Vertices, links, and each message's target.
+# Vertices, links with their ends, and each message's target.
 function take_row(    at, e, m, p, places) {
     vertices = row[1] + 1; links = row[2] + 1; messages = row[3] + 1; slots = row[4] + 1
-    for (e = 0; e < links; e++) to[e] = row[6 + 2 * e]
+    for (e = 0; e < links; e++) {
+        begin[e] = row[5 + 2 * e]
+        to[e] = row[6 + 2 * e]
+        link[begin[e], to[e]] = e
+    }
     at = 5 + 2 * links
     for (m = 0; m < messages; m++) {
         places = row[at++] + 1
@@ -83,22 +87,26 @@ function summary(    k, last) {
     spare()
 }
 
-function cuts_of(k, last,    up) {
+function cuts_of(k, last,    up, whichever) {
     up = "Up to " (k < last ? k " or " : "") counted(last, "cut") ": "
+    whichever = ", whichever " (last == 1 ? "cable is" : "cables are") " cut and whenever"
     if (!(k in list_of)) {
-        tell("", up all(messages) ", whichever links are cut and whenever.")
+        tell("", up all(messages) whichever ".")
         return
     }
-    tell("", up (safe[k] ? "at least " safe[k] " of " messages " arrive, whichever links are cut and whenever" : "it may be that none arrives") \
+    tell("", up (safe[k] ? "at least " safe[k] " of " messages " arrive" whichever : "it may be that none arrives") \
         ". The first list that leaves " (safe[k] ? "fewer than " safe[k] + 1 : "none") ": " said_list(list[list_of[k]]) ".")
     losses(list_of[k])
 }
 
 function said_list(text,    words, n, i, said) {
     n = split(text, words, " ")
-    for (i = 1; i < n; i += 2) said = said (said == "" ? "" : i + 2 > n ? " and " : ", ") "link " words[i + 1] " in slot " words[i]
+    for (i = 1; i < n; i += 2) said = said (said == "" ? "" : i + 2 > n ? " and " : ", ") cable(words[i + 1]) " in slot " words[i]
     return said
 }
+
+# A pair names the lower link of a cable, and cuts the one with the same ends reversed too, if the plan has one.
+function cable(e) { return "link " e ((to[e], begin[e]) in link ? " (and its other way, link " link[to[e], begin[e]] ")" : "") }
 
 # Who does not arrive under a list, and why. A message that crosses a link in the last slot arrives if that ends at its target.
 function losses(i,    m, lost, last, more, there) {

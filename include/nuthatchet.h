@@ -10,6 +10,9 @@
    A refusal changes no buffer; a success changes only the part that it writes. Nothing is kept between calls, and no memory is asked for; a
    call takes less than 100 kB of stack, one that asks for figures less than 200 kB.
 
+   A pair slot, link of a cut list cuts a cable: that link and the link with the same ends reversed, if the plan has one. It is one cut, and k counts
+   pairs. It names the lower of the two links; one that names the higher is a bad pair, refusal 12. Lists that are handed over name cables in the same way.
+
    Rows, cut lists, captures and events are as in README.md. Everything counts from 0. */
 #ifndef NUTHATCHET_H
 #define NUTHATCHET_H
@@ -42,8 +45,8 @@ size_t nuthatchet_write_file(const uint16_t *row, size_t row_len, uint8_t *file,
    they begin; 0 and 0 where there is none or the row is bad. This one has no refusals. */
 size_t nuthatchet_second_path(const uint16_t *row, size_t row_len, size_t m, size_t p, size_t *index);
 
-/* One cycle under a cut list (slot, link, slot, link, ..): the events at the front (slot by slot, message by message, kind then number),
-   refusals 1 to 10, 14 to 19, 12, 13. Result: how many messages arrive. */
+/* One cycle under a cut list (slot, link, slot, link, ..; of a cable that goes both ways the lower link): the events at the front (slot by slot,
+   message by message, kind then number), refusals 1 to 10, 14 to 19, 12, 13. Result: how many messages arrive. */
 size_t nuthatchet_replay(const uint16_t *row, size_t row_len, const uint16_t *cuts, size_t cuts_len, uint16_t *events, size_t events_len, size_t *place, size_t *at, size_t *step, size_t *result);
 
 /* Whether every list of at most k cuts leaves at least l arrivals; refusals 1 to 10, 14 to 19, 11, 13. Pairs: 0 if so, and the list is as it was; or else

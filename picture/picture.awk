@@ -5,8 +5,9 @@
 #   awk -v title='Plan B, link 0 cut in slot 0' -v cuts=cuts -f listing.awk -f picture.awk < listing > cycle.svg
 #
 # The title and the name of the file with the cuts may also come as PICTURE_TITLE and PICTURE_CUTS in the environment. What `explain` prints has its
-# cuts with it. Without cuts it shows a cut where the listing first shows it. What is no listing, or has other cuts, gets a message on standard error,
-# exit status 1 and no picture.
+# cuts with it. A cut takes both ways of a cable, and the list names one: the other way has a tag of its own if the listing shows it as cut. Without
+# cuts it shows a cut where the listing first shows it. What is no listing, or has other cuts, gets a message on standard error, exit status 1 and no
+# picture.
 
 BEGIN {
     tool = "picture"
@@ -32,6 +33,7 @@ function see(    s, m) {
         turned[m] = -1
         for (s = 0; s < slots; s++) see_event(s, m)
     }
+    listed = cuts != "" || explained
     if (cuts != "") read_cuts()
     else if (explained) explained_cuts()
     else see_cuts()
@@ -57,9 +59,21 @@ function see_cuts(    s, m) {
             if (turned[m] == s && s > 0 && kind[s - 1, m] == 1) note_cut(s, number[s - 1, m])
         }
         for (m = 0; m < lanes; m++)
-            if (turned[m] == s && named + tags[s] == 0) tag[s, tags[s]++] = "?"
-        if (tags[s] > most_tags) most_tags = tags[s]
+            if (turned[m] == s && named + tags[s] == 0) add_tag(s, "?", "")
     }
+}
+
+function note_cut(s, link) {
+    if (link in cut) return
+    cut[link] = s
+    named++
+    add_tag(s, link, "")
+}
+
+function add_tag(s, link, way) {
+    tag[s, tags[s]] = link
+    way_of[s, tags[s]] = way
+    if (++tags[s] > most_tags) most_tags = tags[s]
 }
 
 # The cuts as they were given, each in its slot.
@@ -87,34 +101,92 @@ function take_cut(formed, s, link, where, line) {
     if (failed) return
     next_cut = s * MOST_LINKS + link + 1
     if (first_cut == "") first_cut = s + 0
-    note_cut(s + 0, link + 0)
+    cut[link + 0] = s + 0
 }
 
-# They are those of this listing only if it shows no link as cut that is whole by them, and none as whole that is cut.
+# They are those of this listing only if it shows no link as whole that they name and that is cut by then, and if each link that it shows as cut is
+# named, or is the other way of a cable that is.
 function all_agree(    s, m) {
-    for (s = 0; s < slots; s++) {
-        if (tags[s] > most_tags) most_tags = tags[s]
+    for (s = 0; s < slots; s++)
         for (m = 0; m < lanes; m++) agrees(s, m, kind[s, m], number[s, m])
-    }
+    if (!failed) find_cables()
+    if (!failed) show_cuts()
 }
 
 function agrees(s, m, k, n) {
-    if ((k == 6 || k == 7) && !is_cut(s, n)) not_these("link " n " is cut in slot " s)
-    if ((k == 1 || k == 2 || k == 3) && is_cut(s, n)) not_these("link " n " is whole in slot " s)
-    if (turned[m] == s && s > 0 && kind[s - 1, m] == 1 && !is_cut(s, number[s - 1, m])) not_these("link " number[s - 1, m] " is cut in slot " s)
+    if (k == 6 || k == 7) shown_cut(s, n)
+    if (k == 1 || k == 2 || k == 3) shown_whole(s, n)
+    if (turned[m] == s && s > 0 && kind[s - 1, m] == 1) shown_cut(s, number[s - 1, m])
     if (turned[m] == s && (first_cut == "" || first_cut > s)) not_these("message " m " turns in slot " s)
 }
 
-function is_cut(s, link) { return link in cut && cut[link] <= s }
+# Of a link that is not named it keeps the first slot that shows it as cut, and the last that shows it as whole.
+function shown_cut(s, e) {
+    if (e in cut && cut[e] > s) not_these("link " e " is cut in slot " s)
+    if (!(e in cut) && !(e in seen_cut)) seen_cut[e] = s
+}
+
+function shown_whole(s, e) {
+    if (e in cut && cut[e] <= s) not_these("link " e " is whole in slot " s)
+    if (!(e in cut)) seen_whole[e] = s
+}
+
+# Each link that is shown as cut and not named gets a cable of its own, of which it can be the other way. It takes the lowest that is free, or else one
+# whose link can take another in its stead, and so on: each cable is tried once, so all links get one if that can be done at all. Then each link
+# is asked for another cable than its own. If there is none, its cable is known.
+function find_cables(    e, d) {
+    for (e = 0; e < MOST_LINKS; e++)
+        if (e in seen_cut && !gets_cable(e, -1))
+            not_these("link " e " is cut in slot " seen_cut[e] ": they do not name it, and no cable that they name is left of which it could be the other way")
+    for (e = 0; e < MOST_LINKS; e++) {
+        if (!(e in seen_cut)) continue
+        d = cable_of[e]
+        delete other_of[d]
+        known[e] = !gets_cable(e, d)
+        if (known[e]) other_of[d] = e
+    }
+}
+
+# A cable for link e, which must not be the cable `not_it`.
+function gets_cable(e, not_it) {
+    split("", tried)
+    barred_link = e
+    barred_cable = not_it
+    return takes_cable(e)
+}
+
+function takes_cable(e,    d) {
+    for (d = 0; d < e; d++) {
+        if (d in tried || !can_be(d, e)) continue
+        tried[d] = 1
+        if (d in other_of && !takes_cable(other_of[d])) continue
+        other_of[d] = e
+        cable_of[e] = d
+        return 1
+    }
+    return 0
+}
+
+# Link e can be the other way of cable d, which is named by its lower link: it is not shown as cut before the cable is, nor as whole from then on.
+function can_be(d, e) {
+    if (e == barred_link && d == barred_cable) return 0
+    return d in cut && cut[d] <= seen_cut[e] && !(e in seen_whole && seen_whole[e] >= cut[d])
+}
+
+# A tag for each cut in its slot, and for the other way of a cable too if the listing shows it as cut: where the cable is known in the cable's slot,
+# else in the first slot that shows it.
+function show_cuts(    e) {
+    for (e = 0; e < MOST_LINKS; e++) {
+        if (e in cut) add_tag(cut[e], e, "")
+        else if (e in seen_cut) {
+            other_ways++
+            if (known[e]) add_tag(cut[cable_of[e]], e, "link " cable_of[e])
+            else add_tag(seen_cut[e], e, "a cut cable")
+        }
+    }
+}
 
 function not_these(why) { nothing("these are not the cuts of this listing, in which " why ".\n" again) }
-
-function note_cut(s, link) {
-    if (link in cut) return
-    cut[link] = s
-    named++
-    tag[s, tags[s]++] = link
-}
 
 # A message that crosses a link in the last slot may have come to its target with it; how many of them did is known from
 # the last line, which of them only if all or none did.
@@ -168,7 +240,7 @@ function lay_out(    s) {
     ITEM = 370
     if (width < 2 * (MARGIN + ITEM)) width = 2 * (MARGIN + ITEM)
     columns = int((width - 2 * MARGIN) / ITEM)
-    rows = int((12 + columns - 1) / columns)
+    rows = int((12 + (other_ways > 0) + columns - 1) / columns)
     height = bottom + 34 + rows * 26 + 10
 }
 
@@ -257,7 +329,7 @@ function draw_head() {
     print ".k7 rect{fill:#8a1616;stroke:#5a0c0c}.k7 text{fill:#fff}"
     print ".turn{fill:#000;stroke:#fff;stroke-width:1}"
     print ".hold{fill:none;stroke:#1a1a1a;stroke-width:1.5}.hold.k4{stroke-dasharray:3 2}.head{fill:#1a1a1a}"
-    print ".tag rect{fill:#fff;stroke:#b00020;stroke-width:1.5}.tag polygon{fill:#b00020}.tag text{font-weight:bold;font-size:12px}"
+    print ".tag rect{fill:#fff;stroke:#b00020;stroke-width:1.5}.tag polygon{fill:#b00020}.tag text{font-weight:bold;font-size:12px}.tag.other rect{stroke-dasharray:4 3}"
     print ".fate rect{fill:#fff;stroke:#7a7a76}.fate.lost rect{fill:#1a1a1a;stroke:#1a1a1a}.fate.lost text{fill:#fff;font-weight:bold}"
     print ".fate.open rect{stroke-dasharray:4 3}"
     print ".soft{fill:#5c5c58}"
@@ -287,13 +359,14 @@ function draw_axes(    s, m) {
 function draw_slot(s, y) { printf "<text x=\"%d\" y=\"%d\" class=\"slot\">%d</text>\n", left[s] + wide / 2, y, s }
 
 function draw_tags(s,    i) {
-    for (i = 0; i < tags[s]; i++) draw_tag(left[s] + wide / 2, 86 + i * (TAG + 2), tag[s, i])
+    for (i = 0; i < tags[s]; i++) draw_tag(left[s] + wide / 2, 86 + i * (TAG + 2), tag[s, i], way_of[s, i])
 }
 
-# A bolt and the link's number.
-function draw_tag(x, y, link,    l) {
+# A bolt and the link's number; dashed if the link is the other way of something.
+function draw_tag(x, y, link, way,    l) {
     l = x - 17
-    printf "<g class=\"tag\"><title>link %s is cut</title><rect x=\"%d\" y=\"%d\" width=\"34\" height=\"%d\" rx=\"3\"/>", link, l, y, TAG
+    printf "<g class=\"tag%s\"><title>link %s is cut%s</title>", (way == "" ? "" : " other"), link, (way == "" ? "" : ", the other way of " way)
+    printf "<rect x=\"%d\" y=\"%d\" width=\"34\" height=\"%d\" rx=\"3\"/>", l, y, TAG
     printf "<polygon points=\"%d,%d %d,%d %d,%d %d,%d %d,%d %d,%d\"/>", \
         l + 9, y + 2, l + 4, y + 10, l + 8, y + 10, l + 6, y + 16, l + 12, y + 7, l + 8, y + 7
     printf "<text x=\"%d\" y=\"%d\">%s</text></g>\n", l + 22, y + 14, link
@@ -371,12 +444,15 @@ function draw_legend(    k) {
     printf "<rect x=\"%d\" y=\"%d\" width=\"24\" height=\"20\" rx=\"3\" fill=\"#fff\" stroke=\"#7a7a76\"/>", item_x(8), item_y(8)
     draw_turn(item_x(8), item_y(8))
     draw_words(8, "turn: from here on its second path")
-    draw_tag(item_x(9) + 13, item_y(9) + 1, "n")
-    draw_words(9, cuts == "" ? "link n is cut, first seen here (?: not named)" : "link n is cut from this slot on")
+    draw_tag(item_x(9) + 13, item_y(9) + 1, "n", "")
+    draw_words(9, listed ? "the cable of link n is cut from this slot on" : "link n is cut, first seen here (?: not named)")
     draw_arrow(item_x(10) + 26, item_y(10) + 16, item_x(10) + 2, item_y(10) + 5, "5 sample")
     draw_words(10, "from H to the message that goes first")
     draw_arrow(item_x(11) + 26, item_y(11) + 16, item_x(11) + 2, item_y(11) + 5, "4 sample")
     draw_words(11, "from T to the message in the table")
+    if (!other_ways) return
+    draw_tag(item_x(12) + 13, item_y(12) + 1, "n", "a cut cable")
+    draw_words(12, "link n is cut too, the other way of a cut cable")
 }
 
 # The legend goes down its columns.

@@ -63,6 +63,7 @@ pub fn second_path(row: &[u16], m: usize, p: usize) -> &[u16] {
     &row[index..index + links]
 }
 
+/// A pair slot, link of `cuts` cuts that link and the link with the same ends reversed, if the plan has one; it names the lower of the two.
 pub fn replay(row: &[u16], cuts: &[u16], events: &mut [u16]) -> Result<usize, Refusal> {
     told(|place, at, step, result| unsafe {
         nuthatchet_replay(row.as_ptr(), row.len(), cuts.as_ptr(), cuts.len(), events.as_mut_ptr(), events.len(), place, at, step, result)
