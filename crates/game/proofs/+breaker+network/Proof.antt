@@ -129,7 +129,7 @@ breaker-slice-aggregate-first-worth : (t : ℕ) → breaker-lts.Need-slice-aggre
     breaker-Inv-loop breaker-μ-loop
 breaker-slice-aggregate-first-worth t c =
     let start = c .before .before .before .before .before .before .before .before .before .before .before .before in
-    sym (start .pre .1 .turn .holding .size)
+    sym (start .pre .1 .turn .holding .shut)
 
 breaker-first-worth-requires : (t : ℕ) → breaker-lts.Need-first-worth-requires (breaker-calls t) (breaker-at t) breaker.Post breaker-Inv-loop
     breaker-μ-loop
@@ -161,7 +161,7 @@ breaker-slice-aggregate-next-link : (t : ℕ) → breaker-lts.Need-slice-aggrega
 breaker-slice-aggregate-next-link t c =
     let start = c .before .before .before .before .before .before .before .before .before .before .before .before .before .before .before
     .before .before in
-    sym (start .pre .1 .turn .holding .size)
+    sym (start .pre .1 .turn .holding .shut)
 
 breaker-later-requires : (t : ℕ) → breaker-lts.Need-later-requires (breaker-calls t) (breaker-at t) breaker.Post breaker-Inv-loop breaker-μ-loop
 breaker-later-requires t c κs = search needs
@@ -257,7 +257,7 @@ breaker-slice-aggregate-next-link-2 : (t : ℕ) → breaker-lts.Need-slice-aggre
 breaker-slice-aggregate-next-link-2 t c =
     let start = c .before .before .before .before .before .before .before .before .before .before .before .before .before .before .before
     .before .before .before .before .before .before .before .before .before .before .before in
-    sym (start .pre .1 .turn .holding .size)
+    sym (start .pre .1 .turn .holding .shut)
 
 breaker-add-next-link : (t : ℕ) → breaker-lts.Need-add-next-link (breaker-calls t) (breaker-at t) breaker.Post breaker-Inv-loop breaker-μ-loop
 breaker-add-next-link t c =

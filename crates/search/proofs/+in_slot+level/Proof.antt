@@ -146,7 +146,7 @@ in-slot-slice-aggregate-next-link-2 : (t : ℕ) →
     in-slot-lts.Need-slice-aggregate-next-link-2 (in-calls t) (in-slot-at t) in-slot.Post in-inv in-less
 in-slot-slice-aggregate-next-link-2 t c =
     sym (c .before .before .before .before .before .before .before .before .before .before .before .before .before .before .before .before .pre
-    .1 .holding .size)
+    .1 .holding .shut)
 
 in-slot-add-next-link : (t : ℕ) → in-slot-lts.Need-add-next-link (in-calls t) (in-slot-at t) in-slot.Post in-inv in-less
 in-slot-add-next-link t c =
@@ -224,7 +224,7 @@ level-slice-aggregate-next-link : (t : ℕ) →
     level-lts.Need-slice-aggregate-next-link (level-calls t) (level-at t) level.Post level-inv level-less
 level-slice-aggregate-next-link t c =
     sym
-    (c .before .before .before .before .before .before .before .before .before .before .before .before .before .before .pre .1 .holding .size)
+    (c .before .before .before .before .before .before .before .before .before .before .before .before .before .before .pre .1 .holding .shut)
 
 level-next-link-requires : (t : ℕ) → level-lts.Need-next-link-requires (level-calls t) (level-at t) level.Post level-inv level-less
 level-next-link-requires t c κs = (
