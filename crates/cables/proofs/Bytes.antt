@@ -26,6 +26,7 @@ module _ (others : List ℕ) where
   abbrev mark : ℕ → ℕ
   mark e = cond (ltb (otherIn others e) e) 1 0
 
+  -- the list of these bytes
   higher-length : (n e : ℕ) → length (higherFrom others n e) ≡ n
   unfolding higherFrom
   higher-length zero e = refl
@@ -36,6 +37,12 @@ module _ (others : List ℕ) where
   higher-at zero e i h = absurd (omega arith)
   higher-at (suc n) e zero h = ap mark (omega arith)
   higher-at (suc n) e (suc i) h = higher-at n (e + 1) i (omega arith) ∙ ap mark (omega arith)
+
+  pub higher-size : length (higherOf others) ≡ mostLinks
+  higher-size = higher-length mostLinks 0
+
+  pub higher-is : (e : ℕ) → e < mostLinks → getD (higherOf others) e 0 ≡ mark e
+  higher-is e l = higher-at mostLinks 0 e l ∙ ap mark (omega arith)
 
   -- a loop at link e: the bytes below are put, the others are 0
   pub record Marking (e : ℕ) (those : List ℕ) : Type 0 where
@@ -74,8 +81,8 @@ module _ (others : List ℕ) where
 
   pub marking-done : (e : ℕ) (those : List ℕ) → mostLinks ≤ e → Marking e those → those ≡ higherOf others
   marking-done e those h g =
-      ext-getD 0 those (higherOf others) (g .long ∙ sym (higher-length mostLinks 0))
-      (λ d l. g .below d (omega (arith, g .long)) ∙ sym (higher-at mostLinks 0 d (omega (arith, g .long)) ∙ ap mark (omega arith)))
+      ext-getD 0 those (higherOf others) (g .long ∙ sym higher-size)
+      (λ d l. g .below d (omega (arith, g .long)) ∙ sym (higher-is d (omega (arith, g .long))))
 
 module _ (plan : Plan) where
   -- a loop at link e: the bytes below are found, and each byte is of a link

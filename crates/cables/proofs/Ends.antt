@@ -127,6 +127,7 @@ module _ (row : List ℕ) (lies : PlanLies row) where
   -- the other way of a link: it is the link itself, or the byte of the ends reversed less one
   module _ (e from to : ℕ) (table : List ℕ) (h : e < linkCount row) (f : Number row (e * 2 + 5) from) (t : Number row (e * 2 + 6) to)
       (g : EndsFrom (planOf row) 0 table) where
+    -- what that byte is, and that the other way is a link of so few
     byte-is : getD table (endsIndex to from) 0 ≡ lowestFrom (planOf row) (linkOf (planOf row) e .to) (linkOf (planOf row) e .from) 0
     byte-is = let are = ends-are e from to h f t in g .is to from (are .2) (are .1) ∙ rw (are .0)
 

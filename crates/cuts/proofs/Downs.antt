@@ -15,6 +15,7 @@ use Rattle.scope.proofs.Some.{some-more}
 use Rattle.cables.specs.Others.{otherIn}
 use Rattle.cuts.specs.Down.{isDown, withLink, withCable, withPair, DownIn}
 
+-- a link past the list is whole
 pub down-past : (down : List ℕ) (e : ℕ) → length down ≤ e → isDown down e ≡ false
 down-past down e h = ap (ltb 0) (List·getD-eq-default down 0 h)
 
@@ -53,6 +54,7 @@ module _ (others cuts : List ℕ) (i : ℕ) where
     pub long : length down ≡ mostLinks
     pub is : (e : ℕ) → e < mostLinks → isDown down e ≡ some (cutBy e) j
 
+  -- it begins, it goes on, it is done
   pub told-none : Told 0 (replicate {A = ℕ} mostLinks 0)
   unfolding seek
   told-none =
