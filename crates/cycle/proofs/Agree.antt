@@ -2,26 +2,25 @@
 -- slot of a cycle. So a cycle over the one is a cycle over the other.
 use Prim.Native.Nat.{ℕ, zero, suc, _+_, _≤_, _<_}
 use mathlib.Core.Path.{_≡_, refl, sym, _∙_, ap, fun-ext}
-use mathlib.Core.Bool.{Bool, true, false, not, cond, _&&_, _||_}
+use mathlib.Core.Bool.{Bool, true, false, _&&_, _||_}
 use mathlib.Core.List.{List, _++_}
 use native.Mathlib.Omega.{arith}
 use lib.ListN.{length}
 use lib.Dec.{ltb, leb, eqb}
 use borrow.Author.Tests.{ne-eqb, ltb-true, ltb-false}
 use Rattle.scope.specs.Limits.{mostLinks, mostSlots}
-use Rattle.scope.specs.Lowest.{lowest, some}
-use Rattle.scope.specs.Outcome.{gives, refuse}
+use Rattle.scope.specs.Lowest.{some}
+use Rattle.scope.specs.Outcome.{gives}
 use Rattle.scope.specs.Plan.{Plan, at, placesAt, placeSize, placeCount, afterPlaces, messageCount, planOf, pathOf}
 use Rattle.scope.specs.SecondPath.{messageIndex}
 use Rattle.scope.specs.Good.{holds}
 use Rattle.scope.specs.Cables.{otherWay}
-use Rattle.scope.specs.Cuts.{pairs, cutLink, cutSlot, badPair, checkCuts, isCutList, cutsLink, isCut}
+use Rattle.scope.specs.Cuts.{pairs, cutLink, cutSlot, checkCuts, isCutList, cutsLink, isCut}
 use Rattle.scope.specs.Slot as S
 use Rattle.scope.specs.Cycle.{tableOf, slot, nexts, numbers, positions, events}
-use Rattle.scope.proofs.Outcomes.{not-both}
 use Rattle.scope.proofs.Some.{none, some-same}
 use Rattle.scope.proofs.Cables.{other-below}
-use Rattle.scope.proofs.Cuts.{link-below}
+use Rattle.scope.proofs.Cuts.{is-list, link-below}
 use Rattle.rows.specs.Lies.{PlanLies}
 use Rattle.rows.proofs.Parts.{message-count, path-at}
 use Rattle.table.specs.Table.{Table, entryAt}
@@ -57,12 +56,7 @@ module _ (rank : ℕ → ℕ) (down down′ : ℕ → ℕ → Bool) (owner owner
 -- a list without a bad pair cuts what is down, and no link that the plan does not have
 module _ (plan : Plan) (cuts : List ℕ) (n : ℕ) (good : checkCuts plan cuts ≡ gives n) where
   listed : isCutList plan cuts ≡ true
-  unfolding checkCuts
-  listed = by (some (badPair plan cuts) (pairs cuts)) good
-    where
-      by : (t : Bool) → cond t (refuse 12 (lowest (badPair plan cuts) (pairs cuts))) (gives (pairs cuts)) ≡ gives n → not t ≡ true
-      by true g = not-both g
-      by false g = refl
+  listed = is-list plan cuts n good
 
   cut-none : (i e : ℕ) → length (plan .links) ≤ e → isCut plan cuts i e ≡ false
   unfolding isCut cutsLink

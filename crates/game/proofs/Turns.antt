@@ -339,7 +339,8 @@ module _ (row table touchSets stripSets weights most : List ℕ) (z : Sizes) (hi
           this-pair : (k : ℕ) → k < n → NoneOf (planOf row) (Fails (planOf row) r) (cutsOf p ++ s ∷ i ∷ []) k
           this-pair k h =
               rw more-cuts at
-              (all-of (planOf row) links-few (cutsOf (withPair z p s i)) (p .count + 1) (code s (i + 1)) (holds .chosen) (n - 1) r (told .leave) k
+              (all-of (planOf row) links-few (cutsOf (withPair z p s i)) (p .count + 1) (code s (i + 1)) (holds .chosen) (n - 1) r
+              (told .leave) k
               (omega arith))
 
           pub still-low : r ≤ z .messages

@@ -43,7 +43,8 @@ module _ (row table touchSets stripSets weights most : List ℕ) (z : Sizes) (ps
   ends-least r turned =
       let t : Turned row (noPair z) k (code 0 0) least r = rw is at turned in
       let none : 0 + k ≡ k = omega arith in (
-        is-least (planOf row) (omega (arith, m .board .play .links, m .board .play .few)) k r least (holding-none row table z (m .board .play) .chosen) (t .leave)
+        is-least (planOf row) (omega (arith, m .board .play .links, m .board .play .few)) k r least
+            (holding-none row table z (m .board .play) .chosen) (t .leave)
             (m .reached) (t .low) (λ h. subst (λ (n : ℕ). Reached (planOf row) n r) none (t .reached h)),
         t .low,
       )

@@ -31,7 +31,8 @@ module _ (plan : Plan) (g : rules plan ≡ gives 0) where
   good-each = cuts-each plan links-once
 
   -- where a link is cut, the other way of it is
-  pub cut-back : (cuts : List ℕ) → isCutList plan cuts ≡ true → (i e : ℕ) → isCut plan cuts i e ≡ true → isCut plan cuts i (otherWay plan e) ≡ true
+  pub cut-back : (cuts : List ℕ) → isCutList plan cuts ≡ true → (i e : ℕ) → isCut plan cuts i e ≡ true →
+      isCut plan cuts i (otherWay plan e) ≡ true
   cut-back cuts good i e h =
       let c = cut-pair plan cuts i e h in
       is-cut plan cuts i (otherWay plan e) (c .0) (c .1)

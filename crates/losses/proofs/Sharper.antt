@@ -13,6 +13,6 @@ use Rattle.losses.specs.Strips.{fragileOf, fragilePaths, cutsOneOf, thro
 use Rattle.losses.specs.Sharper.{Sharper}
 
 pub sharper : Sharper
-unfolding seek numbersAt linksAt placesAt afterPlaces messagesAt planOf has holds otherWay cutsLink isCut foremost tableOf moves slot positions entriesOf entries
-    hasSecondThrough lowerThrough delay sumOf fragileOf fragilePaths cutsOneOf throughRobust
+unfolding seek numbersAt linksAt placesAt afterPlaces messagesAt planOf has holds otherWay cutsLink isCut foremost tableOf moves slot
+    positions entriesOf entries hasSecondThrough lowerThrough delay sumOf fragileOf fragilePaths cutsOneOf throughRobust
 sharper = record { touched = refl; notStripped = refl; touchedByBoth = refl; strippedByBoth = refl; lostByBoth = refl }

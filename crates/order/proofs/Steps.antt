@@ -34,7 +34,8 @@ split {P} a b lower other = by (ltb a b) refl
 -- a list with one pair more, at the place where the next one is to be chosen
 pub picked : (plan : Plan) → length (plan .links) ≤ mostLinks → (pre : List ℕ) (d lo s e : ℕ) → Chosen plan pre d lo →
     lo ≤ code s e → s < plan .timeout →
-    e < length (plan .links) → ((j : ℕ) → j < d → cutLink pre j ≡ e → ⊥) → isHigher plan e ≡ false → Chosen plan (pre ++ s ∷ e ∷ []) (d + 1) (code s (e + 1))
+    e < length (plan .links) → ((j : ℕ) → j < d → cutLink pre j ≡ e → ⊥) → isHigher plan e ≡ false →
+    Chosen plan (pre ++ s ∷ e ∷ []) (d + 1) (code s (e + 1))
 picked plan small pre d lo s e c h hs he new low =
     let y : List ℕ = s ∷ e ∷ [] in
     let z : d + 0 ≡ d = omega arith in

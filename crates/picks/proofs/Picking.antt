@@ -15,7 +15,8 @@ use Rattle.scope.specs.Cables.{otherWay, isHigher}
 use Rattle.scope.specs.Cuts.{pairs, cutLink, cutsLink, isCut}
 use Rattle.scope.proofs.Bools.{or-left, or-right}
 use Rattle.laws.proofs.Cuts.{no-cuts}
-use Rattle.cables.specs.Others.{otherIn, higherFrom}
+use Rattle.cables.specs.Others.{otherIn}
+use Rattle.cables.proofs.Bytes.{higher-size, higher-is}
 use Rattle.cuts.specs.Down.{isDown}
 use Rattle.step.specs.declared.Standing.{Standing}
 use Rattle.order.specs.Search.{code, Not}
@@ -34,26 +35,6 @@ noughts zero w = refl
 noughts (suc k) zero = refl
 noughts (suc k) (suc w) = noughts k w
 
--- which links are the higher ones of their cables
-higher-at : (others : List ℕ) (n e i : ℕ) → i < n → isDown (higherFrom others n e) i ≡ ltb (otherIn others (e + i)) (e + i)
-unfolding higherFrom
-higher-at others zero e i l = absurd (omega arith)
-higher-at others (suc n) e zero l =
-    let at : e ≡ e + 0 = omega arith in
-    one (ltb (otherIn others e) e) ∙ ap (λ (d : ℕ). ltb (otherIn others d) d) at
-  where
-    one : (b : Bool) → ltb 0 (cond b 1 0) ≡ b
-    one true = refl
-    one false = refl
-higher-at others (suc n) e (suc i) l =
-    let at : e + 1 + i ≡ e + suc i = omega arith in
-    higher-at others n (e + 1) i (omega arith) ∙ ap (λ (d : ℕ). ltb (otherIn others d) d) at
-
-higher-length : (others : List ℕ) (n e : ℕ) → length (higherFrom others n e) ≡ n
-unfolding higherFrom
-higher-length others zero e = refl
-higher-length others (suc n) e = ap suc (higher-length others n (e + 1))
-
 pub holding-none : (row table : List ℕ) (z : Sizes) → Playable row table z → Holding row z (noPair z)
 unfolding seek
 holding-none row table z y =
@@ -70,13 +51,16 @@ holding-none row table z y =
           };
       size = refl;
       down = λ i e h. ap (ltb 0) (noughts mostLinks e) ∙ sym (ap (λ (f : ℕ → ℕ → Bool). f i e) (no-cuts (planOf row)));
-      shut = higher-length (z .others) mostLinks 0;
+      shut = higher-size (z .others);
       closed = λ e l.
-          let at : 0 + e ≡ e = omega arith in
-          higher-at (z .others) mostLinks 0 e (omega (arith, y .few)) ∙ ap (λ (d : ℕ). ltb (otherIn (z .others) d) d) at ∙
+          ap (ltb 0) (higher-is (z .others) e (omega (arith, y .few))) ∙ is-mark (ltb (otherIn (z .others) e) e) ∙
           ap (λ (d : ℕ). ltb d e) (y .others .is e (omega (arith, y .links)));
       past = λ i h. noughts (2 * mostCuts) i;
     }
+  where
+    is-mark : (b : Bool) → ltb 0 (cond b 1 0) ≡ b
+    is-mark true = refl
+    is-mark false = refl
 
 -- a list that ends in zeros, and two of them
 pub zeros-after : (l : List ℕ) (size n : ℕ) → length l ≡ size → ((i : ℕ) → n ≤ i → getD l i 0 ≡ 0) → l ≡ take n l ++ replicate (size - n) 0

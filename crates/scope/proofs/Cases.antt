@@ -25,8 +25,8 @@ use Rattle.scope.proofs.First.{every, spared, before-one, before-two}
 
 -- "A: cuts (0,0), (0,2): .. this is the list for k 2, l 1"
 first-of-A : FirstFailing (planOf rowA) 2 1 (0 ∷ 0 ∷ 0 ∷ 2 ∷ [])
-unfolding every spared earlier seek isCut cutsLink otherWay foremost tableOf moves slot positions arrived arrivals numbersAt linksAt placesAt afterPlaces
-    messagesAt afterMessages planOf holds
+unfolding every spared earlier seek isCut cutsLink otherWay foremost tableOf moves slot positions arrived arrivals numbersAt linksAt
+    placesAt afterPlaces messagesAt afterMessages planOf holds
 first-of-A =
     record {
       good = refl;
@@ -36,8 +36,8 @@ first-of-A =
     }
 
 first-of-late : FirstFailing (planOf rowLate) 1 2 (2 ∷ 0 ∷ [])
-unfolding every spared earlier seek isCut cutsLink otherWay foremost tableOf moves slot positions arrived arrivals numbersAt linksAt placesAt afterPlaces
-    messagesAt afterMessages planOf holds
+unfolding every spared earlier seek isCut cutsLink otherWay foremost tableOf moves slot positions arrived arrivals numbersAt linksAt
+    placesAt afterPlaces messagesAt afterMessages planOf holds
 first-of-late =
     record {
       good = refl;
@@ -47,8 +47,8 @@ first-of-late =
     }
 
 first-of-order : FirstFailing (planOf rowOrder) 1 3 (0 ∷ 3 ∷ [])
-unfolding every spared earlier seek isCut cutsLink otherWay foremost tableOf moves slot positions arrived arrivals numbersAt linksAt placesAt afterPlaces
-    messagesAt afterMessages planOf holds
+unfolding every spared earlier seek isCut cutsLink otherWay foremost tableOf moves slot positions arrived arrivals numbersAt linksAt
+    placesAt afterPlaces messagesAt afterMessages planOf holds
 first-of-order =
     record {
       good = refl;
@@ -58,8 +58,8 @@ first-of-order =
     }
 
 first-of-both-ways : FirstFailing (planOf rowBothWays) 1 1 (0 ∷ 0 ∷ [])
-unfolding every spared earlier seek isCut cutsLink otherWay foremost tableOf moves slot positions arrived arrivals numbersAt linksAt placesAt afterPlaces
-    messagesAt afterMessages planOf holds
+unfolding every spared earlier seek isCut cutsLink otherWay foremost tableOf moves slot positions arrived arrivals numbersAt linksAt
+    placesAt afterPlaces messagesAt afterMessages planOf holds
 first-of-both-ways =
     record {
       good = refl;
@@ -69,8 +69,8 @@ first-of-both-ways =
     }
 
 first-of-goes-back : FirstFailing (planOf rowGoesBack) 2 1 (0 ∷ 0 ∷ 0 ∷ 1 ∷ [])
-unfolding every spared earlier seek isCut cutsLink otherWay foremost tableOf moves slot positions arrived arrivals numbersAt linksAt placesAt afterPlaces
-    messagesAt afterMessages planOf holds
+unfolding every spared earlier seek isCut cutsLink otherWay foremost tableOf moves slot positions arrived arrivals numbersAt linksAt
+    placesAt afterPlaces messagesAt afterMessages planOf holds
 first-of-goes-back =
     record {
       good = refl;
@@ -80,9 +80,10 @@ first-of-goes-back =
     }
 
 pub cases : All table
-unfolding seek bitsOf bits numberFrom bytesOf walkBits fieldsOf zeros endsAt walkFile rowOf packed fileOf walkFrom walkRow numbersAt linksAt
-    placesAt afterPlaces messagesAt afterMessages planOf has visited slotsRise holds taken rules checkCuts isCut cutsLink otherWay foremost tableOf moves slot
-    numbers positions events arrived arrivals eventRow entriesOf entries hasSecondThrough lowerThrough delay judge readFile writeFile replay mayJudge maySpare slack
+unfolding seek bitsOf bits numberFrom bytesOf walkBits fieldsOf zeros endsAt walkFile rowOf packed fileOf walkFrom walkRow numbersAt
+    linksAt placesAt afterPlaces messagesAt afterMessages planOf has visited slotsRise holds taken rules checkCuts isCut cutsLink otherWay
+    foremost tableOf moves slot numbers positions events arrived arrivals eventRow entriesOf entries hasSecondThrough lowerThrough delay judge
+    readFile writeFile replay mayJudge maySpare slack
 cases = (
   (refl, refl, refl, refl),
   (
@@ -131,9 +132,10 @@ cases = (
 )
 
 pub own-cases : All ownTable
-unfolding seek bitsOf bits numberFrom bytesOf walkBits fieldsOf zeros endsAt walkFile rowOf packed fileOf walkFrom walkRow numbersAt linksAt
-    placesAt afterPlaces messagesAt afterMessages planOf has visited slotsRise holds taken rules checkCuts isCut cutsLink otherWay foremost tableOf moves slot
-    numbers positions events arrived arrivals eventRow entriesOf entries hasSecondThrough lowerThrough delay judge readFile writeFile replay mayJudge checkCapture mayExplain maySpare slack
+unfolding seek bitsOf bits numberFrom bytesOf walkBits fieldsOf zeros endsAt walkFile rowOf packed fileOf walkFrom walkRow numbersAt
+    linksAt placesAt afterPlaces messagesAt afterMessages planOf has visited slotsRise holds taken rules checkCuts isCut cutsLink otherWay
+    foremost tableOf moves slot numbers positions events arrived arrivals eventRow entriesOf entries hasSecondThrough lowerThrough delay judge
+    readFile writeFile replay mayJudge checkCapture mayExplain maySpare slack
 own-cases = (
   (refl, first-of-late),
   (
@@ -146,23 +148,24 @@ own-cases = (
 )
 
 pub path-cases : All pathTable
-unfolding seek walkFrom walkRow numbersAt linksAt placesAt afterPlaces messagesAt afterMessages planOf has visited slotsRise holds taken rules
-    judge
+unfolding seek walkFrom walkRow numbersAt linksAt placesAt afterPlaces messagesAt afterMessages planOf has visited slotsRise holds taken
+    rules judge
 path-cases =
     (refl, (refl, (refl, (refl, (refl, (refl, (refl, (refl, (refl, (refl, (refl, (refl, (refl, (refl, (refl, (refl, (refl, tt)))))))))))))))))
 
 pub shelf-cases : All shelfTable
 unfolding seek bitsOf bits numberFrom bytesOf walkBits fieldsOf zeros endsAt walkFile rowOf walkFrom walkRow numbersAt linksAt placesAt
-    afterPlaces messagesAt afterMessages planOf has visited slotsRise holds taken rules isCut cutsLink otherWay foremost tableOf moves slot arrived judge readFile
-    breaker leastFrom figure figures figureOf figuresOf digits spaced parted namesOf checkNames rate unharmed lossSum ratedText planLines
-    sumLines sheet shelfText
+    afterPlaces messagesAt afterMessages planOf has visited slotsRise holds taken rules isCut cutsLink otherWay foremost tableOf moves slot
+    arrived judge readFile breaker leastFrom figure figures figureOf figuresOf digits spaced parted namesOf checkNames rate unharmed lossSum
+    ratedText planLines sumLines sheet shelfText
 shelf-cases =
     ((refl, refl), ((refl, refl), ((refl, refl), ((refl, refl), ((refl, refl), ((refl, refl), ((refl, refl), (refl, (refl, (refl, tt))))))))))
 
 pub cable-cases : All cableTable
-unfolding seek numberFrom bytesOf walkFrom walkRow numbersAt linksAt placesAt afterPlaces messagesAt afterMessages planOf has visited slotsRise
-    holds taken rules checkCuts isCut cutsLink otherWay foremost tableOf moves slot numbers positions events arrived arrivals eventRow entriesOf
-    entries hasSecondThrough lowerThrough delay judge replay mayJudge breaker leastFrom figure figures figuresOf maySpare slack
+unfolding seek numberFrom bytesOf walkFrom walkRow numbersAt linksAt placesAt afterPlaces messagesAt afterMessages planOf has visited
+    slotsRise holds taken rules checkCuts isCut cutsLink otherWay foremost tableOf moves slot numbers positions events arrived arrivals
+    eventRow entriesOf entries hasSecondThrough lowerThrough delay judge replay mayJudge breaker leastFrom figure figures figuresOf maySpare
+    slack
 cable-cases = (
   (refl, refl),
   (

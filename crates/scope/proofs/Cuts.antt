@@ -1,18 +1,29 @@
 -- What a cut list without a bad pair is, pair by pair.
 use Prim.Native.Nat.{ℕ, _+_, _-_, _*_, _<_, _≤_}
 use mathlib.Core.Path.{_≡_, refl}
-use mathlib.Core.Bool.{Bool, true, false, not}
+use mathlib.Core.Bool.{Bool, true, false, cond, not}
 use mathlib.Core.List.{List}
 use native.Mathlib.Omega.{arith}
 use lib.ListN.{length}
 use lib.Dec.{ltb, eqb}
 use borrow.Author.Tests.{ltb-true, ltb-false, eqb-false}
 use Rattle.scope.specs.Lowest.{lowest, some}
+use Rattle.scope.specs.Outcome.{gives, refuse}
 use Rattle.scope.specs.Plan.{Plan}
 use Rattle.scope.specs.Cables.{isHigher}
-use Rattle.scope.specs.Cuts.{pairs, cutSlot, cutLink, falls, badPair, isCutList}
+use Rattle.scope.specs.Cuts.{pairs, cutSlot, cutLink, falls, badPair, checkCuts, isCutList}
+use Rattle.scope.proofs.Outcomes.{not-both}
 use Rattle.scope.proofs.Lowest.{seek-low}
 use Rattle.scope.proofs.Bools.{none-of-six, not-true, not-false}
+
+-- a list that is not refused is a cut list
+pub is-list : (plan : Plan) (cuts : List ℕ) (n : ℕ) → checkCuts plan cuts ≡ gives n → isCutList plan cuts ≡ true
+unfolding checkCuts
+is-list plan cuts n h = by (some (badPair plan cuts) (pairs cuts)) h
+  where
+    by : (b : Bool) → cond b (refuse 12 (lowest (badPair plan cuts) (pairs cuts))) (gives (pairs cuts)) ≡ gives n → not b ≡ true
+    by true e = not-both e
+    by false e = refl
 
 module _ (plan : Plan) (cuts : List ℕ) (good : isCutList plan cuts ≡ true) where
   -- no pair of it is bad

@@ -28,8 +28,8 @@ is-other j true = refl
 is-other j false = refl
 
 explains : Explains (planOf rowB) seenB (1 ∷ 0 ∷ [])
-unfolding Explains hasCrossing isCaptured eventRow events numbers seek isCut cutsLink otherWay foremost tableOf moves slot positions numbersAt linksAt placesAt
-    afterPlaces messagesAt afterMessages planOf holds
+unfolding Explains hasCrossing isCaptured eventRow events numbers seek isCut cutsLink otherWay foremost tableOf moves slot positions
+    numbersAt linksAt placesAt afterPlaces messagesAt afterMessages planOf holds
 explains zero e zero l g = is-one 0 (eqb 0 e) refl
 explains zero e (suc zero) l g = is-other 0 (eqb 0 e)
 explains zero e (suc (suc m)) l g = absurd (omega arith)
@@ -47,8 +47,8 @@ explains (suc (suc (suc (suc i)))) e m l g = absurd (omega arith)
 -- the lists that go before: of none of them are these the crossings
 before : (others : List ℕ) → isCutList (planOf rowB) others ≡ true → Explains (planOf rowB) seenB others →
     goesBefore others (1 ∷ 0 ∷ []) ≡ false
-unfolding Explains hasCrossing isCaptured eventRow events numbers seek isCut cutsLink otherWay foremost tableOf moves slot positions numbersAt linksAt placesAt
-    afterPlaces messagesAt afterMessages planOf holds goesBefore earlier
+unfolding Explains hasCrossing isCaptured eventRow events numbers seek isCut cutsLink otherWay foremost tableOf moves slot positions
+    numbersAt linksAt placesAt afterPlaces messagesAt afterMessages planOf holds goesBefore earlier
 before [] g h = absurd (true≢false (h 1 0 1 (lit< tt) (lit< tt)))
 before (a ∷ []) g h = absurd (omega (arith, even (planOf rowB) (a ∷ []) g))
 before (zero ∷ zero ∷ []) g h = absurd (true≢false (h 0 1 0 (lit< tt) (lit< tt)))

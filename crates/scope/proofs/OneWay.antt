@@ -63,7 +63,8 @@ module _ (plan : Plan) (none : NoReversedLinks plan) where
   same-arrivals : (cuts : List ℕ) → isCutList plan cuts ≡ true → arrivals plan cuts ≡ arrivalsOneWay plan cuts
   unfolding arrivals
   same-arrivals cuts good =
-      ap (λ (down : ℕ → ℕ → Bool). arrived (positions (orderOf plan) down (tableOf plan) 0 (plan .timeout) (start plan))) (same-cut cuts good)
+      ap (λ (down : ℕ → ℕ → Bool). arrived (positions (orderOf plan) down (tableOf plan) 0 (plan .timeout) (start plan)))
+      (same-cut cuts good)
 
   pub as-before : AsBefore plan
   unfolding checkCuts eventRow Resistant
@@ -77,7 +78,8 @@ module _ (plan : Plan) (none : NoReversedLinks plan) where
             omega (arith, all cuts (not-true _ (sym (same-lists cuts) ∙ good)) few, same-arrivals cuts good);
         refuses = λ cuts. ap (λ (bad : ℕ → Bool). unlessSome 12 bad (pairs cuts) (gives (pairs cuts))) (fun-ext (same-bad cuts));
         arrives = same-arrivals;
-        tells = λ cuts good. ap (λ (down : ℕ → ℕ → Bool). events (orderOf plan) down (tableOf plan) 0 (plan .timeout) (start plan)) (same-cut cuts good);
+        tells = λ cuts good.
+            ap (λ (down : ℕ → ℕ → Bool). events (orderOf plan) down (tableOf plan) 0 (plan .timeout) (start plan)) (same-cut cuts good);
       }
 
 -- "Plans A and B have no reversed links"

@@ -227,7 +227,8 @@ module _ (row table touchSets stripSets weights most : List ℕ) (a : Asked) (hi
         others = m .ready .play .others .bytes;
       }
 
-  pub may-go-on : (i : ℕ) (q : Picked) (more : Hits) → Looking row weights most a p n s e i rest → i < a .sizes .links → q ≡ withPair (a .sizes) p s i →
+  pub may-go-on : (i : ℕ) (q : Picked) (more : Hits) → Looking row weights most a p n s e i rest → i < a .sizes .links →
+      q ≡ withPair (a .sizes) p s i →
       IsHit touchSets stripSets (a .sizes) hits s i more → MaySeek row table touchSets stripSets weights most a more ps left q (n - 1)
   may-go-on i q more g l is hit =
       record {
@@ -252,7 +253,8 @@ module _ (row table touchSets stripSets weights most : List ℕ) (a : Asked) (hi
       looked row table touchSets stripSets weights most a p n (m .ready) (m .holding) (m .some) (m .few) s e e rest r (m .leaves)
       (omega arith) (m .link) (look-first row table touchSets stripSets weights most a p n (m .ready) (m .holding) (m .some) (m .few) s e) found
 
-  module _ (i : ℕ) (q : Picked) (r : Found) (g : Looking row weights most a p n s e i rest) (l : i < a .sizes .links) (is : q ≡ withPair (a .sizes) p s i)
+  module _ (i : ℕ) (q : Picked) (r : Found) (g : Looking row weights most a p n s e i rest) (l : i < a .sizes .links)
+      (is : q ≡ withPair (a .sizes) p s i)
       (f : Sought row a q (n - 1) r) where
     found : Sought row a (withPair (a .sizes) p s i) (n - 1) r
     found = rw is at f
@@ -314,7 +316,8 @@ module _ (row table touchSets stripSets weights most : List ℕ) (a : Asked) (hi
                 omega (arith, m .ready .play .short);
           }
 
-      pub climbs-stop : (r : Found) (f : ℕ) → r ≡ noFound → f ≡ seek (passes (p .closed) weights most (a .need) rest s) (a .sizes .links - 0) 0 →
+      pub climbs-stop : (r : Found) (f : ℕ) → r ≡ noFound →
+          f ≡ seek (passes (p .closed) weights most (a .need) rest s) (a .sizes .links - 0) 0 →
           a .sizes .links ≤ f → Sought row a p n r
       climbs-stop r f none =
           climb-stop row table touchSets stripSets weights most a p n (m .ready) (m .holding) positive (m .few) s e qs still g r rest f none

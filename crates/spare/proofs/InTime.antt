@@ -1,20 +1,16 @@
 -- A slack of 0 or more means arrival in time, as document 01 says it and as the answers of `slack` and of the replay show it.
 use Prim.Native.Nat.{ℕ}
 use native.Mathlib.Omega.{arith}
-use mathlib.Core.Path.{_≡_, refl}
-use mathlib.Core.Bool.{Bool, true, false, not, cond}
-use mathlib.Core.List.{List}
+use mathlib.Core.Path.{_≡_}
 use lib.ListN.{length, length-map}
 use lib.IntN.{pos}
-use lib.Dec.{ltb}
-use Rattle.scope.specs.Lowest.{lowest}
-use Rattle.scope.proofs.Outcomes.{not-both}
-use Rattle.scope.specs.Outcome.{Outcome, gives, refuse, andThen, room}
-use Rattle.scope.specs.Plan.{Plan, planOf}
+use Rattle.scope.specs.Outcome.{Outcome, gives, andThen, room}
+use Rattle.scope.specs.Plan.{planOf}
 use Rattle.scope.specs.Slot.{onFirst}
-use Rattle.scope.specs.Cuts.{pairs, badPair, checkCuts, isCut, isCutList}
+use Rattle.scope.specs.Cuts.{checkCuts, isCut}
 use Rattle.scope.specs.Cycle.{orderOf, tableOf, start, arrivals, eventRow}
 use Rattle.scope.specs.Questions.{judge, slack, replay}
+use Rattle.scope.proofs.Cuts.{is-list}
 use Rattle.laws.proofs.Replay.{lengths-kept}
 use Rattle.laws.proofs.Slack.{slack-under-cuts}
 use Rattle.rows.proofs.Parts.{message-count}
@@ -34,15 +30,6 @@ slack-in-time row cuts m p s n may is list d =
       among = omega (arith, kept, all, message-count row, a .second .message);
       home = slack-under-cuts plan cuts m p s n (a .good .keeps) (d .leaves) (d .whole) is;
     }
-
--- a list that is not refused is a cut list
-is-list : (plan : Plan) (cuts : List ℕ) (k : ℕ) → checkCuts plan cuts ≡ gives k → isCutList plan cuts ≡ true
-unfolding checkCuts
-is-list plan cuts k h = by (ltb (lowest (badPair plan cuts) (pairs cuts)) (pairs cuts)) h
-  where
-    by : (b : Bool) → cond b (refuse 12 (lowest (badPair plan cuts) (pairs cuts))) (gives (pairs cuts)) ≡ gives k → not b ≡ true
-    by true e = not-both e
-    by false e = refl
 
 pub slack-and-replay : SlackAndReplay
 unfolding replay arrivals
