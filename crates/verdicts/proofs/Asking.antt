@@ -12,6 +12,7 @@ use Rattle.rows.specs.Lies.{PlanLies}
 use Rattle.rows.proofs.Parts.{message-count, link-count, timeout-is}
 use Rattle.rows.proofs.Walked.{walked}
 use Rattle.table.specs.Table.{Table}
+use Rattle.cables.specs.Others.{OtherWays}
 use Rattle.bound.specs.Weights.{HasRoom, MayWeigh, WeighsAll, TopsAll}
 use Rattle.bound.specs.Sets.{SetsOf, StripSetsOf, MayGatherStrips}
 use Rattle.strips.specs.Filled.{MayFill, Filled}
@@ -60,13 +61,22 @@ module _ (row : List ℕ) (good : GoodRow row) where
       pub may-strip : (sets : List ℕ) → length sets ≡ planeSize → MayGatherStrips fragile seconds t sets
       may-strip sets long = record { table = record { entries = f .table .long; few = few-slots t is; long = long }; bytes = f .bytes .long }
 
-      pub may-weigh : (weights : List ℕ) → length weights ≡ weightsSize → MayWeigh table fragile seconds t weights
-      may-weigh weights heavy =
-          record { entries = tab .long; others = f .table .long; bytes = f .bytes .long; few = few-slots t is; long = heavy }
+      pub may-weigh : (others weights : List ℕ) → OtherWays (planOf row) others → length weights ≡ weightsSize →
+          MayWeigh table fragile seconds others t weights
+      may-weigh others weights o heavy =
+          record {
+            entries = tab .long;
+            marks = f .table .long;
+            bytes = f .bytes .long;
+            ways = o .bytes;
+            few = few-slots t is;
+            long = heavy;
+          }
 
-  module _ (t : ℕ) (ht : t ≡ timeoutOf row) (table fragile seconds touchSets stripSets weights most : List ℕ)
-      (tab : Table (tableOf (planOf row)) table) (f : Filled (planOf row) fragile seconds) (ts : SetsOf table t touchSets)
-      (ss : StripSetsOf fragile seconds t stripSets) (w : WeighsAll table fragile seconds t weights) (m : TopsAll weights t most) where
+  module _ (t : ℕ) (ht : t ≡ timeoutOf row) (table fragile seconds others touchSets stripSets weights most : List ℕ)
+      (tab : Table (tableOf (planOf row)) table) (f : Filled (planOf row) fragile seconds) (o : OtherWays (planOf row) others)
+      (ts : SetsOf table t touchSets) (ss : StripSetsOf fragile seconds t stripSets)
+      (w : WeighsAll table fragile seconds others t weights) (m : TopsAll weights t most) where
     slots : t ≡ planOf row .timeout
     slots = ht ∙ sym (timeout-is row)
 
@@ -81,7 +91,7 @@ module _ (row : List ℕ) (good : GoodRow row) where
 
     pub lends : (e n : ℕ) (ps : Standing) → e ≡ linkCount row → n ≡ messageCount row → Begins row n ps →
         Lent row table touchSets stripSets weights most
-        (record { sizes = record { timeout = t; links = e; messages = n }; standing = ps })
+        (record { sizes = record { timeout = t; links = e; messages = n; others = others }; standing = ps })
     unfolding positions
     lends e n ps he hn b =
         record {
@@ -92,6 +102,7 @@ module _ (row : List ℕ) (good : GoodRow row) where
                 links = he ∙ sym (link-count row);
                 few = omega (arith, lies .links);
                 messages = hn ∙ sym (message-count row);
+                others = o;
                 owner = owner-same row lies table tab;
               };
           many = omega (arith, lies .messages);
@@ -105,7 +116,7 @@ module _ (row : List ℕ) (good : GoodRow row) where
           heavy = w .long;
           tops = m .tops .long;
           bounds = λ l need h.
-              bounds-of (planOf row) time ways many fragile seconds f table weights tab (rw slots at w) l need most (good .keeps)
+              bounds-of (planOf row) time ways many fragile seconds f table others weights tab o (rw slots at w) l need most (good .keeps)
               (rw slots at m) (omega (arith, message-count row));
           stand =
               record {
