@@ -20,7 +20,7 @@ use Rattle.laws.proofs.Cuts.{cut-pair, is-cut}
 use Rattle.laws.proofs.Named.{named-under-cuts}
 use Rattle.laws.proofs.Sound.{number-is-link}
 use Rattle.cables.specs.Others.{otherIn}
-use Rattle.cuts.specs.Down.{isDown, withCable}
+use Rattle.cuts.specs.Down.{isDown}
 use Rattle.step.specs.declared.Standing.{Standing}
 use Rattle.order.specs.Search.{Not, NoneOf}
 use Rattle.order.proofs.Parts.{slot-left, link-left, slot-right, link-right}
@@ -197,9 +197,6 @@ module _ (row table crossed : List ℕ) (z : Sizes) (ps : Standing) (p : Picked)
         pub link-small : e < mostLinks
         link-small = omega (arith, link-there, may .play .links, may .play .few)
 
-        other-small : otherIn (z .others) e < mostLinks
-        other-small = may .play .others .bytes .below e link-small
-
         module _ (x : List ℕ) (a : Answer row crossed p x) where
           convicted : Convicts (isCut (planOf row) (g .cuts) i) (isCut (planOf row) (cutsOf p ++ x) i)
               (eventIn (planOf row) (g .cuts) i (says .0))
@@ -216,8 +213,9 @@ module _ (row table crossed : List ℕ) (z : Sizes) (ps : Standing) (p : Picked)
             let a : Answer row crossed p x = record { good = good; matches = matches } in
             one-too-many down qs named i g x a i e (is-whole x a) (is-cut-there x a) j long few
 
-        pub suspects-more : Suspecting row crossed z p (withCable (z .others) down e) qs (named + 1) i
-        suspects-more =
+        -- it is cut from the slot on, and its other way
+        pub suspects-more : (o : ℕ) → o ≡ otherIn (z .others) e → Suspecting row crossed z p (set (set down e 1) o 1) qs (named + 1) i
+        suspects-more o back =
             let plan = planOf row in
             let d = p .count + named in
             let more : d + 1 ≡ p .count + (named + 1) = omega arith in
@@ -226,10 +224,11 @@ module _ (row table crossed : List ℕ) (z : Sizes) (ps : Standing) (p : Picked)
               long = omega (arith, length-append (g .cuts) (i ∷ e ∷ []), g .long);
               bare = λ q. absurd (omega arith);
               early = omega arith;
-              size = length-set (set down e 1) (otherIn (z .others) e) 1 ∙ length-set down e 1 ∙ g .size;
+              size = length-set (set down e 1) o 1 ∙ length-set down e 1 ∙ g .size;
               are = λ j y h.
-                  down-more plan (g .cuts) down d i e (otherIn (z .others) e) j y (g .long) (may .play .others .is e link-there)
-                  (omega (arith, link-small, g .size)) (omega (arith, other-small, g .size)) h (g .are j y h);
+                  down-more plan (g .cuts) down d i e o j y (g .long) (back ∙ may .play .others .is e link-there)
+                  (omega (arith, link-small, g .size)) (omega (arith, back, may .play .others .bytes .below e link-small, g .size)) h
+                  (g .are j y h);
               stand =
                   record {
                     time = g .stand .time;

@@ -78,17 +78,18 @@ array-write-down-2 : tie.Need-array-write-down-2 Inv-loop μ-loop
 array-write-down-2 c =
     let may =
     c .before .before .before .before .before .before .before .before .before .before .before .before .before .before .before .before .pre in
-    omega (arith, c .other .ensures, may .play .others .bytes .below _ (array-write-down c))
+    let link = array-write-down c in
+    omega (arith, c .other .ensures, may .play .others .bytes .below _ link)
 
 loop-again-2 : tie.Need-loop-again-2 Inv-loop μ-loop
 loop-again-2 c =
     let inv = c .before .before .before .before .before .before .before .before .before .before .loop .inv in
     record {
       of = λ p m d s.
-          rw (c .other .ensures)
-          (suspects-more _ _ _ _ _ p m _ _ _ _ (inv .of p m d s)
+          suspects-more _ _ _ _ _ p m _ _ _ _ (inv .of p m d s)
           (c .before .before .before .before .before .before .before .before .if1 .taken) _
-          (c .before .before .before .before .before .before .look .ensures) _ (c .before .before .before .before .clue .given .1));
+          (c .before .before .before .before .before .before .look .ensures) _ (c .before .before .before .before .clue .given .1) _
+          (c .other .ensures);
       few = omega (arith, inv .few, c .before .before .if2 .left);
     }
 
