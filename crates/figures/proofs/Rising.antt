@@ -45,7 +45,7 @@ module _ (row table touchSets stripSets weights most : List ℕ) (o : Opening) (
         reached =
             record {
               list = [];
-              good = holding-none row z .chosen .good;
+              good = holding-none row table (o .sizes) (m .lent .play) .chosen .good;
               few = omega arith;
               is =
                   all-arrive-without-cuts (planOf row) (m .good .keeps) ∙ sym (m .lent .play .messages) ∙
