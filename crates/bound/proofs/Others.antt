@@ -70,7 +70,6 @@ module _ (others : List ℕ) (slots : ℕ) (old : List ℕ) (may : MayAddOthers 
           within = may .within;
           link = l;
           other = other;
-          apart = h;
           few = λ s t.
               omega (
                 arith,

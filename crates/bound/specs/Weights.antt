@@ -61,7 +61,6 @@ pub record MayAddLink (slots e o : ℕ) (plane : List ℕ) : Type 0 where
   pub within : slots ≤ mostSlots
   pub link : e < mostLinks
   pub other : o < mostLinks
-  pub apart : e < o
   pub few : (s : ℕ) → s < slots → getD plane (indexOf s e) 0 + getD plane (indexOf s o) 0 < 65536
 
 pub record AddedLink (slots e o : ℕ) (old new : List ℕ) : Type 0 where
