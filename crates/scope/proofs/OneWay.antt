@@ -11,9 +11,9 @@ use Rattle.scope.specs.Lowest.{seek, some}
 use Rattle.scope.specs.Outcome.{gives, unlessSome}
 use Rattle.scope.specs.Plan.{Plan, linksAt, planOf}
 use Rattle.scope.specs.Cables.{otherWay, isHigher}
-use Rattle.scope.specs.Cuts.{pairs, cutSlot, cutLink, falls, badPair, checkCuts, isCutList, cutsLink, isCut}
+use Rattle.scope.specs.Cuts.{pairs, cutSlot, cutLink, falls, badLinkPair, badPair, checkCuts, isCutList, cutsLink, isCut}
 use Rattle.scope.specs.Cycle.{orderOf, tableOf, start, positions, events, arrived, arrivals, eventRow}
-use Rattle.scope.specs.OneWay.{NoReversedLinks, badLinkPair, isLinkCut, arrivalsOneWay, AsBefore}
+use Rattle.scope.specs.OneWay.{NoReversedLinks, isLinkCut, arrivalsOneWay, AsBefore}
 use Rattle.scope.specs.Verdict.{Resistant}
 use Rattle.scope.specs.Cases.{rowA, rowB}
 use Rattle.scope.proofs.Bools.{not-true}

@@ -27,16 +27,18 @@ pairBefore a b c d = ltb a c || (eqb a c && ltb b d)
 abbrev pub falls : List ℕ → ℕ → Bool
 falls cuts i = ltb 0 i && not (pairBefore (cutSlot cuts (i - 1)) (cutLink cuts (i - 1)) (cutSlot cuts i) (cutLink cuts i))
 
--- "slots below t, links below E, pairs rising strictly (by slot, then by link), no link twice": pair i breaks one of these, or it is "a pair
--- that names the higher link"
-abbrev pub badPair : Plan → List ℕ → ℕ → Bool
-badPair plan cuts i =
+-- "slots below t, links below E, pairs rising strictly (by slot, then by link), no link twice": pair i breaks one of these
+abbrev pub badLinkPair : Plan → List ℕ → ℕ → Bool
+badLinkPair plan cuts i =
     eqb (length cuts) (2 * i + 1) ||
     not (ltb (cutSlot cuts i) (plan .timeout)) ||
     not (ltb (cutLink cuts i) (length (plan .links))) ||
     falls cuts i ||
-    some (λ j. eqb (cutLink cuts j) (cutLink cuts i)) i ||
-    isHigher plan (cutLink cuts i)
+    some (λ j. eqb (cutLink cuts j) (cutLink cuts i)) i
+
+-- or it is "a pair that names the higher link"
+abbrev pub badPair : Plan → List ℕ → ℕ → Bool
+badPair plan cuts i = badLinkPair plan cuts i || isHigher plan (cutLink cuts i)
 
 -- refusal 12, with the "index of first bad pair", or how many pairs there are
 unfoldable pub checkCuts : Plan → List ℕ → Outcome

@@ -1,32 +1,23 @@
--- Document 02, [3]: "Plans A and B have no reversed links and their cases stand." What document 01 calls a bad pair and a cut, and that a
+-- Document 02, [3]: "Plans A and B have no reversed links and their cases stand." What document 01 calls a cut, and that a
 -- plan without reversed links is answered so. The verdict, the figures and an explanation ask which lists are cut lists and what their replays
 -- give, and no more; the verdict is spelt out.
-use Prim.Native.Nat.{ℕ, _+_, _*_, _≤_, _<_}
+use Prim.Native.Nat.{ℕ, _≤_, _<_}
 use mathlib.Core.Path.{_≡_}
-use mathlib.Core.Bool.{Bool, true, false, not, _&&_, _||_}
+use mathlib.Core.Bool.{Bool, true, false, not, _&&_}
 use mathlib.Core.List.{List}
 use lib.ListN.{length}
-use lib.Dec.{ltb, leb, eqb}
+use lib.Dec.{leb, eqb}
 use Rattle.scope.specs.Lowest.{some}
 use Rattle.scope.specs.Outcome.{gives, unlessSome}
 use Rattle.scope.specs.Plan.{Plan}
 use Rattle.scope.specs.Cables.{otherWay}
-use Rattle.scope.specs.Cuts.{pairs, cutSlot, cutLink, falls, checkCuts, isCutList}
+use Rattle.scope.specs.Cuts.{pairs, cutSlot, cutLink, badLinkPair, checkCuts, isCutList}
 use Rattle.scope.specs.Cycle.{orderOf, tableOf, start, positions, events, arrived, arrivals, eventRow}
 use Rattle.scope.specs.Verdict.{Resistant}
 
 -- no link of a plan has another way
 abbrev pub NoReversedLinks : Plan → Type 0
 NoReversedLinks plan = (e : ℕ) → e < length (plan .links) → otherWay plan e ≡ e
-
--- "slots below t, links below E, pairs rising strictly (by slot, then by link), no link twice", and nothing else
-abbrev pub badLinkPair : Plan → List ℕ → ℕ → Bool
-badLinkPair plan cuts i =
-    eqb (length cuts) (2 * i + 1) ||
-    not (ltb (cutSlot cuts i) (plan .timeout)) ||
-    not (ltb (cutLink cuts i) (length (plan .links))) ||
-    falls cuts i ||
-    some (λ j. eqb (cutLink cuts j) (cutLink cuts i)) i
 
 -- "A link is cut in its slot and every later one", and the other way stays whole
 abbrev pub isLinkCut : List ℕ → ℕ → ℕ → Bool
