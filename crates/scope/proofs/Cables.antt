@@ -9,18 +9,14 @@ use borrow.Author.Tests.{ltb-true, ltb-false, eqb-true, eq-eqb}
 use Rattle.scope.specs.Lowest.{lowest, some}
 use Rattle.scope.specs.Plan.{Plan, linkOf}
 use Rattle.scope.specs.Good.{repeats, sameEnds}
-use Rattle.scope.specs.Cables.{reversedEnds, otherWay, isHigher}
+use Rattle.scope.specs.Cables.{goesBack, otherWay, isHigher}
 use Rattle.scope.specs.Cuts.{cutsLink}
 use Rattle.scope.proofs.Lowest.{seek-is, seek-low}
 use Rattle.scope.proofs.Some.{some-one, none-below}
 
 module _ (plan : Plan) where
-  -- link e goes back where link d came from
-  abbrev goesBack : ℕ → ℕ → Bool
-  goesBack d e = reversedEnds (linkOf plan d) (linkOf plan e)
-
   -- of two links each goes back the other's way
-  back-too : (d e : ℕ) → goesBack d e ≡ true → goesBack e d ≡ true
+  back-too : (d e : ℕ) → goesBack plan d e ≡ true → goesBack plan e d ≡ true
   back-too d e h =
       let a = linkOf plan d in
       let b = linkOf plan e in
@@ -31,22 +27,22 @@ module _ (plan : Plan) where
       )
 
   -- where a link goes back, the other way is the lowest that does
-  found : (d : ℕ) → some (goesBack d) (length (plan .links)) ≡ true →
-      (otherWay plan d ≡ lowest (goesBack d) (length (plan .links))) × (otherWay plan d < length (plan .links)) ×
-      (goesBack d (otherWay plan d) ≡ true)
+  found : (d : ℕ) → some (goesBack plan d) (length (plan .links)) ≡ true →
+      (otherWay plan d ≡ lowest (goesBack plan d) (length (plan .links))) × (otherWay plan d < length (plan .links)) ×
+      (goesBack plan d (otherWay plan d) ≡ true)
   unfolding otherWay
   found d h =
-      let l : lowest (goesBack d) (length (plan .links)) < length (plan .links) = ltb-true _ _ h in
-      let is : otherWay plan d ≡ lowest (goesBack d) (length (plan .links)) = rw h in
-      (is, omega (arith, is), ap (goesBack d) is ∙ seek-is (goesBack d) (length (plan .links)) 0 (omega arith))
+      let l : lowest (goesBack plan d) (length (plan .links)) < length (plan .links) = ltb-true _ _ h in
+      let is : otherWay plan d ≡ lowest (goesBack plan d) (length (plan .links)) = rw h in
+      (is, omega (arith, is), ap (goesBack plan d) is ∙ seek-is (goesBack plan d) (length (plan .links)) 0 (omega arith))
 
   -- so it is the link itself, or a link that goes back
   pub other-is : {P : Type 0} (d : ℕ) → (otherWay plan d ≡ d → P) →
-      (otherWay plan d < length (plan .links) → goesBack d (otherWay plan d) ≡ true → P) → P
+      (otherWay plan d < length (plan .links) → goesBack plan d (otherWay plan d) ≡ true → P) → P
   unfolding otherWay
-  other-is {P} d own other = by (some (goesBack d) (length (plan .links))) refl
+  other-is {P} d own other = by (some (goesBack plan d) (length (plan .links))) refl
     where
-      by : (b : Bool) → some (goesBack d) (length (plan .links)) ≡ b → P
+      by : (b : Bool) → some (goesBack plan d) (length (plan .links)) ≡ b → P
       by false h = own (rw h)
       by true h = let f = found d h in other (f .1) (f .2)
 
@@ -54,14 +50,14 @@ module _ (plan : Plan) where
   other-below d l = other-is d (λ own. omega arith) (λ below back. below)
 
   -- no link that goes back is lower
-  other-lowest : (d e : ℕ) → e < length (plan .links) → goesBack d e ≡ true → otherWay plan d ≤ e
+  other-lowest : (d e : ℕ) → e < length (plan .links) → goesBack plan d e ≡ true → otherWay plan d ≤ e
   other-lowest d e l back = by (ltb e (otherWay plan d)) refl
     where
       by : (b : Bool) → ltb e (otherWay plan d) ≡ b → otherWay plan d ≤ e
       by true h =
-          let f = found d (some-one (goesBack d) (length (plan .links)) e l back) in
+          let f = found d (some-one (goesBack plan d) (length (plan .links)) e l back) in
           absurd (true≢false (sym back ∙
-          seek-low (goesBack d) (length (plan .links)) 0 e (omega arith) (omega (arith, f .0, ltb-true e (otherWay plan d) h))))
+          seek-low (goesBack plan d) (length (plan .links)) 0 e (omega arith) (omega (arith, f .0, ltb-true e (otherWay plan d) h))))
       by false h = ltb-false e (otherWay plan d) h
 
   -- a pair cuts the link that it names and the other way of that link, and no others
@@ -87,17 +83,18 @@ module _ (plan : Plan) where
       cuts-by d e h (λ same. same)
       (λ other. other-is d (λ own. sym own ∙ other)
       (λ below back.
-      let from : goesBack d e ≡ true = ap (goesBack d) (sym other) ∙ back in
+      let from : goesBack plan d e ≡ true = ap (goesBack plan d) (sym other) ∙ back in
       let least = other-lowest e d l (back-too d e from) in
       omega (arith, least, other, ltb-false (otherWay plan d) d low, ltb-false (otherWay plan e) e here)))
 
   -- where no two links have the same ends in the same direction, a cable has no third link
   module _ (once : (e : ℕ) → e < length (plan .links) → repeats plan e ≡ false) where
     -- two links that go back the same way are one
-    one-back : (d e f : ℕ) → e < length (plan .links) → f < length (plan .links) → goesBack d e ≡ true → goesBack d f ≡ true → e ≡ f
+    one-back : (d e f : ℕ) → e < length (plan .links) → f < length (plan .links) → goesBack plan d e ≡ true → goesBack plan d f ≡ true →
+        e ≡ f
     one-back d e f le lf he hf = by (ltb e f) refl (ltb f e) refl
       where
-        same : (x y : ℕ) → goesBack d x ≡ true → goesBack d y ≡ true → sameEnds (linkOf plan x) (linkOf plan y) ≡ true
+        same : (x y : ℕ) → goesBack plan d x ≡ true → goesBack plan d y ≡ true → sameEnds (linkOf plan x) (linkOf plan y) ≡ true
         same x y hx hy =
             let a = linkOf plan d in
             let b = linkOf plan x in
@@ -109,7 +106,7 @@ module _ (plan : Plan) where
               eq-eqb (b .to) (c .to) (sym (eqb-true (a .from) (b .to) (p .0)) ∙ eqb-true (a .from) (c .to) (q .0)),
             )
 
-        apart : (x y : ℕ) → x < y → y < length (plan .links) → goesBack d x ≡ true → goesBack d y ≡ true → ⊥
+        apart : (x y : ℕ) → x < y → y < length (plan .links) → goesBack plan d x ≡ true → goesBack plan d y ≡ true → ⊥
         apart x y less ly hx hy =
             true≢false (sym (same x y hx hy) ∙
             none-below (λ z. sameEnds (linkOf plan z) (linkOf plan y)) y (once y ly) x less)
@@ -125,7 +122,7 @@ module _ (plan : Plan) where
         other-is d (λ own. ap (otherWay plan) own ∙ own)
         (λ below back.
         let e = otherWay plan d in
-        let f = found e (some-one (goesBack e) (length (plan .links)) d l (back-too d e back)) in
+        let f = found e (some-one (goesBack plan e) (length (plan .links)) d l (back-too d e back)) in
         one-back e (otherWay plan e) d (f .1) l (f .2) (back-too d e back))
 
     -- so a pair that cuts a link cuts the other way of it
