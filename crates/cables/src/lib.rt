@@ -5,7 +5,6 @@
 use scope::limits::ENDS;
 use scope::limits::LINKS;
 use scope::limits::VERTICES;
-ghost use Prim.Native.Nat.{_<_};
 ghost use mathlib.Core.Path.{_≡_};
 ghost use lib.Dec.{ltb};
 ghost use Rattle.scope.specs.Plan.{planOf};

@@ -1,32 +1,33 @@
 -- A link that is not worth a cut leads to no list that is sought: neither in its slot nor in a later one, with as many pairs after it as were
--- counted or with fewer.
+-- counted or with fewer. Nor do pairs picked after which all is in vain.
 use Prim.Native.Nat.{ℕ, zero, suc, _+_, _-_, _*_, _≤_, _<_}
 use native.Mathlib.Omega.{arith}
 use native.Mathlib.Nat.{mul-le-mul-right}
 use mathlib.Core.Path.{_≡_, refl}
 use mathlib.Core.Bool.{Bool, true, false, not, _&&_, cond}
-use mathlib.Core.List.{List, _∷_, _++_}
+use mathlib.Core.List.{List, [], _∷_, _++_}
 use lib.ListN.{length}
-use lib.Dec.{eqb}
-use borrow.Author.Tests.{eqb-true, not-false}
+use lib.Dec.{ltb, eqb}
+use borrow.Author.Tests.{eqb-true, ne-eqb, ltb-true, ltb-false, not-false}
 use Rattle.scope.specs.Limits.{mostLinks}
 use Rattle.scope.specs.Lowest.{seek}
-use Rattle.scope.specs.Plan.{planOf}
+use Rattle.scope.specs.Plan.{Plan, planOf}
 use Rattle.scope.proofs.Lowest.{seek-from, seek-low}
 use Rattle.cuts.specs.Down.{isDown}
 use Rattle.losses.specs.Harmed.{harmed}
 use Rattle.losses.specs.Strips.{bared}
 use Rattle.bound.specs.Bounds.{weightIn, topIn, frontIn, harmedAndBared, Bounds}
 use Rattle.order.specs.Search.{code, Not, NoneIn}
-use Rattle.order.proofs.Pairs.{not-before}
-use Rattle.order.proofs.Steps.{after, passed}
+use Rattle.order.proofs.Pairs.{Next, not-before}
+use Rattle.order.proofs.Steps.{nothing-more, after, none-before, passed}
 use Rattle.picks.specs.declared.Sizes.{Sizes}
 use Rattle.picks.specs.declared.Picked.{Picked}
 use Rattle.picks.specs.Picks.{cutsOf, Playable, Holding}
 use Rattle.picks.proofs.Picking.{closed-already}
+use Rattle.risks.specs.declared.Risk.{Risk}
 use Rattle.risks.specs.declared.Rest.{Rest}
-use Rattle.risks.specs.Weighed.{lossWith, tooLight, passes, Leaves}
-use Rattle.risks.proofs.Weigh.{which, too-light}
+use Rattle.risks.specs.Weighed.{restOf, lossOf, lossWith, tooLight, inVain, passes, Counted, Leaves}
+use Rattle.risks.proofs.Weigh.{which, too-light, all-too-light}
 
 -- the next link found is a later one
 pub goes-up : (test : ℕ → Bool) (n i r : ℕ) → r ≡ seek test n (i + 1) → i < r
@@ -36,6 +37,58 @@ module _ (row table weights most : List ℕ) (z : Sizes) (p : Picked) (Answers :
     (bounds : Bounds (planOf row) Answers need weights most) (play : Playable row table z) (h : Holding row z p) where
   few : length (planOf row .links) ≤ mostLinks
   few = omega (arith, play .links, play .few)
+
+  module _ (s : ℕ) (risk : Risk) (from : s ≤ p .slot) (v : Counted row (cutsOf p) s risk) where
+    -- pairs to come that are too light wherever they are
+    light-pairs : (k a b : ℕ) (x : List ℕ) → length x ≡ 2 * k → tooLight need (lossOf (restOf risk (suc k) most s)) ≡ true →
+        Not (planOf row) Answers (cutsOf p ++ a ∷ b ∷ x)
+    light-pairs k a b x long light good it =
+        which ⊥ need (lossOf (restOf risk (suc k) most s)) light
+        (λ less.
+        all-too-light plan Answers need (harmed plan) (weightIn weights 0) (topIn most 0) (bounds .touches) few (cutsOf p) (p .count) start
+        (h .chosen) k s a b later (next .link) (omega (arith, less, v .touched)) x long good it)
+        (λ less.
+        all-too-light plan Answers need (bared plan) (weightIn weights 1) (topIn most 1) (bounds .strips) few (cutsOf p) (p .count) start
+        (h .chosen) k s a b later (next .link) (omega (arith, less, v .stripped)) x long good it)
+        (λ less.
+        all-too-light plan Answers (2 * need) (harmedAndBared plan) (weightIn weights 2) (topIn most 2) (bounds .both) few (cutsOf p)
+        (p .count) start (h .chosen) k s a b later (next .link) (omega (arith, less, v .touched, v .stripped)) x long good it)
+      where
+        plan : Plan
+        plan = planOf row
+
+        start : ℕ
+        start = code (p .slot) (p .link)
+
+        next : Next plan (cutsOf p) (p .count) a b
+        next = after plan Answers few (cutsOf p) (p .count) start (h .chosen) k a b x good
+
+        not-earlier : (t : Bool) → ltb (code a b) start ≡ t → s ≤ a
+        not-earlier true e =
+            absurd
+            (none-before plan Answers few (cutsOf p) (p .count) start (h .chosen) k a b x long (omega arith) (ltb-true (code a b) start e)
+            good it)
+        not-earlier false e = omega (arith, ltb-false (code a b) start e, from, next .link, few)
+
+        later : s ≤ a
+        later = not-earlier (ltb (code a b) start) refl
+
+    -- where all is in vain: with no pair more too few are lost, and with some they are too light
+    pub none-in-vain : (k : ℕ) → inVain risk k most need s ≡ true → (x : List ℕ) → length x ≡ 2 * k →
+        Not (planOf row) Answers (cutsOf p ++ x)
+    none-in-vain zero vain x =
+        nothing-more (planOf row) Answers (cutsOf p)
+        (λ it.
+        omega (
+          arith,
+          ltb-true (risk .lost) need vain,
+          v .lost,
+          bounds .whole (cutsOf p) (p .count) s (omega (arith, from, h .slot, play .timeout)) (h .chosen .long) (h .chosen .good) it,
+        ))
+        x
+    none-in-vain (suc k) vain [] = λ long. absurd (omega arith)
+    none-in-vain (suc k) vain (a ∷ []) = λ long. absurd (omega arith)
+    none-in-vain (suc k) vain (a ∷ b ∷ x) = λ long. light-pairs k a b x (omega arith) (rw (ne-eqb (suc k) 0 (λ e. omega arith)) at vain)
 
   module _ (s k j : ℕ) (rest : Rest) (v : Leaves row (cutsOf p) most s k rest) (fewer : j ≤ k) where
     -- fewer pairs weigh no more

@@ -40,7 +40,7 @@ use Rattle.picks.specs.Picks.{StandAt}
 use Rattle.risks.specs.declared.Hits.{Hits}
 use Rattle.risks.specs.declared.Risk.{Risk}
 use Rattle.risks.specs.declared.Rest.{Rest}
-use Rattle.risks.specs.Weighed.{noHits, restOf, Fits, Hittable, AreAway, Covers, Leaves}
+use Rattle.risks.specs.Weighed.{noHits, restOf, Fits, Hittable, AreAway, Covers, Counted, Leaves}
 use Rattle.risks.specs.Risks.{countIn, risksOf, IsHitIn, IsHit, MayWeigh}
 
 -- what one pair weighs
@@ -162,20 +162,35 @@ module _ (row : List ℕ) (n : ℕ) (cuts : List ℕ) (s : ℕ) (st : Standing) 
         let two = and-eq-true-iff (isTouched (planOf row) cuts m) (isStripped (planOf row) cuts m) .0 z in
         rw (c .touched m l (two .0), c .stripped m l (two .1)))
 
+    pub all-counted : (risk : Risk) → risk ≡ risksOf hits set → Counted row cuts s risk
+    all-counted risk is =
+        record {
+          touched =
+              omega (
+                arith,
+                away-counted (isTouched (planOf row) cuts) (has (hits .touched)) (c .touched),
+                ap (λ (r : Risk). r .touched) is,
+              );
+          stripped =
+              omega (
+                arith,
+                away-counted (isStripped (planOf row) cuts) (has (hits .stripped)) (c .stripped),
+                ap (λ (r : Risk). r .stripped) is,
+              );
+          lost = omega (arith, lost-counted, ap (λ (r : Risk). r .lost) is);
+        }
+
     pub counted : (most : List ℕ) (k : ℕ) (risk : Risk) (rest : Rest) → risk ≡ risksOf hits set → rest ≡ restOf risk k most s →
         Fits rest → Leaves row cuts most s k rest
     counted most k risk rest is so fits =
-        let touched = away-counted (isTouched (planOf row) cuts) (has (hits .touched)) (c .touched) in
-        let stripped = away-counted (isStripped (planOf row) cuts) (has (hits .stripped)) (c .stripped) in
-        let t = ap (λ (r : Risk). r .touched) is in
-        let u = ap (λ (r : Risk). r .stripped) is in
+        let all = all-counted risk is in
         record {
-          touched = omega (arith, touched, t, ap (λ (l : Rest). l .touched) so);
-          stripped = omega (arith, stripped, u, ap (λ (l : Rest). l .stripped) so);
+          touched = omega (arith, all .touched, ap (λ (l : Rest). l .touched) so);
+          stripped = omega (arith, all .stripped, ap (λ (l : Rest). l .stripped) so);
           pairs = ap (λ (l : Rest). l .pairs) so;
-          touches = omega (arith, touched, t, ap (λ (l : Rest). l .touches) so);
-          strips = omega (arith, stripped, u, ap (λ (l : Rest). l .strips) so);
-          both = omega (arith, touched, stripped, t, u, ap (λ (l : Rest). l .both) so);
+          touches = omega (arith, all .touched, ap (λ (l : Rest). l .touches) so);
+          strips = omega (arith, all .stripped, ap (λ (l : Rest). l .strips) so);
+          both = omega (arith, all .touched, all .stripped, ap (λ (l : Rest). l .both) so);
           fits = fits;
         }
 

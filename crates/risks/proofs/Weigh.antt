@@ -2,7 +2,7 @@
 use Prim.Native.Nat.{ℕ, zero, suc, _+_, _-_, _*_, _≤_, _<_}
 use native.Mathlib.Omega.{arith}
 use native.Mathlib.Nat.{suc-mul}
-use mathlib.Core.Path.{_≡_, refl}
+use mathlib.Core.Path.{_≡_, refl, _∙_, ap}
 use mathlib.Core.Bool.{Bool, true, false, _||_}
 use mathlib.Core.List.{List, _∷_, _++_}
 use lib.ListN.{length, getD}
@@ -21,7 +21,7 @@ use Rattle.order.proofs.Pairs.{not-before}
 use Rattle.risks.specs.declared.Loss.{Loss}
 use Rattle.risks.specs.declared.Rest.{Rest}
 use Rattle.risks.specs.declared.Risk.{Risk}
-use Rattle.risks.specs.Weighed.{restOf, stripsWith, lossWith, tooLight, Fits}
+use Rattle.risks.specs.Weighed.{restOf, stripsWith, lossOf, lossWith, tooLight, inVain, Fits}
 
 -- what cannot answer fails one of the bounds
 pub which : (X : Type 0) (need : ℕ) (loss : Loss) → tooLight need loss ≡ true → (loss .touches < need → X) → (loss .strips < need → X) →
@@ -65,6 +65,15 @@ losses-is risk n most s x y z t u v few also a b c p q r = (
   losses-are risk n most s x y z t u v a b c (p .0) (q .0) (r .0),
   record { touched = few; stripped = also; touches = p .1; strips = q .1; both = r .1 },
 )
+
+-- with no pair to come, and with some
+module _ (risk : Risk) (n : ℕ) (most : List ℕ) (need s : ℕ) (b : Bool) where
+  pub vain-none : n ≡ 0 → b ≡ ltb (risk .lost) need → b ≡ inVain risk n most need s
+  vain-none none is = rw (eq-eqb n 0 none) is
+
+  pub vain-some : (rest : Rest) → (n ≡ 0 → ⊥) → rest ≡ restOf risk n most s → b ≡ tooLight need (lossOf rest) →
+      b ≡ inVain risk n most need s
+  vain-some rest some so is = rw (ne-eqb n 0 some) (is ∙ ap (λ (r : Rest). tooLight need (lossOf r)) so)
 
 -- with one last pair to come, and with more or none
 module _ (rest : Rest) (most : List ℕ) (need s touches strips : ℕ) where
@@ -125,3 +134,10 @@ module _ (plan : Plan) (Answers : List ℕ → Type 0) (need : ℕ) (marked : Li
   too-light pre d start chosen k s a b h there light x long good it =
       let falls = bound .falls s a b h (early pre d k a b x (chosen .long) long good it) there in
       omega (arith, light, falls, then-later pre d k a b x (chosen .long) long good it s h)
+
+  -- pairs to come that are too light wherever they are, if none is before slot s
+  pub all-too-light : (pre : List ℕ) (d start : ℕ) → Chosen plan pre d start → (k s a b : ℕ) → s ≤ a → b < length (plan .links) →
+      marked pre s + suc k * top s < need → (x : List ℕ) → length x ≡ 2 * k → Not plan Answers (pre ++ a ∷ b ∷ x)
+  all-too-light pre d start chosen k s a b h there light x long good it =
+      let most = bound .later s a b h (early pre d k a b x (chosen .long) long good it) there in
+      omega (arith, light, most, suc-mul k (top s), then-later pre d k a b x (chosen .long) long good it s h)

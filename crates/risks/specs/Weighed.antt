@@ -14,7 +14,7 @@ use Rattle.sets.specs.Sets.{has}
 use Rattle.bound.specs.Bounds.{weightIn, topIn, frontIn, harmedAndBared}
 use Rattle.bound.specs.Sets.{setIn}
 use Rattle.losses.specs.Harmed.{hersOn, isTouched, harmed}
-use Rattle.losses.specs.Strips.{stripsOn, isStripped, bared}
+use Rattle.losses.specs.Strips.{stripsOn, isStripped, bared, lost}
 use Rattle.risks.specs.declared.Hits.{Hits}
 use Rattle.risks.specs.declared.Risk.{Risk}
 use Rattle.risks.specs.declared.Loss.{Loss}
@@ -58,6 +58,13 @@ pub record Fits (rest : Rest) : Type 0 where
 abbrev pub tooLight : ℕ → Loss → Bool
 tooLight need loss = ltb (loss .touches) need || ltb (loss .strips) need || ltb (loss .both) (2 * need)
 
+-- no list with n pairs more from slot s on can answer: with none it loses too few, and with some not even the heaviest pairs lose enough
+abbrev pub lossOf : Rest → Loss
+lossOf rest = record { touches = rest .touches; strips = rest .strips; both = rest .both }
+
+abbrev pub inVain : Risk → ℕ → List ℕ → ℕ → ℕ → Bool
+inVain risk n most need s = cond (eqb n 0) (ltb (risk .lost) need) (tooLight need (lossOf (restOf risk n most s)))
+
 -- a link that may still be named, and with which a list can answer where so much is lost besides
 abbrev pub passes : List ℕ → List ℕ → List ℕ → ℕ → Rest → ℕ → ℕ → Bool
 passes closed weights most need rest s e = not (isDown closed e) && not (tooLight need (lossWith rest weights most need s e))
@@ -83,6 +90,12 @@ noHits = record { touched = 0; stripped = 0 }
 pub record Covers (row cuts : List ℕ) (hits : Hits) : Type 0 where
   pub touched : (m : ℕ) → m < length (planOf row .messages) → isTouched (planOf row) cuts m ≡ true → has (hits .touched) m ≡ true
   pub stripped : (m : ℕ) → m < length (planOf row .messages) → isStripped (planOf row) cuts m ≡ true → has (hits .stripped) m ≡ true
+
+-- no fewer messages are counted than a list touches, strips, and both, of those that are not at their targets at time s
+pub record Counted (row cuts : List ℕ) (s : ℕ) (risk : Risk) : Type 0 where
+  pub touched : harmed (planOf row) cuts s ≤ risk .touched
+  pub stripped : bared (planOf row) cuts s ≤ risk .stripped
+  pub lost : lost (planOf row) cuts s ≤ risk .lost
 
 -- no less can be lost than the list hits and k pairs more weigh, none before slot s
 pub record Leaves (row cuts most : List ℕ) (s k : ℕ) (rest : Rest) : Type 0 where

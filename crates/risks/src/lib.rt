@@ -13,7 +13,7 @@ ghost use lib.ListN.{length, getD};
 ghost use lib.Dec.{ltb};
 ghost use Rattle.scope.specs.Limits.{mostCuts, mostSlots, mostLinks, mostMessages, planeSize};
 ghost use Rattle.scope.specs.Lowest.{seek};
-ghost use Rattle.risks.specs.Weighed.{noHits, restOf, stripsWith, lossWith, tooLight, passes, Fits, AreAway};
+ghost use Rattle.risks.specs.Weighed.{noHits, restOf, stripsWith, lossWith, tooLight, inVain, passes, Fits, AreAway};
 ghost use Rattle.risks.specs.Risks.{risksOf, MayHit, IsHitIn, IsHit, MayWeigh, MayStrip, MayTry};
 
 // The sets of messages that the pairs picked touch and strip.
@@ -101,6 +101,24 @@ pub fn losses(risk: Risk, n: usize, most: &[u16], s: usize) -> Rest
     }
 }
 
+// No list with n pairs more from slot s on can answer, where so many messages are at risk: with none it loses too few as it is, and with some
+// not even the heaviest pairs can make up what is wanting.
+pub fn in_vain(most: &[u16], need: usize, risk: Risk, n: usize, s: usize) -> bool
+    requires { ⌜ MayWeigh risk n (now most) s × (need ≤ 65536) ⌝ }
+    ensures { λ r. ⌜ r ≡ inVain risk n (now (most .entry)) need s ⌝ }
+{
+    if n == 0 {
+        return too_few(need, risk.lost);
+    }
+    let rest = losses(risk, n, most, s);
+    let loss = Loss {
+        touches: rest.touches,
+        strips: rest.strips,
+        both: rest.both,
+    };
+    hopeless(need, loss)
+}
+
 // What is still wanting.
 pub fn wanting(need: usize, has: usize) -> usize
     ensures { λ r. ⌜ r ≡ need - has ⌝ }
@@ -137,7 +155,7 @@ fn weighed(weights: &[u16], most: &[u16], need: usize, rest: Rest, s: usize, e: 
     }
 }
 
-// A link may still be named, and a list that goes on with it can answer.
+// A link may still be named, and a list that goes on with it can answer. Most links weigh too little, and are asked no more.
 fn may(
     closed: &[u8],
     weights: &[u16],
@@ -150,10 +168,10 @@ fn may(
     requires { ⌜ MayTry (now weights) (now most) need rest s × (e < mostLinks) ⌝ }
     ensures { λ r. ⌜ r ≡ passes (now (closed .entry)) (now (weights .entry)) (now (most .entry)) need rest s e ⌝ }
 {
-    if cuts::is_down(closed, e) {
+    if hopeless(need, weighed(weights, most, need, rest, s, e)) {
         return false;
     }
-    !hopeless(need, weighed(weights, most, need, rest, s, e))
+    !cuts::is_down(closed, e)
 }
 
 // The first link from e on that may be tried, or how many links there are.

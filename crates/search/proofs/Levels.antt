@@ -1,8 +1,8 @@
 -- The two loops of the search: over the links of a slot, and over the slots.
 use Prim.Native.Nat.{ℕ, _+_, _-_, _*_, _≤_, _<_}
 use native.Mathlib.Omega.{arith}
-use mathlib.Core.Path.{_≡_, refl, subst}
-use mathlib.Core.Bool.{true, false, not, and-eq-true-iff}
+use mathlib.Core.Path.{_≡_, refl, sym, _∙_, subst}
+use mathlib.Core.Bool.{Bool, true, false, not, and-eq-true-iff}
 use mathlib.Core.List.{List, [], _∷_, _++_}
 use lib.ListN.{length, take}
 use borrow.Author.Tests.{not-true}
@@ -21,17 +21,17 @@ use Rattle.risks.specs.declared.Rest.{Rest}
 use Rattle.search.specs.declared.Found.{Found}
 use Rattle.order.specs.Search.{code, NoneOf, NoneIn}
 use Rattle.search.specs.Hunt.{Seeks, noFound, Ready}
-use Rattle.risks.specs.Weighed.{restOf, lossWith, tooLight, passes, Fits}
+use Rattle.risks.specs.Weighed.{restOf, lossWith, tooLight, inVain, passes, Fits}
 use Rattle.risks.specs.Weighed.{AreAway, Leaves}
-use Rattle.search.specs.Hunt.{MayPlayOut, MaySeek, MaySeekIn, Sought, SoughtIn}
+use Rattle.search.specs.Hunt.{MayPlayOut, MaySeek, MayGoOn, MaySeekIn, Sought, SoughtIn}
 use Rattle.order.proofs.Steps.{no-more, none-before, passed-one, first-here, slot-over, joined, first-in-slot}
 use Rattle.order.proofs.Steps.{all-over, first-of-all}
-use Rattle.risks.proofs.Light.{skipped, none-later}
+use Rattle.risks.proofs.Light.{skipped, none-later, none-in-vain}
 use Rattle.search.proofs.Telling.{tells-none, tells-more}
 use Rattle.risks.specs.Risks.{risksOf, MayHit, IsHit, MayWeigh, MayTry}
 use Rattle.picks.proofs.Playing.{may-advance}
 use Rattle.picks.proofs.Picking.{is-name, cuts-more, holding-more, stand-more}
-use Rattle.risks.proofs.Risks.{covers-more, counted, may-weigh}
+use Rattle.risks.proofs.Risks.{covers-more, all-counted, counted, may-weigh}
 
 -- in slot s, from link e on: the lists whose next pair is there and before link i leave enough
 pub record Looking (row weights most : List ℕ) (a : Asked) (p : Picked) (n s e i : ℕ) (rest : Rest) : Type 0 where
@@ -197,16 +197,54 @@ module _ (row table touchSets stripSets weights most : List ℕ) (a : Asked) (p 
 
 -- the calls
 module _ (row table touchSets stripSets weights most : List ℕ) (a : Asked) (hits : Hits) (ps : Standing) (left : ℕ) (p : Picked) (n s e : ℕ)
+    (m : MayGoOn row table touchSets stripSets weights most a hits ps left p n s e) where
+  abbrev next : Picked
+  next = withPair (a .sizes) p s e
+
+  room : p .count < mostCuts
+  room = omega (arith, m .few, m .some)
+
+  pub may-hit : MayHit touchSets stripSets (a .sizes) s e
+  may-hit =
+      record {
+        touches = m .ready .hit .touch;
+        strips = m .ready .hit .strip;
+        slot = omega (arith, m .early, m .ready .play .short);
+        link = omega (arith, m .link, m .ready .play .few);
+        others = m .ready .play .others .bytes;
+      }
+
+  pub may-go-on : (q : Picked) (more : Hits) → q ≡ next → IsHit touchSets stripSets (a .sizes) hits s e more →
+      MaySeek row table touchSets stripSets weights most a more ps left q (n - 1)
+  may-go-on q more is hit =
+      record {
+        ready = m .ready;
+        holding = rw is (holding-more row table (a .sizes) p (m .ready .play) (m .holding) s e room (m .later) (m .early) (m .link) (m .free));
+        covers =
+            rw (is, cuts-more row table (a .sizes) p (m .ready .play) (m .holding) s e room)
+            (covers-more row touchSets stripSets (a .sizes) (cutsOf p) (p .count) s e hits more (m .ready .hit) (m .ready .play .others)
+            (m .holding .chosen .long) (omega (arith, m .early, m .ready .play .timeout)) (omega (arith, m .link, m .ready .play .links))
+            (is-name row (a .sizes) p (m .holding) e (m .link) (m .free)) (m .covers) hit);
+        stand =
+            rw is (stand-more row table (a .sizes) p (m .ready .play) (m .holding) s e room (a .sizes .messages) ps (m .stand));
+        away = m .away;
+        few = rw is (omega (arith, m .few, m .some));
+      }
+
+  -- all is in vain with it
+  pub goes-nowhere : (more : Hits) (risk : Risk) (vain : Bool) (r : Found) → IsHit touchSets stripSets (a .sizes) hits s e more →
+      risk ≡ risksOf more left → vain ≡ inVain risk (n - 1) most (a .need) s → vain ≡ true → r ≡ noFound → Sought row a next (n - 1) r
+  goes-nowhere more risk vain r hit is t so none =
+      let then = may-go-on next more refl hit in
+      tells-none row _ _ (next .count + (n - 1)) r none
+      (none-in-vain row table weights most (a .sizes) next (Seeks row a) (a .need) (m .ready .bounds) (m .ready .play) (then .holding) s risk
+      (omega arith)
+      (all-counted row (a .sizes .messages) (cutsOf next) s ps (then .stand) (m .ready .play .messages) left (m .away) more (then .covers)
+      risk is)
+      (n - 1) (sym t ∙ so))
+
+module _ (row table touchSets stripSets weights most : List ℕ) (a : Asked) (hits : Hits) (ps : Standing) (left : ℕ) (p : Picked) (n s e : ℕ)
     (rest : Rest) (m : MaySeekIn row table touchSets stripSets weights most a hits ps left p n s e rest) where
-  is-open : (i : ℕ) → Looking row weights most a p n s e i rest → i < a .sizes .links → isDown (p .closed) i ≡ false
-  is-open i g =
-      not-cut-yet row table touchSets stripSets weights most a p n (m .ready) (m .holding) (m .some) (m .few) s e i rest g
-
-  next-holds : (i : ℕ) → Looking row weights most a p n s e i rest → i < a .sizes .links → Holding row (a .sizes) (withPair (a .sizes) p s i)
-  next-holds i g l =
-      holding-more row table (a .sizes) p (m .ready .play) (m .holding) s i (omega (arith, m .few, m .some)) (omega (arith, m .later, g .start))
-      (m .early) l (is-open i g l)
-
   pub may-try : MayTry weights most (a .need) rest s
   may-try = record {
     heavy = m .ready .heavy;
@@ -217,34 +255,21 @@ module _ (row table touchSets stripSets weights most : List ℕ) (a : Asked) (hi
         omega (arith, m .early, m .ready .play .short);
   }
 
-  pub may-hit : (i : ℕ) → i < a .sizes .links → MayHit touchSets stripSets (a .sizes) s i
-  may-hit i l =
-      record {
-        touches = m .ready .hit .touch;
-        strips = m .ready .hit .strip;
-        slot = omega (arith, m .early, m .ready .play .short);
-        link = omega (arith, m .ready .play .few);
-        others = m .ready .play .others .bytes;
-      }
-
-  pub may-go-on : (i : ℕ) (q : Picked) (more : Hits) → Looking row weights most a p n s e i rest → i < a .sizes .links →
-      q ≡ withPair (a .sizes) p s i →
-      IsHit touchSets stripSets (a .sizes) hits s i more → MaySeek row table touchSets stripSets weights most a more ps left q (n - 1)
-  may-go-on i q more g l is hit =
+  pub may-pick : (i : ℕ) → Looking row weights most a p n s e i rest → i < a .sizes .links →
+      MayGoOn row table touchSets stripSets weights most a hits ps left p n s i
+  may-pick i g l =
       record {
         ready = m .ready;
-        holding = rw is (next-holds i g l);
-        covers =
-            rw (is, cuts-more row table (a .sizes) p (m .ready .play) (m .holding) s i (omega (arith, m .few, m .some)))
-            (covers-more row touchSets stripSets (a .sizes) (cutsOf p) (p .count) s i hits more (m .ready .hit) (m .ready .play .others)
-            (m .holding .chosen .long) (omega (arith, m .early, m .ready .play .timeout)) (omega (arith, m .ready .play .links))
-            (is-name row (a .sizes) p (m .holding) i l (is-open i g l)) (m .covers) hit);
-        stand =
-            rw is
-            (stand-more row table (a .sizes) p (m .ready .play) (m .holding) s i (omega (arith, m .few, m .some)) (a .sizes .messages) ps
-            (m .stand));
+        holding = m .holding;
+        covers = m .covers;
+        stand = m .stand;
         away = m .away;
-        few = rw is (omega (arith, m .few, m .some));
+        few = m .few;
+        some = m .some;
+        early = m .early;
+        link = l;
+        later = omega (arith, m .later, g .start);
+        free = not-cut-yet row table touchSets stripSets weights most a p n (m .ready) (m .holding) (m .some) (m .few) s e i rest g l;
       }
 
   pub looks-first : (r : ℕ) →
@@ -253,23 +278,19 @@ module _ (row table touchSets stripSets weights most : List ℕ) (a : Asked) (hi
       looked row table touchSets stripSets weights most a p n (m .ready) (m .holding) (m .some) (m .few) s e e rest r (m .leaves)
       (omega arith) (m .link) (look-first row table touchSets stripSets weights most a p n (m .ready) (m .holding) (m .some) (m .few) s e) found
 
-  module _ (i : ℕ) (q : Picked) (r : Found) (g : Looking row weights most a p n s e i rest) (l : i < a .sizes .links)
-      (is : q ≡ withPair (a .sizes) p s i)
-      (f : Sought row a q (n - 1) r) where
-    found : Sought row a (withPair (a .sizes) p s i) (n - 1) r
-    found = rw is at f
-
+  module _ (i : ℕ) (r : Found) (g : Looking row weights most a p n s e i rest) (l : i < a .sizes .links)
+      (f : Sought row a (withPair (a .sizes) p s i) (n - 1) r) where
     pub looks-some : r .found ≡ true → SoughtIn row a p n s e r
     looks-some t =
-        look-some row table touchSets stripSets weights most a p n (m .ready) (m .holding) (m .some) (m .few) s e i rest g r l found t
+        look-some row table touchSets stripSets weights most a p n (m .ready) (m .holding) (m .some) (m .few) s e i rest g r l f t
 
     pub looks-on : (j : ℕ) → r .found ≡ false →
         j ≡ seek (passes (p .closed) weights most (a .need) rest s) (a .sizes .links - (i + 1)) (i + 1) →
         Looking row weights most a p n s e j rest
-    looks-on j t next =
+    looks-on j t found =
         looked row table touchSets stripSets weights most a p n (m .ready) (m .holding) (m .some) (m .few) s e (i + 1) rest j (m .leaves)
         (omega (arith, g .start)) (omega arith)
-        (look-on row table touchSets stripSets weights most a p n (m .ready) (m .holding) (m .some) (m .few) s e i rest g r l found t) next
+        (look-on row table touchSets stripSets weights most a p n (m .ready) (m .holding) (m .some) (m .few) s e i rest g r l f t) found
 
 pub may-play-out : (row table touchSets stripSets weights most : List ℕ) (a : Asked) (hits : Hits) (ps : Standing) (left : ℕ) (p : Picked)
     (n : ℕ) → MaySeek row table touchSets stripSets weights most a hits ps left p n → MayPlayOut row table a hits ps left p

@@ -8,6 +8,7 @@ use Rattle.scope.specs.Limits.{mostCuts, weightsSize, topsSize}
 use Rattle.scope.specs.Plan.{planOf}
 use Rattle.scope.specs.Verdict.{Fails, FirstFailing}
 use Rattle.scope.specs.Cycle.{positions, arrivals}
+use Rattle.cuts.specs.Down.{isDown}
 use Rattle.step.specs.declared.Standing.{Standing}
 use Rattle.picks.specs.Picks.{cutsOf, Playable, Holding, StandAt}
 use Rattle.order.specs.Search.{code, NoneOf, FirstOf, NoneIn, FirstFrom}
@@ -60,6 +61,21 @@ pub record MaySeek (row table touchSets stripSets weights most : List ℕ) (a : 
   pub stand : StandAt row (a .sizes .messages) (cutsOf p) (p .slot) ps
   pub away : AreAway (ps .positions) (a .sizes .messages) left
   pub few : p .count + n ≤ mostCuts
+
+-- the pair of slot s and link e may be picked as the first of n pairs more
+pub record MayGoOn (row table touchSets stripSets weights most : List ℕ) (a : Asked) (hits : Hits) (ps : Standing) (left : ℕ) (p : Picked)
+    (n s e : ℕ) : Type 0 where
+  pub ready : Ready row table touchSets stripSets weights most a
+  pub holding : Holding row (a .sizes) p
+  pub covers : Covers row (cutsOf p) hits
+  pub stand : StandAt row (a .sizes .messages) (cutsOf p) s ps
+  pub away : AreAway (ps .positions) (a .sizes .messages) left
+  pub few : p .count + n ≤ mostCuts
+  pub some : 0 < n
+  pub early : s < a .sizes .timeout
+  pub link : e < a .sizes .links
+  pub later : code (p .slot) (p .link) ≤ code s e
+  pub free : isDown (p .closed) e ≡ false
 
 -- in one slot, from a link on, where so much can be lost besides the pair of that slot
 pub record MaySeekIn (row table touchSets stripSets weights most : List ℕ) (a : Asked) (hits : Hits) (ps : Standing) (left : ℕ)

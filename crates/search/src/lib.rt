@@ -12,8 +12,9 @@ use step::Standing;
 ghost use Prim.Native.Nat.{_+_, _-_, _<_};
 ghost use mathlib.Core.Path.{_≡_};
 ghost use lib.Dec.{ltb};
+ghost use Rattle.picks.specs.Picks.{withPair};
 ghost use Rattle.search.specs.Hunt.{noFound, noHunted};
-ghost use Rattle.search.specs.Hunt.{MayPlayOut, MaySeek, MaySeekIn, Sought, SoughtIn, MayHunt, Hunts};
+ghost use Rattle.search.specs.Hunt.{MayPlayOut, MaySeek, MayGoOn, MaySeekIn, Sought, SoughtIn, MayHunt, Hunts};
 
 // What is asked of a plan: its sizes, the least number of arrivals, and what a list must weigh to leave fewer.
 pub struct Asked {
@@ -104,6 +105,49 @@ fn play_out(
     }
 }
 
+// All lists that go on with the pair of slot s and link e and have n pairs more, that one among them. Whom they hit is asked before the pair
+// is picked, since most are in vain.
+fn with_pair(
+    row: &[u16],
+    table: &[u8],
+    touches: &[u32],
+    strips: &[u32],
+    weights: &[u16],
+    most: &[u16],
+    a: Asked,
+    hits: Hits,
+    ps: Standing,
+    left: u32,
+    p: Picked,
+    n: usize,
+    s: usize,
+    e: usize,
+) -> Found
+    requires { ⌜ MayGoOn (now row) (now table) (now touches) (now strips) (now weights) (now most) a hits ps left p n s e ⌝ }
+    ensures { λ r. ⌜ Sought (now (row .entry)) a (withPair (a .sizes) p s e) (n - 1) r ⌝ }
+{
+    let more = risks::hit(touches, strips, a.sizes, hits, s, e);
+    let risk = risks::at_risk(more, left);
+    if risks::in_vain(most, a.need, risk, n - 1, s) {
+        return nothing();
+    }
+    let q = picks::pick(a.sizes, p, s, e);
+    level(
+        row,
+        table,
+        touches,
+        strips,
+        weights,
+        most,
+        a,
+        more,
+        ps,
+        left,
+        q,
+        n - 1,
+    )
+}
+
 // All lists that go on with a pair of slot s, from link e on, and have n pairs more, where so much can be lost besides that pair.
 fn in_slot(
     row: &[u16],
@@ -129,9 +173,7 @@ fn in_slot(
     let links = a.sizes.links;
     let mut i = risks::next_link(&closed, weights, most, a.need, rest, s, e, links);
     while i < links {
-        let q = picks::pick(a.sizes, p, s, i);
-        let more = risks::hit(touches, strips, a.sizes, hits, s, i);
-        let r = level(
+        let r = with_pair(
             row,
             table,
             touches,
@@ -139,11 +181,13 @@ fn in_slot(
             weights,
             most,
             a,
-            more,
+            hits,
             ps,
             left,
-            q,
-            n - 1,
+            p,
+            n,
+            s,
+            i,
         );
         if r.found {
             return r;

@@ -2,7 +2,7 @@
 use Prim.Native.Nat.{ℕ, zero, suc, _+_, _-_, _*_, _/_, _%_, _^_, _<_, min, max}
 use mathlib.Core.Path.{_≡_, refl, sym, _∙_, ap}
 use mathlib.Core.Bool.{Bool, true, false, _&&_, _||_}
-use native.Mathlib.Nat.{zero-div, div-eq-of-lt, div-self, mul-mod-left, mul-div-cancel, pow-suc}
+use native.Mathlib.Nat.{zero-div, div-eq-of-lt, div-self, mul-mod-left}
 use native.Mathlib.Omega.{arith}
 use lib.Dec.{ltb, eqb}
 use lib.Bits.{bitAnd, bitOr, and-shr, or-shr, and-step, or-step}
@@ -96,13 +96,10 @@ ones-sum a (suc k) =
     let more : ones x ≡ x % 2 + ones (a / 2 ^ suc k) = ones-step x ∙ ap (λ (y : ℕ). x % 2 + ones y) half in
     omega (arith, ones-sum a k, one-digit (x % 2) (omega arith))
 
--- the set of the message that an entry names
-pub has-named : (w n : ℕ) → has (2 ^ w / 2) n ≡ eqb w (n + 1)
-has-named zero n = has-none n ∙ sym (ne-eqb 0 (n + 1) (λ e. omega arith))
-has-named (suc w) n =
-    let half : 2 ^ suc w / 2 ≡ 2 ^ w = ap (λ (x : ℕ). x / 2) (pow-suc 2 w) ∙ mul-div-cancel (2 ^ w) (omega arith) in
-    rw half (has-one w n ∙ by (eqb n w) refl)
+-- a number is one less than an entry where the entry is one more
+pub one-less : (w n : ℕ) → 0 < w → eqb n (w - 1) ≡ eqb w (n + 1)
+one-less w n l = by (eqb n (w - 1)) refl
   where
-    by : (b : Bool) → eqb n w ≡ b → eqb n w ≡ eqb (suc w) (n + 1)
-    by true h = h ∙ sym (eq-eqb (suc w) (n + 1) (omega (arith, eqb-true n w h)))
-    by false h = h ∙ sym (ne-eqb (suc w) (n + 1) (λ e. eqb-false n w h (omega arith)))
+    by : (b : Bool) → eqb n (w - 1) ≡ b → eqb n (w - 1) ≡ eqb w (n + 1)
+    by true h = h ∙ sym (eq-eqb w (n + 1) (omega (arith, eqb-true n (w - 1) h)))
+    by false h = h ∙ sym (ne-eqb w (n + 1) (λ e. eqb-false n (w - 1) h (omega arith)))

@@ -17,7 +17,13 @@ pub fn one_if(there: bool, m: usize) -> u32
 pub fn named(w: u8) -> u32
     ensures { λ r. ⌜ IsNamed w r ⌝ }
 {
-    if 32 < w { 0 } else { ((1u64 << w) >> 1) as u32 }
+    if w == 0 {
+        return 0;
+    }
+    if 32 < w {
+        return 0;
+    }
+    one_if(true, w as usize - 1)
 }
 
 // Those in either of two sets.

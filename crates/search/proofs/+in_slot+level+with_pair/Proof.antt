@@ -1,39 +1,48 @@
--- The search: `in_slot` goes over the links of a slot and calls `level` with one pair more, and `level` goes over the slots. The pairs still to
--- come fall from `level` to `level`.
+-- The search: `level` goes over the slots, `in_slot` over the links of a slot, and `with_pair` calls `level` with one pair more. The pairs still
+-- to come fall from `level` to `level`.
 use Prim.Native.Nat.{ℕ, _+_, _-_, _*_, _<_}
 use mathlib.Core.Path.{sym}
 use native.Mathlib.Omega.{arith}
 use borrow.Author.Needs.{needs}
 use Rattle.risks.proofs.Light.{goes-up}
-use Rattle.search.proofs.Levels.{Looking, Climbing, may-try, may-hit, may-go-on, looks-first, looks-some, looks-on, look-done}
+use Rattle.risks.proofs.Risks.{may-weigh}
+use Rattle.search.proofs.Levels.{may-hit, may-go-on, goes-nowhere}
+use Rattle.search.proofs.Levels.{Looking, Climbing, may-try, may-pick, looks-first, looks-some, looks-on, look-done}
 use Rattle.search.proofs.Levels.{may-play-out, climbs-first, may-weigh-rest, may-try-all, may-look, climbs-may}
 use Rattle.search.proofs.Levels.{climbs-stop, climbs-over, climbs-some, climbs-on}
 use borrow.Fn.Kinds.{In}
 use borrow.Fn.PlainCycle.{Measures, is, falls, and}
 use Rattle.search.proofs.in_slot.Reads as in-slot
 use Rattle.search.proofs.in_slot.Kinds as in-slot-kinds
-use Rattle.search.proofs.+in_slot+level.Lts-in_slot as in-slot-lts
+use Rattle.search.proofs.+in_slot+level+with_pair.Lts-in_slot as in-slot-lts
 use Rattle.search.proofs.level.Reads as level
 use Rattle.search.proofs.level.Kinds as level-kinds
-use Rattle.search.proofs.+in_slot+level.Lts-level as level-lts
+use Rattle.search.proofs.+in_slot+level+with_pair.Lts-level as level-lts
+use Rattle.search.proofs.with_pair.Reads as with-pair
+use Rattle.search.proofs.with_pair.Kinds as with-pair-kinds
+use Rattle.search.proofs.+in_slot+level+with_pair.Lts-with_pair as with-pair-lts
 use Rattle.picks.proofs.advance.Reads as advance-reads
 use Rattle.risks.proofs.at_risk.Reads as at-risk-reads
 use Rattle.risks.proofs.away.Reads as away-reads
 use Rattle.risks.proofs.hit.Reads as hit-reads
+use Rattle.risks.proofs.in_vain.Reads as in-vain-reads
 use Rattle.risks.proofs.later.Reads as later-reads
 use Rattle.risks.proofs.losses.Reads as losses-reads
 use Rattle.risks.proofs.next_link.Reads as next-link-reads
 use Rattle.search.proofs.nothing.Reads as nothing-reads
 use Rattle.picks.proofs.pick.Reads as pick-reads
 use Rattle.search.proofs.play_out.Reads as play-out-reads
-use Rattle.search.proofs.+in_slot+level.{statement}
-use Rattle.search.proofs.+in_slot+level.Tie.{close}
+use Rattle.search.proofs.+in_slot+level+with_pair.{statement}
+use Rattle.search.proofs.+in_slot+level+with_pair.Tie.{close}
 
 abbrev μ-in-slot : Measures 6 in-slot-kinds.ps ℕ
-μ-in-slot κs a = 2 * a .1 .1 .1 .1 .1 .1 .1 .1 .1 .1 .1 .0
+μ-in-slot κs a = 3 * a .1 .1 .1 .1 .1 .1 .1 .1 .1 .1 .1 .0 + 1
 
 abbrev μ-level : Measures 6 level-kinds.ps ℕ
-μ-level κs a = 2 * a .1 .1 .1 .1 .1 .1 .1 .1 .1 .1 .1 .0 + 1
+μ-level κs a = 3 * a .1 .1 .1 .1 .1 .1 .1 .1 .1 .1 .1 .0 + 2
+
+abbrev μ-with-pair : Measures 6 with-pair-kinds.ps ℕ
+μ-with-pair κs a = 3 * a .1 .1 .1 .1 .1 .1 .1 .1 .1 .1 .1 .0
 
 abbrev in-slot-at : ℕ → In 6 in-slot-kinds.ps
 in-slot-at t = and 6 in-slot-kinds.ps (is 6 in-slot-kinds.ps μ-in-slot t) in-slot.Pre
@@ -47,17 +56,19 @@ level-at t = and 6 level-kinds.ps (is 6 level-kinds.ps μ-level t) level.Pre
 abbrev level-below : ℕ → In 6 level-kinds.ps
 level-below t = and 6 level-kinds.ps (falls 6 level-kinds.ps _<_ μ-level t) level.Pre
 
+abbrev with-pair-at : ℕ → In 6 with-pair-kinds.ps
+with-pair-at t = and 6 with-pair-kinds.ps (is 6 with-pair-kinds.ps μ-with-pair t) with-pair.Pre
+
+abbrev with-pair-below : ℕ → In 6 with-pair-kinds.ps
+with-pair-below t = and 6 with-pair-kinds.ps (falls 6 with-pair-kinds.ps _<_ μ-with-pair t) with-pair.Pre
+
 -- what a call of each function is known to ask and give
 abbrev in-calls : ℕ → in-slot-lts.Claims
 in-calls t = (
   next-link-reads.Asked,
   next-link-reads.Learnt,
-  pick-reads.Asked,
-  pick-reads.Learnt,
-  hit-reads.Asked,
-  hit-reads.Learnt,
-  level-below t,
-  level.Post,
+  with-pair-below t,
+  with-pair.Post,
   nothing-reads.Asked,
   nothing-reads.Learnt,
 )
@@ -84,6 +95,22 @@ level-calls t = (
   away-reads.Learnt,
 )
 
+abbrev pair-calls : ℕ → with-pair-lts.Claims
+pair-calls t = (
+  hit-reads.Asked,
+  hit-reads.Learnt,
+  at-risk-reads.Asked,
+  at-risk-reads.Learnt,
+  in-vain-reads.Asked,
+  in-vain-reads.Learnt,
+  nothing-reads.Asked,
+  nothing-reads.Learnt,
+  pick-reads.Asked,
+  pick-reads.Learnt,
+  level-below t,
+  level.Post,
+)
+
 abbrev in-inv : in-slot-lts.InvT-loop
 in-inv row table touchSets stripSets weights most a hits ps left p n s e rest down links i₀ i = Looking row weights most a p n s e i rest
 
@@ -105,79 +132,38 @@ in-slot-loop-holds t c =
     looks-first _ _ _ _ _ _ _ _ _ _ _ _ _ _ _ (c .before .before .before .before .before .before .before .before .before .pre .1) _
     (c .next-link .ensures)
 
-in-slot-pick-requires : (t : ℕ) → in-slot-lts.Need-pick-requires (in-calls t) (in-slot-at t) in-slot.Post in-inv in-less
-in-slot-pick-requires t c κs =
-    let may = c .before .before .before .before .before .before .before .before .before .before .before .pre .1 in (
-      omega (arith, may .few, may .some),
-      omega (arith, may .early, may .ready .play .short),
-      omega (arith, c .loop-test .taken, may .ready .play .few),
-      may .ready .play .others .bytes,
-    )
-
-in-slot-hit-requires : (t : ℕ) → in-slot-lts.Need-hit-requires (in-calls t) (in-slot-at t) in-slot.Post in-inv in-less
-in-slot-hit-requires t c κs =
-    may-hit _ _ _ _ _ _ _ _ _ _ _ _ _ _ _
-    (c .before .before .before .before .before .before .before .before .before .before .before .before .pre .1) _ (c .before .loop-test .taken)
-
-in-slot-sub-level : (t : ℕ) → in-slot-lts.Need-sub-level (in-calls t) (in-slot-at t) in-slot.Post in-inv in-less
-in-slot-sub-level t c =
-    omega (arith, c .before .before .before .before .before .before .before .before .before .before .before .before .before .pre .1 .some)
-
-in-slot-level-requires : (t : ℕ) → in-slot-lts.Need-level-requires (in-calls t) (in-slot-at t) in-slot.Post in-inv in-less
-in-slot-level-requires t c κs = (
-  omega (
-    arith,
-    c .before .before .before .before .before .before .before .before .before .before .before .before .before .pre .0,
-    c .before .before .before .before .before .before .before .before .before .before .before .before .before .pre .1 .some,
-  ),
-  may-go-on _ _ _ _ _ _ _ _ _ _ _ _ _ _ _
-      (c .before .before .before .before .before .before .before .before .before .before .before .before .before .pre .1) _ _ _
-      (c .before .before .before .loop .inv) (c .before .before .loop-test .taken) (c .before .pick .ensures) (c .hit .ensures),
+in-slot-with-pair-requires : (t : ℕ) → in-slot-lts.Need-with-pair-requires (in-calls t) (in-slot-at t) in-slot.Post in-inv in-less
+in-slot-with-pair-requires t c κs = (
+  omega (arith, c .before .before .before .before .before .before .before .before .before .before .before .pre .0),
+  may-pick _ _ _ _ _ _ _ _ _ _ _ _ _ _ _ (c .before .before .before .before .before .before .before .before .before .before .before .pre .1) _ (c .before .loop .inv) (c .loop-test .taken),
 )
 
 in-slot-returns : (t : ℕ) → in-slot-lts.Need-returns (in-calls t) (in-slot-at t) in-slot.Post in-inv in-less
 in-slot-returns t c =
-    looks-some _ _ _ _ _ _ _ _ _ _ _ _ _ _ _
-    (c .before .before .before .before .before .before .before .before .before .before .before .before .before .before .before .pre .1) _ _ _
-    (c .before .before .before .before .before .loop .inv) (c .before .before .before .before .loop-test .taken)
-    (c .before .before .before .pick .ensures) (c .before .level .ensures) (c .if1 .taken)
+    looks-some _ _ _ _ _ _ _ _ _ _ _ _ _ _ _ (c .before .before .before .before .before .before .before .before .before .before .before .before .before .pre .1) _ _
+    (c .before .before .before .loop .inv) (c .before .before .loop-test .taken) (c .before .with-pair .ensures) (c .if1 .taken)
 
 in-slot-slice-aggregate-next-link-2 : (t : ℕ) →
     in-slot-lts.Need-slice-aggregate-next-link-2 (in-calls t) (in-slot-at t) in-slot.Post in-inv in-less
-in-slot-slice-aggregate-next-link-2 t c =
-    sym (c .before .before .before .before .before .before .before .before .before .before .before .before .before .before .before .before .pre
-    .1 .holding .shut)
+in-slot-slice-aggregate-next-link-2 t c = sym (c .before .before .before .before .before .before .before .before .before .before .before .before .before .before .pre .1 .holding .shut)
 
 in-slot-add-next-link : (t : ℕ) → in-slot-lts.Need-add-next-link (in-calls t) (in-slot-at t) in-slot.Post in-inv in-less
-in-slot-add-next-link t c =
-    omega (
-      arith,
-      c .before .before .before .before .before .loop-test .taken,
-      c .before .before .before .before .before .before .before .before .before .before .before .before .before .before .before .before .pre .1
-          .ready .play .few,
-    )
+in-slot-add-next-link t c = omega (arith, c .before .before .before .loop-test .taken, c .before .before .before .before .before .before .before .before .before .before .before .before .before .before .pre .1 .ready .play .few)
 
 in-slot-next-link-requires-2 : (t : ℕ) → in-slot-lts.Need-next-link-requires-2 (in-calls t) (in-slot-at t) in-slot.Post in-inv in-less
 in-slot-next-link-requires-2 t c κs = (
-  may-try _ _ _ _ _ _ _ _ _ _ _ _ _ _ _
-      (c .before .before .before .before .before .before .before .before .before .before .before .before .before .before .before .before .pre
-      .1),
-  omega (arith, c .before .before .before .before .before .loop-test .taken),
-  c .before .before .before .before .before .before .before .before .before .before .before .before .before .before .before .before .pre .1
-      .ready .play .few,
+  may-try _ _ _ _ _ _ _ _ _ _ _ _ _ _ _ (c .before .before .before .before .before .before .before .before .before .before .before .before .before .before .pre .1),
+  omega (arith, c .before .before .before .loop-test .taken),
+  c .before .before .before .before .before .before .before .before .before .before .before .before .before .before .pre .1 .ready .play .few,
 )
 
 in-slot-loop-less : (t : ℕ) → in-slot-lts.Need-loop-less (in-calls t) (in-slot-at t) in-slot.Post in-inv in-less
-in-slot-loop-less t c =
-    omega (arith, c .before .before .before .before .before .before .loop-test .taken, goes-up _ _ _ _ (c .next-link2 .ensures))
+in-slot-loop-less t c = omega (arith, c .before .before .before .before .loop-test .taken, goes-up _ _ _ _ (c .next-link2 .ensures))
 
 in-slot-loop-again : (t : ℕ) → in-slot-lts.Need-loop-again (in-calls t) (in-slot-at t) in-slot.Post in-inv in-less
 in-slot-loop-again t c =
-    looks-on _ _ _ _ _ _ _ _ _ _ _ _ _ _ _
-    (c .before .before .before .before .before .before .before .before .before .before .before .before .before .before .before .before .before
-    .pre .1) _ _ _ (c .before .before .before .before .before .before .before .loop .inv)
-    (c .before .before .before .before .before .before .loop-test .taken) (c .before .before .before .before .before .pick .ensures)
-    (c .before .before .before .level .ensures) _ (c .before .before .if1 .left) (c .next-link2 .ensures)
+    looks-on _ _ _ _ _ _ _ _ _ _ _ _ _ _ _ (c .before .before .before .before .before .before .before .before .before .before .before .before .before .before .before .pre .1) _ _ (c .before .before .before .before .before .loop .inv)
+    (c .before .before .before .before .loop-test .taken) (c .before .before .before .with-pair .ensures) _ (c .before .before .if1 .left) (c .next-link2 .ensures)
 
 in-slot-nothing-requires : (t : ℕ) → in-slot-lts.Need-nothing-requires (in-calls t) (in-slot-at t) in-slot.Post in-inv in-less
 in-slot-nothing-requires t c κs = search needs
@@ -328,8 +314,53 @@ level-returns-4 t c =
     (c .before .before .before .before .before .if1 .left) _ _ _ _ (c .before .before .before .loop .inv) _ (c .nothing2 .ensures)
     (c .before .if2 .left)
 
-pub +in-slot+level-spec : {M : Type 1} → statement M
-+in-slot+level-spec = close μ-in-slot μ-level (λ t. in-slot-lts.spec (in-calls t)
+with-pair-hit-requires : (t : ℕ) → with-pair-lts.Need-hit-requires (pair-calls t) (with-pair-at t) with-pair.Post
+with-pair-hit-requires t c κs = may-hit _ _ _ _ _ _ _ _ _ _ _ _ _ _ (c .before .before .before .before .before .before .pre .1)
+
+with-pair-at-risk-requires : (t : ℕ) → with-pair-lts.Need-at-risk-requires (pair-calls t) (with-pair-at t) with-pair.Post
+with-pair-at-risk-requires t c κs = search needs
+
+with-pair-sub-in-vain : (t : ℕ) → with-pair-lts.Need-sub-in-vain (pair-calls t) (with-pair-at t) with-pair.Post
+with-pair-sub-in-vain t c = omega (arith, c .before .before .before .before .before .before .before .before .pre .1 .some)
+
+with-pair-in-vain-requires : (t : ℕ) → with-pair-lts.Need-in-vain-requires (pair-calls t) (with-pair-at t) with-pair.Post
+with-pair-in-vain-requires t c κs =
+    let m = c .before .before .before .before .before .before .before .before .pre .1 in (
+      may-weigh _ _ _ _ _ _ (c .at-risk .ensures) (omega (arith, m .few)) (m .ready .tops) (omega (arith, m .early, m .ready .play .short)),
+      m .ready .small,
+    )
+
+with-pair-nothing-requires : (t : ℕ) → with-pair-lts.Need-nothing-requires (pair-calls t) (with-pair-at t) with-pair.Post
+with-pair-nothing-requires t c κs = search needs
+
+with-pair-returns : (t : ℕ) → with-pair-lts.Need-returns (pair-calls t) (with-pair-at t) with-pair.Post
+with-pair-returns t c =
+    goes-nowhere _ _ _ _ _ _ _ _ _ _ _ _ _ _ (c .before .before .before .before .before .before .before .before .before .before .before .pre .1) _ _ _ _ (c .before .before .before .before .hit .ensures) (c .before .before .before .at-risk .ensures) (c .before .before .in-vain .ensures)
+    (c .before .if1 .taken) (c .nothing .ensures)
+
+with-pair-pick-requires : (t : ℕ) → with-pair-lts.Need-pick-requires (pair-calls t) (with-pair-at t) with-pair.Post
+with-pair-pick-requires t c κs =
+    let m = c .before .before .before .before .before .before .before .before .before .before .pre .1 in (
+      omega (arith, m .few, m .some),
+      omega (arith, m .early, m .ready .play .short),
+      omega (arith, m .link, m .ready .play .few),
+      m .ready .play .others .bytes,
+    )
+
+with-pair-sub-level : (t : ℕ) → with-pair-lts.Need-sub-level (pair-calls t) (with-pair-at t) with-pair.Post
+with-pair-sub-level t c = omega (arith, c .before .before .before .before .before .before .before .before .before .before .before .pre .1 .some)
+
+with-pair-level-requires : (t : ℕ) → with-pair-lts.Need-level-requires (pair-calls t) (with-pair-at t) with-pair.Post
+with-pair-level-requires t c κs = (
+  omega (arith, c .before .before .before .before .before .before .before .before .before .before .before .pre .0, c .before .before .before .before .before .before .before .before .before .before .before .pre .1 .some),
+  may-go-on _ _ _ _ _ _ _ _ _ _ _ _ _ _ (c .before .before .before .before .before .before .before .before .before .before .before .pre .1) _ _ (c .pick .ensures) (c .before .before .before .before .hit .ensures),
+)
+
+with-pair-returns-2 : (t : ℕ) → with-pair-lts.Need-returns-2 (pair-calls t) (with-pair-at t) with-pair.Post
+with-pair-returns-2 t c = rw (c .before .pick .ensures) at (c .level .ensures)
+
+pub +in-slot+level+with-pair-spec : {M : Type 1} → statement M
++in-slot+level+with-pair-spec = close μ-in-slot μ-level μ-with-pair (λ t. in-slot-lts.spec (in-calls t)
     (in-slot-at t)
     in-slot.Post
     in-inv
@@ -337,10 +368,7 @@ pub +in-slot+level-spec : {M : Type 1} → statement M
     (in-slot-slice-aggregate-next-link t)
     (in-slot-next-link-requires t)
     (in-slot-loop-holds t)
-    (in-slot-pick-requires t)
-    (in-slot-hit-requires t)
-    (in-slot-sub-level t)
-    (in-slot-level-requires t)
+    (in-slot-with-pair-requires t)
     (in-slot-returns t)
     (in-slot-slice-aggregate-next-link-2 t)
     (in-slot-add-next-link t)
@@ -349,7 +377,7 @@ pub +in-slot+level-spec : {M : Type 1} → statement M
     (in-slot-loop-again t)
     (in-slot-nothing-requires t)
     (in-slot-returns-2 t))
-    λ t. level-lts.spec (level-calls t)
+    (λ t. level-lts.spec (level-calls t)
     (level-at t)
     level.Post
     level-inv
@@ -373,4 +401,17 @@ pub +in-slot+level-spec : {M : Type 1} → statement M
     (level-loop-less t)
     (level-loop-again t)
     (level-nothing-requires-2 t)
-    (level-returns-4 t)
+    (level-returns-4 t))
+    λ t. with-pair-lts.spec (pair-calls t)
+    (with-pair-at t)
+    with-pair.Post
+    (with-pair-hit-requires t)
+    (with-pair-at-risk-requires t)
+    (with-pair-sub-in-vain t)
+    (with-pair-in-vain-requires t)
+    (with-pair-nothing-requires t)
+    (with-pair-returns t)
+    (with-pair-pick-requires t)
+    (with-pair-sub-level t)
+    (with-pair-level-requires t)
+    (with-pair-returns-2 t)
