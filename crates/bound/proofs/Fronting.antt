@@ -1,7 +1,7 @@
 -- What one pair can both touch and strip: the loops that find it.
-use Prim.Native.Nat.{ℕ, zero, suc, _+_, _-_, _*_, _/_, _%_, min, _≤_, _<_}
+use Prim.Native.Nat.{ℕ, _+_, _-_, _*_, min, _≤_, _<_}
 use native.Mathlib.Omega.{arith}
-use mathlib.Core.Path.{_≡_, refl, _∙_, ap}
+use mathlib.Core.Path.{_≡_, refl, sym, _∙_, ap}
 use mathlib.Core.Bool.{Bool, true, false}
 use mathlib.Core.List.{List}
 use lib.ListN.{length, getD, set, length-set}
@@ -9,13 +9,14 @@ use lib.Seq.{getD-set-same, getD-set-other}
 use lib.Dec.{eqb}
 use borrow.Author.Count.{below-more}
 use borrow.Author.Tests.{eqb-true, eqb-false}
-use borrow.Rule.Slice.PartMut.{putMid}
+use borrow.Rule.Slice.PartMut.{midOf, putMid}
 use Rattle.scope.specs.Limits.{mostSlots, mostLinks, mostMessages, planeSize, frontSize, frontsSize}
 use Rattle.table.specs.Table.{indexOf}
 use Rattle.bound.specs.Bounds.{weightIn, frontOf}
 use Rattle.bound.specs.Weights.{TopsEach, TopsAll}
-use Rattle.bound.specs.Fronts.{Larger, Bucketed, Carried, RunsDown, Fronts}
-use Rattle.bound.proofs.Planes.{put-in, put-before, put-long}
+use Rattle.bound.specs.Fronts.{Larger, Bucketed, RunsDown, FrontRow, Fronts}
+use Rattle.bound.proofs.Planes.{in-part, put-in, put-before, put-long}
+use Rattle.bound.proofs.Weights.{Topping, topping-none, topping-more}
 
 -- where a larger number is put, none falls
 raised : (l : List ℕ) (i v : ℕ) → i < length l → getD l i 0 ≤ v → (j : ℕ) → getD l j 0 ≤ getD (set l i v) j 0
@@ -25,116 +26,113 @@ raised l i v there h j = by (eqb j i) refl
     by true q = rw (eqb-true j i q, getD-set-same l i v 0 there) h
     by false q = omega (arith, getD-set-other l i j v 0 (eqb-false j i q))
 
--- a loop over the pairs, at index k
-pub record Bucketing (weights : List ℕ) (slots : ℕ) (fronts : List ℕ) (k : ℕ) : Type 0 where
-  pub few : k ≤ slots * mostLinks
-  pub long : length fronts ≡ frontsSize
-  pub most : (j : ℕ) → j < k → getD weights (planeSize + j) 0 ≤ getD fronts (frontOf (j / mostLinks) (getD weights j 0)) 0
+-- a loop over the links of a slot, at link e
+module _ (touches strips row : List ℕ) where
+  pub bucketed-none : length row ≡ frontSize → Bucketed touches strips 0 row
+  bucketed-none l = record { long = l; most = λ d h. absurd (omega arith) }
 
-module _ (weights : List ℕ) (slots : ℕ) (fronts : List ℕ) where
-  pub bucketing-none : length fronts ≡ frontsSize → Bucketing weights slots fronts 0
-  bucketing-none l = record { few = omega arith; long = l; most = λ j h. absurd (omega arith) }
-
-  module _ (k : ℕ) (g : Bucketing weights slots fronts k) where
-    pub bucketing-more : (at v : ℕ) → slots ≤ mostSlots → k < slots * mostLinks → at ≡ frontOf (k / mostLinks) (getD weights k 0) →
-        Larger (getD fronts at 0) (getD weights (planeSize + k) 0) v → Bucketing weights slots (set fronts at v) (k + 1)
-    bucketing-more at v few h is r =
-        let there : at < length fronts = omega (arith, g .long) in
+  module _ (e : ℕ) (g : Bucketed touches strips e row) (x : ℕ) (is : x ≡ min (getD touches e 0) mostMessages) where
+    more : (new : List ℕ) → length new ≡ frontSize → ((y : ℕ) → getD row y 0 ≤ getD new y 0) → getD strips e 0 ≤ getD new x 0 →
+        Bucketed touches strips (e + 1) new
+    more new long up h =
         record {
-          few = omega arith;
-          long = length-set fronts at v ∙ g .long;
-          most = below-more (λ j. getD weights (planeSize + j) 0 ≤ getD (set fronts at v) (frontOf (j / mostLinks) (getD weights j 0)) 0) k
-              (λ j l. omega (
-                arith,
-                g .most j l,
-                raised fronts at v there (r .first) (frontOf (j / mostLinks) (getD weights j 0)),
-              ))
-              (omega (arith, r .second, ap (λ (i : ℕ). getD (set fronts at v) i 0) is, getD-set-same fronts at v 0 there));
+          long = long;
+          most = below-more (λ d. getD strips d 0 ≤ getD new (min (getD touches d 0) mostMessages) 0) e
+              (λ d l. omega (arith, g .most d l, up (min (getD touches d 0) mostMessages))) (rw (sym is) h);
         }
 
-    pub bucketing-done : slots * mostLinks ≤ k → Bucketed weights slots fronts
-    bucketing-done h = record { long = g .long; most = λ j l. g .most j (omega arith) }
+    pub bucketed-put : getD row x 0 < getD strips e 0 → Bucketed touches strips (e + 1) (set row x (getD strips e 0))
+    bucketed-put h =
+        let v = getD strips e 0 in
+        let there : x < length row = omega (arith, g .long) in
+        more (set row x v) (length-set row x v ∙ g .long) (raised row x v there (omega arith))
+        (omega (arith, getD-set-same row x v 0 there))
 
--- a loop from the last number down: those from before index k on do not rise
-pub record Running (slots : ℕ) (old new : List ℕ) (k : ℕ) : Type 0 where
-  pub few : k ≤ slots * frontSize
-  pub long : length new ≡ frontsSize
-  pub all : (i : ℕ) → getD old i 0 ≤ getD new i 0
-  pub down : (i : ℕ) → k ≤ i + 1 → i + 1 < slots * frontSize → 0 < (i + 1) % frontSize → getD new (i + 1) 0 ≤ getD new i 0
+    pub bucketed-skip : getD strips e 0 ≤ getD row x 0 → Bucketed touches strips (e + 1) row
+    bucketed-skip = more row (g .long) (λ y. omega arith)
 
-module _ (slots : ℕ) (old : List ℕ) where
-  pub running-none : length old ≡ frontsSize → Running slots old old (slots * frontSize)
-  running-none long =
-      record { few = omega arith; long = long; all = λ i. omega arith; down = λ i h m. absurd (omega arith) }
+  pub bucketed-done : (e : ℕ) → Bucketed touches strips e row → mostLinks ≤ e → Bucketed touches strips mostLinks row
+  bucketed-done e g h = record { long = g .long; most = λ d l. g .most d (omega arith) }
 
-  module _ (new : List ℕ) (k : ℕ) (g : Running slots old new k) where
-    pub running-more : slots ≤ mostSlots → 1 < k → (v : ℕ) → Carried new (k - 1) v → Running slots old (set new (k - 1 - 1) v) (k - 1)
-    running-more room some v r =
+-- a loop from the last number down: those before index k are as they were
+pub record Running (old new : List ℕ) (top k : ℕ) : Type 0 where
+  pub topping : Topping (λ i v. getD old i 0 ≤ v) frontSize frontSize new top k
+  pub same : (i : ℕ) → i < k → getD new i 0 ≡ getD old i 0
+
+module _ (old : List ℕ) where
+  pub running-none : length old ≡ frontSize → Running old old 0 frontSize
+  running-none long = record { topping = topping-none _ _ _ _ long; same = λ i h. refl }
+
+  module _ (new : List ℕ) (top k : ℕ) (g : Running old new top k) where
+    pub running-more : 0 < k → (v : ℕ) → Larger top (getD new (k - 1) 0) v → Running old (set new (k - 1) v) v (k - 1)
+    running-more h v l =
         record {
-          few = omega (arith, g .few);
-          long = length-set new (k - 1 - 1) v ∙ g .long;
-          all = λ i. omega (arith, g .all i, raised new (k - 1 - 1) v there (r .first) i);
-          down = λ i h m p. by i h m p (eqb i (k - 1 - 1)) refl;
+          topping = topping-more _ _ _ _ _ _ (g .topping) (λ i v w m u. omega arith) (omega arith) h (getD new (k - 1) 0) v
+              (omega (arith, g .same (k - 1) (omega arith))) l;
+          same = λ i m. getD-set-other new (k - 1) i v 0 (λ q. omega arith) ∙ g .same i (omega arith);
         }
-      where
-        there : k - 1 - 1 < length new
-        there = omega (arith, g .few, g .long)
 
-        other : (i : ℕ) → k - 1 ≤ i → getD (set new (k - 1 - 1) v) i 0 ≡ getD new i 0
-        other i h = getD-set-other new (k - 1 - 1) i v 0 (λ q. omega arith)
+    pub running-done : k ≤ 0 → RunsDown old new
+    running-done z = record { long = g .topping .long; most = λ x y h m. g .topping .tops x y (omega arith) h (omega arith) }
 
-        by : (i : ℕ) → k - 1 ≤ i + 1 → i + 1 < slots * frontSize → 0 < (i + 1) % frontSize → (b : Bool) → eqb i (k - 1 - 1) ≡ b →
-            getD (set new (k - 1 - 1) v) (i + 1) 0 ≤ getD (set new (k - 1 - 1) v) i 0
-        by i h m p true q =
-            let at : i ≡ k - 1 - 1 = eqb-true i (k - 1 - 1) q in
-            let next : i + 1 ≡ k - 1 = omega arith in
-            rw (next, other (k - 1) (omega arith), at, getD-set-same new (k - 1 - 1) v 0 there) (r .second (rw next at p))
-        by i h m p false q =
-            let later : k ≤ i + 1 = omega (arith, eqb-false i (k - 1 - 1) q) in
-            omega (arith, g .down i later m p, other i (omega arith), other (i + 1) (omega arith))
+-- the weights of slot s are a part of a plane, from index a to b
+slot-part : (weights : List ℕ) (j s a b e : ℕ) → a ≡ j * planeSize + s * mostLinks → b ≡ a + mostLinks → e < mostLinks →
+    getD (midOf a (b - a) weights) e 0 ≡ weightIn weights j s e
+slot-part weights j s a b e from to h =
+    let at : a + e ≡ j * planeSize + indexOf s e = omega arith in
+    in-part a (b - a) weights e (omega arith) ∙ ap (λ (i : ℕ). getD weights i 0) at
 
-    pub running-done : k ≤ 1 → RunsDown slots old new
-    running-done z =
-        record {
-          long = g .long;
-          most =
-              λ s x y h l m.
-              let at : s * frontSize + (x + (y - x)) ≡ s * frontSize + y = omega arith in
-              omega (arith, g .all (s * frontSize + y), ap (λ (i : ℕ). getD new i 0) at, falls s x h (y - x) (omega arith));
-        }
-      where
-        falls : (s x : ℕ) → s < slots → (d : ℕ) → x + d ≤ mostMessages → getD new (s * frontSize + (x + d)) 0 ≤
-            getD new (s * frontSize + x) 0
-        falls s x h zero l =
-            let at : s * frontSize + (x + 0) ≡ s * frontSize + x = omega arith in omega (arith, ap (λ (i : ℕ). getD new i 0) at)
-        falls s x h (suc d) l =
-            let at : s * frontSize + (x + suc d) ≡ s * frontSize + (x + d) + 1 = omega arith in
-            omega (
-              arith,
-              ap (λ (i : ℕ). getD new i 0) at,
-              g .down (s * frontSize + (x + d)) (omega arith) (omega arith) (omega arith),
-              falls s x h d (omega arith),
-            )
-
-pub fronts-both : (weights : List ℕ) (slots : ℕ) (old new : List ℕ) → Bucketed weights slots old → RunsDown slots old new →
-    Fronts weights slots new
-fronts-both weights slots old new b r =
+pub front-row : (weights : List ℕ) (s : ℕ) (old new : List ℕ) →
+    Bucketed (midOf (s * mostLinks) ((s + 1) * mostLinks - s * mostLinks) weights)
+    (midOf (planeSize + s * mostLinks) (planeSize + (s + 1) * mostLinks - (planeSize + s * mostLinks)) weights) mostLinks old →
+    RunsDown old new → FrontRow weights s new
+front-row weights s old new b r =
     record {
       long = r .long;
       most =
-          λ s e x hs he hx.
-          let k = indexOf s e in
-          let w = getD weights k 0 in
-          let front : 0 * planeSize + k ≡ k = omega arith in
-          let touched : weightIn weights 0 s e ≡ w = ap (λ (i : ℕ). getD weights i 0) front in
-          let slot : frontOf (k / mostLinks) w ≡ s * frontSize + min w mostMessages = omega arith in
+          λ e x he hx.
+          let w = weightIn weights 0 s e in
+          let touched = slot-part weights 0 s (s * mostLinks) ((s + 1) * mostLinks) e (omega arith) (omega arith) he in
+          let stripped = slot-part weights 1 s (planeSize + s * mostLinks) (planeSize + (s + 1) * mostLinks) e (omega arith) (omega arith) he in
           omega (
             arith,
-            b .most k (omega arith),
-            ap (λ (i : ℕ). getD old i 0) slot,
-            r .most s (min x mostMessages) (min w mostMessages) hs (omega (arith, touched)) (omega arith),
+            rw (touched, stripped) at (b .most e he),
+            r .most (min x mostMessages) (min w mostMessages) (omega arith) (omega arith),
           );
     }
+
+-- a loop over the slots, at slot s
+module _ (weights fronts : List ℕ) where
+  pub fronts-none : length fronts ≡ frontsSize → Fronts weights 0 fronts
+  fronts-none l = record { long = l; most = λ i e x h. absurd (omega arith) }
+
+  module _ (s : ℕ) (g : Fronts weights s fronts) where
+    pub fronts-more : (slots : ℕ) → slots ≤ mostSlots → s < slots → (row : List ℕ) → FrontRow weights s row →
+        Fronts weights (s + 1) (putMid (s * frontSize) ((s + 1) * frontSize - s * frontSize) fronts row)
+    fronts-more slots few h row r =
+        let k = (s + 1) * frontSize - s * frontSize in
+        let there : s * frontSize + k ≤ length fronts = omega (arith, g .long) in
+        let long : length row ≡ k = omega (arith, r .long) in
+        let new = putMid (s * frontSize) k fronts row in
+        record {
+          long = put-long (s * frontSize) k fronts row there long ∙ g .long;
+          most =
+              λ i e x b. below-more
+              (λ i. (e x : ℕ) → e < mostLinks → x ≤ weightIn weights 0 i e → weightIn weights 1 i e ≤ getD new (frontOf i x) 0) s
+              (λ i b e x he hx. omega (
+                arith,
+                g .most i e x b he hx,
+                put-before (s * frontSize) k fronts row there long (frontOf i x) (omega arith),
+              ))
+              (λ e x he hx. omega (
+                arith,
+                r .most e x he hx,
+                put-in (s * frontSize) k fronts row there long (min x mostMessages) (omega arith),
+              )) i b e x;
+        }
+
+    pub fronts-done : (slots : ℕ) → slots ≤ s → Fronts weights slots fronts
+    fronts-done slots h = record { long = g .long; most = λ i e x b. g .most i e x (omega arith) }
 
 -- the tops, and the fronts after them
 pub tops-and-fronts : (weights : List ℕ) (slots : ℕ) (old new : List ℕ) → slots ≤ mostSlots → TopsEach weights slots old →

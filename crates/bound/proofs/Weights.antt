@@ -178,48 +178,49 @@ module _ (weights : List ℕ) (s top e : ℕ) (g : TopBelow weights s top e) whe
   pub top-done : mostLinks ≤ e → TopOf weights s top
   top-done h d l = g .most d (omega arith)
 
--- a loop over the slots, from the last one down
-pub record Topping (weights : List ℕ) (slots : ℕ) (most : List ℕ) (top k : ℕ) : Type 0 where
-  pub few : k ≤ slots
-  pub long : length most ≡ mostSlots
-  pub all : (i e : ℕ) → k ≤ i → i < slots → e < mostLinks → getD weights (indexOf i e) 0 ≤ top
-  pub tops : (s i e : ℕ) → k ≤ s → s ≤ i → i < slots → e < mostLinks → getD weights (indexOf i e) 0 ≤ getD most s 0
+-- a loop over n indices, from the last one down. `Under i v`: v is enough for index i. `top` is for each from k on, and a number that is put
+-- for each from its own index on.
+pub record Topping (Under : ℕ → ℕ → Type 0) (size n : ℕ) (most : List ℕ) (top k : ℕ) : Type 0 where
+  pub few : k ≤ n
+  pub long : length most ≡ size
+  pub all : (i : ℕ) → k ≤ i → i < n → Under i top
+  pub tops : (s i : ℕ) → k ≤ s → s ≤ i → i < n → Under i (getD most s 0)
 
-module _ (weights : List ℕ) (slots : ℕ) (most : List ℕ) where
-  pub topping-none : length most ≡ mostSlots → Topping weights slots most 0 slots
+module _ (Under : ℕ → ℕ → Type 0) (size n : ℕ) (most : List ℕ) where
+  pub topping-none : length most ≡ size → Topping Under size n most 0 n
   topping-none l =
       record {
         few = omega arith;
         long = l;
-        all = λ i e h m. absurd (omega arith);
-        tops = λ s i e h j m. absurd (omega arith);
+        all = λ i h m. absurd (omega arith);
+        tops = λ s i h j m. absurd (omega arith);
       }
 
-  module _ (top k : ℕ) (g : Topping weights slots most top k) where
-    pub topping-more : (x v : ℕ) → slots ≤ mostSlots → 0 < k → TopOf weights (k - 1) x → Larger top x v →
-        Topping weights slots (set most (k - 1) v) v (k - 1)
-    topping-more x v room h t l =
-        record {
-          few = omega (arith, g .few);
-          long = length-set most (k - 1) v ∙ g .long;
-          all = λ i e a b c. all i e a b c (eqb i (k - 1)) refl;
-          tops = λ s i e a b c d. by s i e a b c d (eqb s (k - 1)) refl;
-        }
-      where
-        all : (i e : ℕ) → k - 1 ≤ i → i < slots → e < mostLinks → (q : Bool) → eqb i (k - 1) ≡ q → getD weights (indexOf i e) 0 ≤ v
-        all i e a b c true q = rw (eqb-true i (k - 1) q) (omega (arith, t e c, l .second))
-        all i e a b c false q =
-            let other : i ≡ k - 1 → ⊥ = eqb-false i (k - 1) q in
-            omega (arith, g .all i e (omega (arith, other)) b c, l .first)
+  pub topping-more : (top k : ℕ) → Topping Under size n most top k → ((i v w : ℕ) → v ≤ w → Under i v → Under i w) → n ≤ size → 0 < k →
+      (x v : ℕ) → Under (k - 1) x → Larger top x v → Topping Under size n (set most (k - 1) v) v (k - 1)
+  topping-more top k g grows room h x v t l =
+      record {
+        few = omega (arith, g .few);
+        long = length-set most (k - 1) v ∙ g .long;
+        all = λ i a b. all i a b (eqb i (k - 1)) refl;
+        tops = λ s i a b c. by s i a b c (eqb s (k - 1)) refl;
+      }
+    where
+      all : (i : ℕ) → k - 1 ≤ i → i < n → (q : Bool) → eqb i (k - 1) ≡ q → Under i v
+      all i a b true q = rw (eqb-true i (k - 1) q) (grows (k - 1) x v (l .second) t)
+      all i a b false q =
+          let other : i ≡ k - 1 → ⊥ = eqb-false i (k - 1) q in
+          grows i top v (l .first) (g .all i (omega (arith, other)) b)
 
-        by : (s i e : ℕ) → k - 1 ≤ s → s ≤ i → i < slots → e < mostLinks → (q : Bool) → eqb s (k - 1) ≡ q →
-            getD weights (indexOf i e) 0 ≤ getD (set most (k - 1) v) s 0
-        by s i e a b c d true q =
-            rw (eqb-true s (k - 1) q, getD-set-same most (k - 1) v 0 (omega (arith, g .few, g .long)))
-            (all i e (omega arith) c d (eqb i (k - 1)) refl)
-        by s i e a b c d false q =
-            let other : s ≡ k - 1 → ⊥ = eqb-false s (k - 1) q in
-            rw (getD-set-other most (k - 1) s v 0 other) (g .tops s i e (omega (arith, other)) b c d)
+      by : (s i : ℕ) → k - 1 ≤ s → s ≤ i → i < n → (q : Bool) → eqb s (k - 1) ≡ q → Under i (getD (set most (k - 1) v) s 0)
+      by s i a b c true q =
+          rw (eqb-true s (k - 1) q, getD-set-same most (k - 1) v 0 (omega (arith, g .few, g .long)))
+          (all i (omega arith) c (eqb i (k - 1)) refl)
+      by s i a b c false q =
+          let other : s ≡ k - 1 → ⊥ = eqb-false s (k - 1) q in
+          rw (getD-set-other most (k - 1) s v 0 other) (g .tops s i (omega (arith, other)) b c)
 
-    pub topping-done : k ≤ 0 → Tops weights slots most
-    topping-done h = record { long = g .long; later = λ s i e a b c. g .tops s i e (omega arith) a b c }
+-- over the slots, once all are done
+pub tops-done : (weights : List ℕ) (slots : ℕ) (most : List ℕ) (top k : ℕ) → Topping (TopOf weights) mostSlots slots most top k → k ≤ 0 →
+    Tops weights slots most
+tops-done weights slots most top k g h = record { long = g .long; later = λ s i e a b. g .tops s i (omega arith) a b e }

@@ -8,10 +8,10 @@ use scope::limits::PLANE;
 use scope::limits::SLOTS;
 use scope::limits::TOPS;
 ghost use mathlib.Core.Path.{_≡_};
-ghost use Prim.Native.Nat.{_+_, _-_, _≤_, _<_};
+ghost use Prim.Native.Nat.{_+_, _-_, min, _≤_, _<_};
 ghost use lib.ListN.{length};
 ghost use lib.Dec.{ltb};
-ghost use Rattle.scope.specs.Limits.{mostSlots, mostLinks, secondsSize, planeSize, topsSize, frontsSize};
+ghost use Rattle.scope.specs.Limits.{mostSlots, mostLinks, mostMessages, secondsSize, planeSize, weightsSize, topsSize, frontSize, frontsSize};
 ghost use Rattle.sets.specs.Sums.{oneIf};
 ghost use Rattle.bound.specs.Seconds.{onLink};
 ghost use Rattle.cables.specs.Others.{AreLinks};
@@ -19,7 +19,7 @@ ghost use Rattle.bound.specs.Weights.{mostOnLink, ForLinks, OnLinks, Has
 ghost use Rattle.bound.specs.Weights.{entriesFrom, entriesAnd, stripsFrom, MayAddLink, AddedLink, MayAddOthers, AddedOthers};
 ghost use Rattle.bound.specs.Weights.{MayWeigh, WeighsAll, TopOf, Tops, MayTop, TopsEach, TopsAll};
 ghost use Rattle.bound.specs.Bounds.{frontOf, frontIn};
-ghost use Rattle.bound.specs.Fronts.{Larger, MayFront, Bucketed, Carried, RunsDown, Fronts};
+ghost use Rattle.bound.specs.Fronts.{Larger, MayFront, Bucketed, RunsDown, FrontRow, Fronts};
 ghost use Rattle.bound.specs.Sets.{SetsOf, StripSetsOf, Gathered, Through, MayRow, ThroughRow, MayGatherStrips};
 
 // The links' numbers, behind the last slot.
@@ -224,16 +224,19 @@ fn tops_each(weights: &[u16], slots: usize, most: &mut [u16])
     }
 }
 
-// The place for a slot and a count of messages, of which there can be no more than so many.
+// A count of messages, of which there can be no more than so many.
+fn no_more(x: usize) -> usize
+    ensures { λ r. ⌜ r ≡ min x mostMessages ⌝ }
+{
+    if MESSAGES < x { MESSAGES } else { x }
+}
+
+// The place for a slot and a count of messages.
 fn front_of(s: usize, x: usize) -> usize
     requires { ⌜ s < mostSlots ⌝ }
     ensures { λ r. ⌜ (r ≡ frontOf s x) × (r < frontsSize) ⌝ }
 {
-    if MESSAGES < x {
-        s * FRONT + MESSAGES
-    } else {
-        s * FRONT + x
-    }
+    s * FRONT + no_more(x)
 }
 
 // The most that one pair of slot s strips which touches at least x messages.
@@ -244,53 +247,59 @@ pub fn front(most: &[u16], s: usize, x: usize) -> usize
     most[3 * SLOTS + front_of(s, x)] as usize
 }
 
-// For each slot and each count of messages the most that a pair strips which touches so many; no number falls.
-fn bucket(weights: &[u16], slots: usize, fronts: &mut [u16])
-    requires { ⌜ MayFront (now weights) slots (now fronts) ⌝ }
-    ensures { λ _. ⌜ Bucketed (now (weights .entry)) slots (now (fronts .exit)) ⌝ }
+// For each count of messages the most that a link of one slot strips which touches so many; no number falls.
+fn bucket(touches: &[u16], strips: &[u16], row: &mut [u16])
+    requires { ⌜ (length (now touches) ≡ mostLinks) × (length (now strips) ≡ mostLinks) × (length (now row) ≡ frontSize) ⌝ }
+    ensures { λ _. ⌜ Bucketed (now (touches .entry)) (now (strips .entry)) mostLinks (now (row .exit)) ⌝ }
 {
-    let end = slots * LINKS;
-    let mut k = 0;
-    while k < end {
-        let at = front_of(k / LINKS, weights[k] as usize);
-        fronts[at] = larger(fronts[at], weights[PLANE + k]);
-        k += 1;
+    let mut e = 0;
+    while e < LINKS {
+        let x = no_more(touches[e] as usize);
+        let more = strips[e];
+        if row[x] < more {
+            row[x] = more;
+        }
+        e += 1;
     }
 }
 
-// The number before index k, or the one at k where that is of the same slot and larger.
-fn carried(fronts: &[u16], k: usize) -> u16
-    requires { ⌜ (length (now fronts) ≡ frontsSize) × (0 < k) × (k < frontsSize) ⌝ }
-    ensures { λ r. ⌜ Carried (now (fronts .entry)) k r ⌝ }
+// Each number at least those for more messages.
+fn run_down(row: &mut [u16])
+    requires { ⌜ length (now row) ≡ frontSize ⌝ }
+    ensures { λ _. ⌜ RunsDown (now (row .entry)) (now (row .exit)) ⌝ }
 {
-    let here = fronts[k - 1];
-    let more = fronts[k];
-    if k % FRONT == 0 {
-        here
-    } else {
-        larger(here, more)
+    let mut top = 0u16;
+    let mut x = FRONT;
+    while 0 < x {
+        x -= 1;
+        top = larger(top, row[x]);
+        row[x] = top;
     }
 }
 
-// Each number at least those for more messages in its slot.
-fn run_down(slots: usize, fronts: &mut [u16])
-    requires { ⌜ (slots ≤ mostSlots) × (length (now fronts) ≡ frontsSize) ⌝ }
-    ensures { λ _. ⌜ RunsDown slots (now (fronts .entry)) (now (fronts .exit)) ⌝ }
+// The row of slot s: for each count of messages the most that a pair strips which touches at least so many, where the numbers are 0 before.
+fn front_row(weights: &[u16], s: usize, row: &mut [u16])
+    requires { ⌜ (length (now weights) ≡ weightsSize) × (s < mostSlots) × (length (now row) ≡ frontSize) ⌝ }
+    ensures { λ _. ⌜ FrontRow (now (weights .entry)) s (now (row .exit)) ⌝ }
 {
-    let mut k = slots * FRONT;
-    while 1 < k {
-        k -= 1;
-        fronts[k - 1] = carried(fronts, k);
-    }
+    bucket(
+        &weights[s * LINKS..(s + 1) * LINKS],
+        &weights[PLANE + s * LINKS..PLANE + (s + 1) * LINKS],
+        row,
+    );
+    run_down(row);
 }
 
-// For each slot and each count of messages the most that a pair strips which touches at least so many, where the numbers are 0 before.
+// The rows of all slots, one after another.
 fn fronts(weights: &[u16], slots: usize, fronts: &mut [u16])
     requires { ⌜ MayFront (now weights) slots (now fronts) ⌝ }
     ensures { λ _. ⌜ Fronts (now (weights .entry)) slots (now (fronts .exit)) ⌝ }
 {
-    bucket(weights, slots, fronts);
-    run_down(slots, fronts);
+    let mut s = 0;
+    while s < slots {
+        front_row(weights, s, &mut fronts[s * FRONT..(s + 1) * FRONT]);
+        s += 1;
+    }
 }
 
 // All that a search asks of later pairs.
