@@ -364,6 +364,10 @@ static int reach(int n, int s, int x, int y) {
     return x <= n * top[TOUCHED][s] && y <= n * top[STRIPPED][s] && x + y <= n * top[BOTH][s];
 }
 
+static int heavy(int n, int s, int x, int y) {
+    return x <= n * top[TOUCHED][s] && y <= n * top[STRIPPED][s] && x + y <= n * top[BOTH][s];
+}
+
 /* The first link from e on that may be named and with which n pairs from slot s on can touch x and strip y, or E. */
 static int next_link(int n, int s, int e, int x, int y) {
     for (; e < E; e++) {
@@ -385,6 +389,7 @@ static int level(const position *ps, int n, int at, int s, int e, harm by) {
         if (f == E) return 0;
         for (e = next_link(n, s, e > f ? e : f, x, y); e < E; e = next_link(n, s, e + 1, x, y)) {
             harm all = {by.touched | touches[s * 64 + e], by.stripped | strips[s * 64 + e]};
+            if (n > 1 && !heavy(n - 1, s, need - __builtin_popcount(all.touched & left), need - __builtin_popcount(all.stripped & left))) continue;
             pick(e, s);
             pairs[at] = s;
             pairs[at + 1] = e;
@@ -548,6 +553,7 @@ static void breaker(const position *ps, unsigned left, int n, int s, int e, harm
     } else
         for (e = next_link(n, s, e > f ? e : f, need - x, need - y); e < E; e = next_link(n, s, e + 1, need - x, need - y)) {
             harm all = {by.touched | touches[s * 64 + e], by.stripped | strips[s * 64 + e]};
+            if (n > 1 && !heavy(n - 1, s, need - __builtin_popcount(all.touched & left), need - __builtin_popcount(all.stripped & left))) continue;
             pick(e, s);
             breaker(ps, left, n - 1, s, e + 1, all);
             pick(e, 65535);

@@ -3,7 +3,7 @@ use Prim.Native.Nat.{ℕ, _+_, _-_, _*_, _≤_, _<_}
 use native.Mathlib.Omega.{arith}
 use mathlib.Core.Path.{_≡_, refl, sym, _∙_, ap, subst}
 use mathlib.Core.Bool.{Bool, true, false, not, cond, and-eq-true-iff}
-use mathlib.Core.List.{List, [], _∷_, _++_}
+use mathlib.Core.List.{List, [], _∷_, _++_, append-nil}
 use lib.ListN.{length}
 use lib.Dec.{ltb, eqb}
 use borrow.Author.Tests.{ltb-true, ltb-false, eqb-true, eq-eqb, ne-eqb, not-true}
@@ -28,11 +28,11 @@ use Rattle.picks.proofs.Playing.{may-advance}
 use Rattle.risks.specs.declared.Hits.{Hits}
 use Rattle.risks.specs.declared.Risk.{Risk}
 use Rattle.risks.specs.declared.Rest.{Rest}
-use Rattle.risks.specs.Weighed.{restOf, lossWith, tooLight, passes, Fits, AreAway, Leaves}
+use Rattle.risks.specs.Weighed.{restOf, lossWith, tooLight, inVain, passes, Fits, AreAway, Leaves}
 use Rattle.risks.specs.Risks.{risksOf, MayHit, IsHit, MayWeigh, MayTry}
-use Rattle.risks.proofs.Light.{skipped, none-later}
-use Rattle.risks.proofs.Risks.{covers-more, counted, lost-counted, may-weigh}
-use Rattle.game.specs.Turns.{neededFor, firstWorth, worthPicking, isOver, Reached, Board, Turn, MayBreak, Turned}
+use Rattle.risks.proofs.Light.{skipped, none-later, none-in-vain}
+use Rattle.risks.proofs.Risks.{covers-more, all-counted, counted, lost-counted, may-weigh}
+use Rattle.game.specs.Turns.{neededFor, firstWorth, worthPicking, isOver, Reached, Board, Turn, MayBreak, MayPick, Turned}
 use Rattle.game.proofs.Leaving.{lower, enough, reached-more, all-of}
 
 -- the links of slot s that come before link i are looked at: no list that goes on with one of them leaves fewer than `best`
@@ -87,6 +87,87 @@ module _ (row table touchSets stripSets weights most : List ℕ) (z : Sizes) (b 
             whole = λ cuts d s early long good it. absurd (never _ it);
           }
 
+-- a pick
+module _ (row table touchSets stripSets weights most : List ℕ) (z : Sizes) (hits : Hits) (ps : Standing) (left : ℕ) (p : Picked)
+    (n s e least : ℕ) (m : MayPick row table touchSets stripSets weights most z hits ps left p n s e least) where
+  lent : Board row table touchSets stripSets weights most z
+  lent = m .turn .board
+
+  abbrev next : Picked
+  next = withPair z p s e
+
+  pub room : p .count < mostCuts
+  room = omega (arith, m .turn .few, m .some)
+
+  pub more-cuts : cutsOf next ≡ cutsOf p ++ s ∷ e ∷ []
+  more-cuts = cuts-more row table z p (lent .play) (m .turn .holding) s e room
+
+  pub holds : Holding row z next
+  holds = holding-more row table z p (lent .play) (m .turn .holding) s e room (m .later) (m .turn .early) (m .link) (m .free)
+
+  pub may-hit : MayHit touchSets stripSets z s e
+  may-hit =
+      record {
+        touches = lent .hit .touch;
+        strips = lent .hit .strip;
+        slot = omega (arith, m .turn .early, lent .play .short);
+        link = omega (arith, m .link, lent .play .few);
+        others = lent .play .others .bytes;
+      }
+
+  pub may-cut : (q : Picked) (more : Hits) → q ≡ next → IsHit touchSets stripSets z hits s e more →
+      MayBreak row table touchSets stripSets weights most z more ps left q (n - 1) s (e + 1) least
+  may-cut q more isq hit =
+      record {
+        turn =
+            record {
+              board = lent;
+              holding = rw isq holds;
+              covers =
+                  rw (isq, more-cuts)
+                  (covers-more row touchSets stripSets z (cutsOf p) (p .count) s e hits more (lent .hit) (lent .play .others)
+                  (m .turn .holding .chosen .long) (omega (arith, m .turn .early, lent .play .timeout))
+                  (omega (arith, m .link, lent .play .links)) (is-name row z p (m .turn .holding) e (m .link) (m .free)) (m .turn .covers) hit);
+              stand = rw isq (stand-more row table z p (lent .play) (m .turn .holding) s e room (z .messages) ps (m .turn .stand));
+              few = rw isq (omega (arith, m .turn .few, m .some));
+              from = rw isq (omega arith);
+              early = m .turn .early;
+              low = m .turn .low;
+            };
+        away = m .away;
+        link = omega (arith, m .link);
+        later = rw isq (omega arith);
+      }
+
+  -- in vain: no list that goes on with it leaves fewer than is known
+  pub picked-in-vain : (need : ℕ) (more : Hits) (risk : Risk) (vain : Bool) → need ≡ neededFor (z .messages) least →
+      IsHit touchSets stripSets z hits s e more → risk ≡ risksOf more left → vain ≡ inVain risk (n - 1) most need s → vain ≡ true →
+      Turned row next (n - 1) (code s (e + 1)) least least
+  picked-in-vain need more risk vain hn hit is t so =
+      record {
+        low = omega arith;
+        leave =
+            record {
+              none =
+                  enough least (arrivals (planOf row) (cutsOf next)) (λ it.
+                  none 0 (omega arith) [] refl (rw (append-nil (cutsOf next)) (holds .chosen .good)) (rw (append-nil (cutsOf next)) it));
+              more = λ k l a b x long low. none (k + 1) (omega arith) (a ∷ b ∷ x) (omega arith);
+            };
+        reached = λ h. absurd (omega arith);
+      }
+    where
+      then : MayBreak row table touchSets stripSets weights most z more ps left next (n - 1) s (e + 1) least
+      then = may-cut next more refl hit
+
+      none : (j : ℕ) → j ≤ n - 1 → NoneOf (planOf row) (Fails (planOf row) least) (cutsOf next) j
+      none j fewer =
+          none-in-vain row table weights most z next (Fails (planOf row) least) (neededFor (z .messages) least)
+          (bounds-for row table touchSets stripSets weights most z lent least) (lent .play) holds s risk (omega arith)
+          (all-counted row (z .messages) (cutsOf next) s ps (then .turn .stand) (lent .play .messages) left (m .away) more
+          (then .turn .covers) risk is)
+          j (n - 1) fewer (rw hn at (sym t ∙ so))
+
+-- the breaker's turn
 module _ (row table touchSets stripSets weights most : List ℕ) (z : Sizes) (hits : Hits) (ps : Standing) (left : ℕ) (p : Picked) (n s e least :
     ℕ)
     (m : MayBreak row table touchSets stripSets weights most z hits ps left p n s e least) where
@@ -282,102 +363,74 @@ module _ (row table touchSets stripSets weights most : List ℕ) (z : Sizes) (hi
                 (λ none over.
                 lower (planOf row) least r (cutsOf p ++ a ∷ b ∷ x) (omega (arith, t .low, g .low)) (nothing-worth over k h a b x long low)))
 
-    -- a link is cut
+    -- a link is picked
     module _ (best i : ℕ) (g : Breaking row z p n s e least best i) (l : i < z .links) where
-      pub may-hit : MayHit touchSets stripSets z s i
-      may-hit =
+      pub may-pick : MayPick row table touchSets stripSets weights most z hits ps left p n s i best
+      may-pick =
           record {
-            touches = board .hit .touch;
-            strips = board .hit .strip;
-            slot = omega (arith, m .turn .early, board .play .short);
-            link = omega (arith, board .play .few);
-            others = board .play .others .bytes;
+            turn =
+                record {
+                  board = board;
+                  holding = m .turn .holding;
+                  covers = m .turn .covers;
+                  stand = m .turn .stand;
+                  few = m .turn .few;
+                  from = m .turn .from;
+                  early = m .turn .early;
+                  low = omega (arith, g .low, m .turn .low);
+                };
+            away = m .away;
+            some = g .some l;
+            link = l;
+            later = omega (arith, m .later, g .start);
+            free = g .free l;
           }
 
-      pub room : p .count < mostCuts
-      room = omega (arith, m .turn .few, g .some l)
+      -- and the loop goes on behind it
+      module _ (r : ℕ) (t : Turned row (withPair z p s i) (n - 1) (code s (i + 1)) best r) where
+        -- no list that goes on with this pair leaves fewer
+        this-pair : (k : ℕ) → k < n → NoneOf (planOf row) (Fails (planOf row) r) (cutsOf p ++ s ∷ i ∷ []) k
+        this-pair k h =
+            rw (more-cuts row table touchSets stripSets weights most z hits ps left p n s i best may-pick) at
+            (all-of (planOf row) links-few (cutsOf (withPair z p s i)) (p .count + 1) (code s (i + 1))
+            (holds row table touchSets stripSets weights most z hits ps left p n s i best may-pick .chosen) (n - 1) r (t .leave) k
+            (omega arith))
 
-      more-cuts : cutsOf (withPair z p s i) ≡ cutsOf p ++ s ∷ i ∷ []
-      more-cuts = cuts-more row table z p (board .play) (m .turn .holding) s i room
+        pub still-low : r ≤ z .messages
+        still-low = omega (arith, t .low, g .low, m .turn .low)
 
-      holds : Holding row z (withPair z p s i)
-      holds =
-          holding-more row table z p (board .play) (m .turn .holding) s i room (omega (arith, m .later, g .start)) (m .turn .early) l (g .free
-          l)
-
-      module _ (q : Picked) (isq : q ≡ withPair z p s i) where
-        pub may-cut : (more : Hits) → IsHit touchSets stripSets z hits s i more →
-            MayBreak row table touchSets stripSets weights most z more ps left q (n - 1) s (i + 1) best
-        may-cut more hit =
+        pub breaks-on : (want j : ℕ) → want ≡ neededFor (z .messages) r → j ≡ seek (test want) (z .links - (i + 1)) (i + 1) →
+            Breaking row z p n s e least r j
+        breaks-on want j hw found =
             record {
-              turn =
-                  record {
-                    board = board;
-                    holding = rw isq holds;
-                    covers =
-                        rw (isq, more-cuts)
-                        (covers-more row touchSets stripSets z (cutsOf p) (p .count) s i hits more (board .hit) (board .play .others)
-                        (m .turn .holding .chosen .long) (omega (arith, m .turn .early, board .play .timeout))
-                        (omega (arith, board .play .links)) (is-name row z p (m .turn .holding) i l (g .free l)) (m .turn .covers) hit);
-                    stand = rw isq (stand-more row table z p (board .play) (m .turn .holding) s i room (z .messages) ps (m .turn .stand));
-                    few = rw isq (omega (arith, m .turn .few, g .some l));
-                    from = rw isq (omega arith);
-                    early = m .turn .early;
-                    low = omega (arith, g .low, m .turn .low);
-                  };
-              away = m .away;
-              link = omega arith;
-              later = rw isq (omega arith);
+              low = omega (arith, t .low, g .low);
+              reached = λ h.
+                  split r best
+                  (λ less.
+                  let same : p .count + 1 + (n - 1) ≡ p .count + n = omega (arith, g .some l) in
+                  subst (λ (c : ℕ). Reached (planOf row) c r) same (t .reached less))
+                  (λ no-less.
+                  let same : best ≡ r = omega (arith, t .low) in
+                  subst (Reached (planOf row) (p .count + n)) same (g .reached (omega arith)));
+              leave = λ k h.
+                  over-links r k (i + 1) j h (omega (arith, most-of))
+                  (λ b u w.
+                  ap (λ (v : ℕ). test v b) (sym hw) ∙ seek-low (test want) (z .links - (i + 1)) (i + 1) b u (omega arith))
+                  (passed-one (planOf row) (Fails (planOf row) r) links-few (cutsOf p) (p .count) (code (p .slot) (p .link))
+                  (m .turn .holding .chosen) k (code s e) s i (omega (arith, board .play .few))
+                  (λ a b x long u w. lower (planOf row) best r (cutsOf p ++ a ∷ b ∷ x) (t .low) (g .leave k h a b x long u w)) (this-pair k
+                  h));
+              start = omega (arith, g .start, from-of);
+              within = omega (arith, most-of);
+              some = λ h. g .some l;
+              free = λ h. free-link want j (rw found (seek-is (test want) (z .links - (i + 1)) (i + 1) (omega arith)));
             }
+          where
+            from-of : i + 1 ≤ j
+            from-of = omega (arith, seek-from (test want) (z .links - (i + 1)) (i + 1))
 
-        -- and the loop goes on behind it
-        module _ (r : ℕ) (t : Turned row q (n - 1) (code s (i + 1)) best r) where
-          told : Turned row (withPair z p s i) (n - 1) (code s (i + 1)) best r
-          told = rw isq at t
-
-          -- no list that goes on with this pair leaves fewer
-          this-pair : (k : ℕ) → k < n → NoneOf (planOf row) (Fails (planOf row) r) (cutsOf p ++ s ∷ i ∷ []) k
-          this-pair k h =
-              rw more-cuts at
-              (all-of (planOf row) links-few (cutsOf (withPair z p s i)) (p .count + 1) (code s (i + 1)) (holds .chosen) (n - 1) r
-              (told .leave) k
-              (omega arith))
-
-          pub still-low : r ≤ z .messages
-          still-low = omega (arith, t .low, g .low, m .turn .low)
-
-          pub breaks-on : (want j : ℕ) → want ≡ neededFor (z .messages) r → j ≡ seek (test want) (z .links - (i + 1)) (i + 1) →
-              Breaking row z p n s e least r j
-          breaks-on want j hw found =
-              record {
-                low = omega (arith, t .low, g .low);
-                reached = λ h.
-                    split r best
-                    (λ less.
-                    let same : p .count + 1 + (n - 1) ≡ p .count + n = omega (arith, g .some l) in
-                    subst (λ (c : ℕ). Reached (planOf row) c r) same (told .reached less))
-                    (λ no-less.
-                    let same : best ≡ r = omega (arith, t .low) in
-                    subst (Reached (planOf row) (p .count + n)) same (g .reached (omega arith)));
-                leave = λ k h.
-                    over-links r k (i + 1) j h (omega (arith, most-of))
-                    (λ b u w.
-                    ap (λ (v : ℕ). test v b) (sym hw) ∙ seek-low (test want) (z .links - (i + 1)) (i + 1) b u (omega arith))
-                    (passed-one (planOf row) (Fails (planOf row) r) links-few (cutsOf p) (p .count) (code (p .slot) (p .link))
-                    (m .turn .holding .chosen) k (code s e) s i (omega (arith, board .play .few))
-                    (λ a b x long u w. lower (planOf row) best r (cutsOf p ++ a ∷ b ∷ x) (t .low) (g .leave k h a b x long u w)) (this-pair k
-                    h));
-                start = omega (arith, g .start, from-of);
-                within = omega (arith, most-of);
-                some = λ h. g .some l;
-                free = λ h. free-link want j (rw found (seek-is (test want) (z .links - (i + 1)) (i + 1) (omega arith)));
-              }
-            where
-              from-of : i + 1 ≤ j
-              from-of = omega (arith, seek-from (test want) (z .links - (i + 1)) (i + 1))
-
-              most-of : j ≤ i + 1 + (z .links - (i + 1))
-              most-of = omega (arith, seek-most (test want) (z .links - (i + 1)) (i + 1))
+            most-of : j ≤ i + 1 + (z .links - (i + 1))
+            most-of = omega (arith, seek-most (test want) (z .links - (i + 1)) (i + 1))
 
 -- the network's turn
 module _ (row table touchSets stripSets weights most : List ℕ) (z : Sizes) (hits : Hits) (ps : Standing) (p : Picked) (n s least : ℕ)

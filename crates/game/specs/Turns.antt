@@ -1,8 +1,8 @@
--- What the breaker's turn and the network's turn promise each other: the least number of arrivals from there on, if it is below the least that
+-- What the breaker's turn, a pick of his and the network's turn promise each other: the least number of arrivals from there on, if it is below the least that
 -- is known, said both ways.
 use Prim.Native.Nat.{ℕ, _+_, _-_, _*_, _≤_, _<_}
 use mathlib.Core.Path.{_≡_}
-use mathlib.Core.Bool.{Bool, true, _&&_, cond}
+use mathlib.Core.Bool.{Bool, true, false, _&&_, cond}
 use mathlib.Core.List.{List, [], _∷_, _++_}
 use lib.ListN.{length}
 use lib.Dec.{ltb, eqb}
@@ -14,6 +14,7 @@ use Rattle.scope.specs.Lowest.{seek}
 use Rattle.scope.specs.Verdict.{Fails}
 use Rattle.order.specs.Search.{code, Not}
 use Rattle.bound.specs.Bounds.{Bounds}
+use Rattle.cuts.specs.Down.{isDown}
 use Rattle.step.specs.declared.Standing.{Standing}
 use Rattle.picks.specs.declared.Sizes.{Sizes}
 use Rattle.picks.specs.declared.Picked.{Picked}
@@ -77,6 +78,16 @@ pub record MayBreak (row table touchSets stripSets weights most : List ℕ) (z :
   pub away : AreAway (ps .positions) (z .messages) left
   pub link : e ≤ z .links
   pub later : code (p .slot) (p .link) ≤ code s e
+
+-- link e of slot s may be picked, as the first of n pairs more
+pub record MayPick (row table touchSets stripSets weights most : List ℕ) (z : Sizes) (hits : Hits) (ps : Standing) (left : ℕ) (p : Picked)
+    (n s e least : ℕ) : Type 0 where
+  pub turn : Turn row table touchSets stripSets weights most z hits ps p n s least
+  pub away : AreAway (ps .positions) (z .messages) left
+  pub some : 0 < n
+  pub link : e < z .links
+  pub later : code (p .slot) (p .link) ≤ code s e
+  pub free : isDown (p .closed) e ≡ false
 
 -- what either answers: no list from here leaves fewer, and one leaves exactly that many, if it is fewer than what is known
 pub record Turned (row : List ℕ) (p : Picked) (n lo least r : ℕ) : Type 0 where

@@ -1,6 +1,6 @@
 // The least number of arrivals that cuts can leave, as a game: in each slot the breaker picks what else to cut, then the network moves one
-// slot, and they alternate until the timeout. The two turns are two functions that call each other; with each call the slots left, then the
-// links unchosen, fall. A turn is told the least number that is known, and passes over what the bounds of `risks` show to leave no fewer. It
+// slot, and they alternate until the timeout. The two turns, and a pick of the breaker's, are functions that call each other; with each call
+// the slots left, then the links unchosen, fall. A turn is told the least number that is known, and passes over what the bounds of `risks` show to leave no fewer. It
 // leans on `picks` for the pairs picked and a slot played under them, and on `order` for the lists that go on from there.
 use picks::Picked;
 use picks::Sizes;
@@ -15,7 +15,8 @@ ghost use Rattle.scope.specs.Game.{IsLeast};
 ghost use Rattle.order.specs.Search.{code};
 ghost use Rattle.risks.specs.Weighed.{passes};
 ghost use Rattle.risks.specs.Risks.{MayTry};
-ghost use Rattle.game.specs.Turns.{neededFor, firstWorth, worthPicking, isOver, Turn, MayBreak, Turned, MayPlay};
+ghost use Rattle.picks.specs.Picks.{withPair};
+ghost use Rattle.game.specs.Turns.{neededFor, firstWorth, worthPicking, isOver, Turn, MayBreak, MayPick, Turned, MayPlay};
 
 // The fewer of two numbers of arrivals.
 fn fewer(a: usize, b: usize) -> usize
@@ -78,6 +79,54 @@ fn over(need: usize, more: usize, lost: usize) -> bool
     false
 }
 
+// The breaker picks link e of slot s, the first of n pairs more, and goes on behind it. Whom the pairs hit is asked before it is picked, since
+// most picks are in vain.
+fn with_pair(
+    row: &[u16],
+    table: &[u8],
+    touches: &[u32],
+    strips: &[u32],
+    weights: &[u16],
+    most: &[u16],
+    z: Sizes,
+    hits: Hits,
+    ps: Standing,
+    left: u32,
+    p: Picked,
+    n: usize,
+    s: usize,
+    e: usize,
+    least: usize,
+) -> usize
+    requires { ⌜ MayPick (now row) (now table) (now touches) (now strips) (now weights) (now most) z hits ps left p n s e least ⌝ }
+    ensures { λ r. ⌜ Turned (now (row .entry)) (withPair z p s e) (n - 1) (code s (e + 1)) least r ⌝ }
+{
+    let need = needed(z.messages, least);
+    let more = risks::hit(touches, strips, z, hits, s, e);
+    let risk = risks::at_risk(more, left);
+    if risks::in_vain(most, need, risk, n - 1, s) {
+        return least;
+    }
+    let q = picks::pick(z, p, s, e);
+    breaker(
+        row,
+        table,
+        touches,
+        strips,
+        weights,
+        most,
+        z,
+        more,
+        ps,
+        left,
+        q,
+        n - 1,
+        s,
+        e + 1,
+        least,
+    )
+}
+
 // The breaker's turn in slot s: with n pairs more, from link e on.
 fn breaker(
     row: &[u16],
@@ -121,9 +170,7 @@ fn breaker(
         links,
     );
     while i < links {
-        let q = picks::pick(z, p, s, i);
-        let hit = risks::hit(touches, strips, z, hits, s, i);
-        best = breaker(
+        best = with_pair(
             row,
             table,
             touches,
@@ -131,13 +178,13 @@ fn breaker(
             weights,
             most,
             z,
-            hit,
+            hits,
             ps,
             left,
-            q,
-            n - 1,
+            p,
+            n,
             s,
-            i + 1,
+            i,
             best,
         );
         let want = needed(z.messages, best);

@@ -11,14 +11,15 @@ use lib.Dec.{ltb, eqb}
 use borrow.Author.Tests.{eqb-true, ne-eqb, ltb-true, ltb-false, not-false}
 use Rattle.scope.specs.Limits.{mostLinks}
 use Rattle.scope.specs.Lowest.{seek}
-use Rattle.scope.specs.Plan.{Plan, planOf}
+use Rattle.scope.specs.Plan.{planOf}
 use Rattle.scope.proofs.Lowest.{seek-from, seek-low}
+use Rattle.scope.specs.Cuts.{isCutList}
 use Rattle.cuts.specs.Down.{isDown}
 use Rattle.losses.specs.Harmed.{harmed}
 use Rattle.losses.specs.Strips.{bared}
 use Rattle.bound.specs.Bounds.{weightIn, topIn, frontIn, harmedAndBared, Bounds}
-use Rattle.order.specs.Search.{code, Not, NoneIn}
-use Rattle.order.proofs.Pairs.{Next, not-before}
+use Rattle.order.specs.Search.{code, NotBefore, Not, NoneOf, NoneIn}
+use Rattle.order.proofs.Pairs.{not-before}
 use Rattle.order.proofs.Steps.{nothing-more, after, none-before, passed}
 use Rattle.picks.specs.declared.Sizes.{Sizes}
 use Rattle.picks.specs.declared.Picked.{Picked}
@@ -38,57 +39,65 @@ module _ (row table weights most : List ℕ) (z : Sizes) (p : Picked) (Answers :
   few : length (planOf row .links) ≤ mostLinks
   few = omega (arith, play .links, play .few)
 
+  -- after pairs that are not before slot s all is in vain, with as many pairs more as were counted or with fewer
   module _ (s : ℕ) (risk : Risk) (from : s ≤ p .slot) (v : Counted row (cutsOf p) s risk) where
-    -- pairs to come that are too light wherever they are
-    light-pairs : (k a b : ℕ) (x : List ℕ) → length x ≡ 2 * k → tooLight need (lossOf (restOf risk (suc k) most s)) ≡ true →
-        Not (planOf row) Answers (cutsOf p ++ a ∷ b ∷ x)
-    light-pairs k a b x long light good it =
-        which ⊥ need (lossOf (restOf risk (suc k) most s)) light
-        (λ less.
-        all-too-light plan Answers need (harmed plan) (weightIn weights 0) (topIn most 0) (bounds .touches) few (cutsOf p) (p .count) start
-        (h .chosen) k s a b later (next .link) (omega (arith, less, v .touched)) x long good it)
-        (λ less.
-        all-too-light plan Answers need (bared plan) (weightIn weights 1) (topIn most 1) (bounds .strips) few (cutsOf p) (p .count) start
-        (h .chosen) k s a b later (next .link) (omega (arith, less, v .stripped)) x long good it)
-        (λ less.
-        all-too-light plan Answers (2 * need) (harmedAndBared plan) (weightIn weights 2) (topIn most 2) (bounds .both) few (cutsOf p)
-        (p .count) start (h .chosen) k s a b later (next .link) (omega (arith, less, v .touched, v .stripped)) x long good it)
-      where
-        plan : Plan
-        plan = planOf row
+    early : s ≤ planOf row .timeout
+    early = omega (arith, from, h .slot, play .timeout)
 
+    -- the next pairs are not before it either
+    not-earlier : (j : ℕ) (x : List ℕ) → length x ≡ 2 * j → isCutList (planOf row) (cutsOf p ++ x) ≡ true → Answers (cutsOf p ++ x) →
+        NotBefore s x j
+    not-earlier zero x long good it = λ i less. absurd (omega arith)
+    not-earlier (suc j) [] long good it = absurd (omega arith)
+    not-earlier (suc j) (a ∷ []) long good it = absurd (omega arith)
+    not-earlier (suc j) (a ∷ b ∷ x) long good it =
+        not-before (planOf row) few (cutsOf p) (a ∷ b ∷ x) (p .count) (suc j) s (h .chosen .long) long good (by (ltb (code a b) start) refl)
+      where
         start : ℕ
         start = code (p .slot) (p .link)
 
-        next : Next plan (cutsOf p) (p .count) a b
-        next = after plan Answers few (cutsOf p) (p .count) start (h .chosen) k a b x good
-
-        not-earlier : (t : Bool) → ltb (code a b) start ≡ t → s ≤ a
-        not-earlier true e =
+        by : (t : Bool) → ltb (code a b) start ≡ t → s ≤ a
+        by true e =
             absurd
-            (none-before plan Answers few (cutsOf p) (p .count) start (h .chosen) k a b x long (omega arith) (ltb-true (code a b) start e)
-            good it)
-        not-earlier false e = omega (arith, ltb-false (code a b) start e, from, next .link, few)
+            (none-before (planOf row) Answers few (cutsOf p) (p .count) start (h .chosen) j a b x (omega arith) (omega arith)
+            (ltb-true (code a b) start e) good it)
+        by false e =
+            omega (
+              arith,
+              ltb-false (code a b) start e,
+              from,
+              after (planOf row) Answers few (cutsOf p) (p .count) start (h .chosen) j a b x good .link,
+              few,
+            )
 
-        later : s ≤ a
-        later = not-earlier (ltb (code a b) start) refl
-
-    -- where all is in vain: with no pair more too few are lost, and with some they are too light
-    pub none-in-vain : (k : ℕ) → inVain risk k most need s ≡ true → (x : List ℕ) → length x ≡ 2 * k →
+    light-pairs : (j k : ℕ) → j ≤ k → tooLight need (lossOf (restOf risk k most s)) ≡ true → (x : List ℕ) → length x ≡ 2 * j →
         Not (planOf row) Answers (cutsOf p ++ x)
-    none-in-vain zero vain x =
+    light-pairs j k fewer light x long good it =
+        let plan = planOf row in
+        let later = not-earlier j x long good it in
+        which ⊥ need (lossOf (restOf risk k most s)) light
+        (λ less.
+        all-too-light plan Answers need (harmed plan) (weightIn weights 0) (topIn most 0) (bounds .touches) few (cutsOf p) x (p .count) j k s
+        (h .chosen .long) long fewer early later (omega (arith, less, v .touched)) good it)
+        (λ less.
+        all-too-light plan Answers need (bared plan) (weightIn weights 1) (topIn most 1) (bounds .strips) few (cutsOf p) x (p .count) j k s
+        (h .chosen .long) long fewer early later (omega (arith, less, v .stripped)) good it)
+        (λ less.
+        all-too-light plan Answers (2 * need) (harmedAndBared plan) (weightIn weights 2) (topIn most 2) (bounds .both) few (cutsOf p) x
+        (p .count) j k s (h .chosen .long) long fewer early later (omega (arith, less, v .touched, v .stripped)) good it)
+
+    pub none-in-vain : (j k : ℕ) → j ≤ k → inVain risk k most need s ≡ true → NoneOf (planOf row) Answers (cutsOf p) j
+    none-in-vain zero zero fewer vain =
         nothing-more (planOf row) Answers (cutsOf p)
         (λ it.
         omega (
           arith,
           ltb-true (risk .lost) need vain,
           v .lost,
-          bounds .whole (cutsOf p) (p .count) s (omega (arith, from, h .slot, play .timeout)) (h .chosen .long) (h .chosen .good) it,
+          bounds .whole (cutsOf p) (p .count) s early (h .chosen .long) (h .chosen .good) it,
         ))
-        x
-    none-in-vain (suc k) vain [] = λ long. absurd (omega arith)
-    none-in-vain (suc k) vain (a ∷ []) = λ long. absurd (omega arith)
-    none-in-vain (suc k) vain (a ∷ b ∷ x) = λ long. light-pairs k a b x (omega arith) (rw (ne-eqb (suc k) 0 (λ e. omega arith)) at vain)
+    none-in-vain (suc j) zero fewer vain = absurd (omega arith)
+    none-in-vain j (suc k) fewer vain = light-pairs j (suc k) fewer (rw (ne-eqb (suc k) 0 (λ e. omega arith)) at vain)
 
   module _ (s k j : ℕ) (rest : Rest) (v : Leaves row (cutsOf p) most s k rest) (fewer : j ≤ k) where
     -- fewer pairs weigh no more

@@ -1,7 +1,7 @@
 -- What the pairs still to come can add to the messages that a list hits, once over any weight; and which of the three bounds it is that fails.
 use Prim.Native.Nat.{ℕ, zero, suc, _+_, _-_, _*_, _≤_, _<_}
 use native.Mathlib.Omega.{arith}
-use native.Mathlib.Nat.{suc-mul}
+use native.Mathlib.Nat.{suc-mul, mul-le-mul-right}
 use mathlib.Core.Path.{_≡_, refl, _∙_, ap}
 use mathlib.Core.Bool.{Bool, true, false, _||_}
 use mathlib.Core.List.{List, _∷_, _++_}
@@ -109,6 +109,11 @@ module _ (plan : Plan) (Answers : List ℕ → Type 0) (need : ℕ) (marked : Li
     then-weigh later (suc k) h =
         omega (arith, then-weigh later k (omega arith), one-pair (suc k) h (later (suc k) h), suc-mul k (top s))
 
+    all-weigh : NotBefore s x n → (k : ℕ) → k ≤ n → harm weight x k ≤ k * top s
+    unfolding sumOf
+    all-weigh later zero h = omega arith
+    all-weigh later (suc k) h = omega (arith, all-weigh later k (omega arith), one-pair k h (later k h), suc-mul k (top s))
+
   -- a list with k + 1 pairs more that answers has enough weight
   module _ (pre : List ℕ) (d k a b : ℕ) (x : List ℕ) (long : length pre ≡ 2 * d) (rest : length x ≡ 2 * k)
       (good : isCutList plan (pre ++ a ∷ b ∷ x) ≡ true)
@@ -135,9 +140,14 @@ module _ (plan : Plan) (Answers : List ℕ → Type 0) (need : ℕ) (marked : Li
       let falls = bound .falls s a b h (early pre d k a b x (chosen .long) long good it) there in
       omega (arith, light, falls, then-later pre d k a b x (chosen .long) long good it s h)
 
-  -- pairs to come that are too light wherever they are, if none is before slot s
-  pub all-too-light : (pre : List ℕ) (d start : ℕ) → Chosen plan pre d start → (k s a b : ℕ) → s ≤ a → b < length (plan .links) →
-      marked pre s + suc k * top s < need → (x : List ℕ) → length x ≡ 2 * k → Not plan Answers (pre ++ a ∷ b ∷ x)
-  all-too-light pre d start chosen k s a b h there light x long good it =
-      let most = bound .later s a b h (early pre d k a b x (chosen .long) long good it) there in
-      omega (arith, light, most, suc-mul k (top s), then-later pre d k a b x (chosen .long) long good it s h)
+  -- n pairs to come, none before slot s, where as many or more of them are too light wherever they are
+  pub all-too-light : (pre x : List ℕ) (d n k s : ℕ) → length pre ≡ 2 * d → length x ≡ 2 * n → n ≤ k → s ≤ plan .timeout →
+      NotBefore s x n → marked pre s + k * top s < need → Not plan Answers (pre ++ x)
+  all-too-light pre x d n k s long rest fewer early later light good it =
+      omega (
+        arith,
+        light,
+        bound .enough pre x d n s early long rest later good it,
+        all-weigh pre x d n s long rest good later n (omega arith),
+        mul-le-mul-right (top s) fewer,
+      )

@@ -241,7 +241,7 @@ module _ (row table touchSets stripSets weights most : List ℕ) (a : Asked) (hi
       (omega arith)
       (all-counted row (a .sizes .messages) (cutsOf next) s ps (then .stand) (m .ready .play .messages) left (m .away) more (then .covers)
       risk is)
-      (n - 1) (sym t ∙ so))
+      (n - 1) (n - 1) (omega arith) (sym t ∙ so))
 
 module _ (row table touchSets stripSets weights most : List ℕ) (a : Asked) (hits : Hits) (ps : Standing) (left : ℕ) (p : Picked) (n s e : ℕ)
     (rest : Rest) (m : MaySeekIn row table touchSets stripSets weights most a hits ps left p n s e rest) where
