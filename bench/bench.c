@@ -358,14 +358,20 @@ static int finish(const position *ps, int s, harm by) { /* the list picked, play
     return best < least;
 }
 
-/* Whether n pairs from slot s on can touch x messages more and strip y more, for all that the weights say. */
-static int reach(int n, int s, int x, int y) {
-    if (n == 1) return x <= top[TOUCHED][s] && y <= front[s][x > 0 ? x : 0];
+/* Whether the heaviest n pairs from slot s on touch x messages more and strip y more. */
+static int heavy(int n, int s, int x, int y) {
     return x <= n * top[TOUCHED][s] && y <= n * top[STRIPPED][s] && x + y <= n * top[BOTH][s];
 }
 
-static int heavy(int n, int s, int x, int y) {
-    return x <= n * top[TOUCHED][s] && y <= n * top[STRIPPED][s] && x + y <= n * top[BOTH][s];
+/* Whether n pairs can, for all that the weights say: one last pair must both touch and strip what is wanting. */
+static int reach(int n, int s, int x, int y) {
+    if (n == 1) return x <= top[TOUCHED][s] && y <= front[s][x > 0 ? x : 0];
+    return heavy(n, s, x, y);
+}
+
+/* Whether all is in vain once so many are hit, with n pairs more from slot s on. Of a list that is whole its play asks that. */
+static int in_vain(int n, int s, harm all, unsigned left) {
+    return n && !heavy(n, s, need - __builtin_popcount(all.touched & left), need - __builtin_popcount(all.stripped & left));
 }
 
 /* The first link from e on that may be named and with which n pairs from slot s on can touch x and strip y, or E. */
@@ -389,7 +395,7 @@ static int level(const position *ps, int n, int at, int s, int e, harm by) {
         if (f == E) return 0;
         for (e = next_link(n, s, e > f ? e : f, x, y); e < E; e = next_link(n, s, e + 1, x, y)) {
             harm all = {by.touched | touches[s * 64 + e], by.stripped | strips[s * 64 + e]};
-            if (n > 1 && !heavy(n - 1, s, need - __builtin_popcount(all.touched & left), need - __builtin_popcount(all.stripped & left))) continue;
+            if (in_vain(n - 1, s, all, left)) continue;
             pick(e, s);
             pairs[at] = s;
             pairs[at + 1] = e;
@@ -553,7 +559,7 @@ static void breaker(const position *ps, unsigned left, int n, int s, int e, harm
     } else
         for (e = next_link(n, s, e > f ? e : f, need - x, need - y); e < E; e = next_link(n, s, e + 1, need - x, need - y)) {
             harm all = {by.touched | touches[s * 64 + e], by.stripped | strips[s * 64 + e]};
-            if (n > 1 && !heavy(n - 1, s, need - __builtin_popcount(all.touched & left), need - __builtin_popcount(all.stripped & left))) continue;
+            if (in_vain(n - 1, s, all, left)) continue;
             pick(e, s);
             breaker(ps, left, n - 1, s, e + 1, all);
             pick(e, 65535);

@@ -87,8 +87,7 @@ fn play_out(
         if risks::too_few(a.need, risk.lost) {
             return nothing();
         }
-        let rs = picks::advance(row, table, a.sizes, qs, p);
-        qs = rs;
+        qs = picks::advance(row, table, a.sizes, qs, p);
         still = risks::away(qs, a.sizes.messages);
         i += 1;
     }
@@ -252,8 +251,7 @@ fn level(
         if r.found {
             return r;
         }
-        let rs = picks::advance(row, table, a.sizes, qs, p);
-        qs = rs;
+        qs = picks::advance(row, table, a.sizes, qs, p);
         still = risks::away(qs, a.sizes.messages);
         s += 1;
         e = 0;

@@ -1,19 +1,19 @@
 -- What one message does in a pass over the messages, and what has been tried after it.
-use Prim.Native.Nat.{ℕ, _+_}
+use Prim.Native.Nat.{ℕ, _+_, _<_}
 use mathlib.Core.Path.{_≡_, refl, sym, _∙_, ap}
-use mathlib.Core.Bool.{Bool, true, false, not, cond}
+use mathlib.Core.Bool.{Bool, true, false, not, _&&_, cond, and-eq-true-iff}
 use mathlib.Core.List.{List, [], _∷_}
 use native.Mathlib.Omega.{arith}
 use lib.Dec.{eqb}
-use borrow.Author.Tests.{ne-eqb}
-use Rattle.scope.specs.Plan.{at}
+use borrow.Author.Tests.{ne-eqb, not-true}
+use Rattle.scope.specs.Plan.{at, slotAt}
 use Rattle.scope.specs.Slot as S
 use Rattle.step.specs.declared.Position.{Position}
 use Rattle.step.specs.declared.Met.{Met}
 use Rattle.step.specs.declared.Moved.{Moved}
-use Rattle.step.specs.Where.{leftAt, positionOf, Acts, Meets}
+use Rattle.step.specs.Where.{leftAt, positionOf, waitsIn, Acts, Meets}
 use Rattle.step.specs.Pass.{firstTrier, noted, triedAfter, does, ActsIn, MovesIn}
-use Rattle.step.proofs.Left.{numbers-next}
+use Rattle.step.proofs.Left.{numbers-next, places-next}
 use Rattle.step.proofs.Steps.{home-tries, home-acts}
 use Rattle.step.proofs.Pass.{tries-next}
 
@@ -107,6 +107,21 @@ module _ (down : ℕ → Bool) (owner : ℕ → ℕ) (i : ℕ) (tried : List ℕ
           noted =
               w ∙ ap (λ x. noted tried x m) next ∙ ap (λ b. cond b tried (noted tried (S.nextSecond after) m)) (sym busy);
         }
+
+  -- it waits on its first path: it stays where it is, and tries nothing
+  pub waits-moves : (row : List ℕ) (p : Position) → 0 < p .left → waitsIn row down i p ≡ true → MovesIn row down owner i p m tried tried p
+  unfolding does triedAfter
+  waits-moves row p some w =
+      let two = and-eq-true-iff (not (eqb (slotAt row (p .at)) i) && not (p .turned)) (not (down (at row (p .at)))) .0 w in
+      let one = and-eq-true-iff (not (eqb (slotAt row (p .at)) i)) (not (p .turned)) .0 (two .0) in
+      let other = not-true (eqb (slotAt row (p .at)) i) (one .0) in
+      let first = not-true (p .turned) (one .1) in
+      let whole = not-true (down (at row (p .at))) (two .1) in
+      let next = places-next row (p .at) (p .left) some in
+      record {
+        next = record { is = rw (first, next, whole, whole, other) refl; within = omega arith };
+        noted = rw (first, next, whole) refl;
+      }
 
   -- at its target
   pub home-does : (row : List ℕ) (b : Bool) (k n : ℕ) → n ≡ 0 → S.moved (leftAt row b k n) 0 0 ≡ does down owner i tried m (leftAt row b k n)

@@ -1,9 +1,10 @@
 -- What a position in a row says: the places or links that are left to it, and where they end.
 use Prim.Native.Nat.{ℕ, _+_, _-_, _≤_, _<_}
 use mathlib.Core.Path.{_≡_}
-use mathlib.Core.Bool.{Bool, cond}
+use mathlib.Core.Bool.{Bool, not, _&&_, cond}
 use mathlib.Core.List.{List}
-use Rattle.scope.specs.Plan.{Place, at, numbersAt, placeAt, placeSize, placesAt, afterPlaces}
+use lib.Dec.{eqb}
+use Rattle.scope.specs.Plan.{Place, at, slotAt, numbersAt, placeAt, placeSize, placesAt, afterPlaces}
 use Rattle.scope.specs.Slot as S
 use Rattle.step.specs.declared.Position.{Position}
 use Rattle.step.specs.declared.Met.{Met}
@@ -40,6 +41,10 @@ doesFirst row p cut slot = S.onFirstPath cut slot (placeAt row (p .at)) (placesA
 
 abbrev pub doesSecond : List ℕ → Position → Bool → ℕ → Bool → ℕ → S.Moved
 doesSecond row p cut entry held first = S.onSecondPath cut entry held first (at row (p .at)) (linksAfter row p)
+
+-- it waits: on its first path, with its next link whole, in another slot than its own there
+abbrev pub waitsIn : List ℕ → (ℕ → Bool) → ℕ → Position → Bool
+waitsIn row down slot p = not (eqb (slotAt row (p .at)) slot) && not (p .turned) && not (down (at row (p .at)))
 
 -- r is the position `next`, and does not go beyond p's end
 pub record Leads (row : List ℕ) (p : Position) (next : S.Position) (r : Position) : Type 0 where

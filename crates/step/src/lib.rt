@@ -22,7 +22,7 @@ ghost use Rattle.scope.specs.Slot.{onFirst};
 ghost use Rattle.cuts.specs.Down.{isDown};
 ghost use Rattle.table.specs.Table.{entryAt};
 ghost use Rattle.step.specs.Events.{eventOf, anEvent, crossingOf};
-ghost use Rattle.step.specs.Where.{endOf, placesAfter, doesFirst, doesSecond, Leads, Acts, Faces, Meets, MetActs};
+ghost use Rattle.step.specs.Where.{endOf, placesAfter, doesFirst, doesSecond, waitsIn, Leads, Acts, Faces, Meets, MetActs};
 ghost use Rattle.step.specs.Stand.{Stand, Moves, MayTellAll};
 ghost use Rattle.step.specs.Seen.{asSeen, GoesAsSeen, Watches};
 ghost use Rattle.step.specs.Slot.{downNow, allIn, MayGo, GoesOn, MayTell, GoesAndTells};
@@ -158,6 +158,19 @@ impl Position {
             link: link as u16,
             down: cut,
         }
+    }
+
+    // It waits: it is on its first path, another slot than its own there, and its next link is whole. Most messages do in most slots.
+    fn waits(self, row: &[u16], down: &[u8], slot: Slot) -> bool
+        ensures { λ r. ⌜ r ≡ waitsIn (now (row .entry)) (isDown (now (down .entry))) (slot .0) self ⌝ }
+    {
+        if place_slot(row, self.at as usize) == slot.0 {
+            return false;
+        }
+        if self.turned {
+            return false;
+        }
+        !is_down(down, number(row, self.at as usize))
     }
 
     // The position after its turn, if the next link of its first path is cut and it has a second path there, with the link before it.
@@ -319,7 +332,8 @@ fn act_one(
     met.acts(row, slot, 0, m as u16, m as u16)
 }
 
-// The next position of message m. It asks what `act_one` asks, and not `act_one` itself: each is called in one place, and inlined there.
+// The next position of message m. It asks what `act_one` asks, and not `act_one` itself: each is called in one place, and inlined there. One
+// that waits is asked no more.
 fn move_one(
     p: Position,
     m: usize,
@@ -335,6 +349,9 @@ fn move_one(
         (now (tried .entry)) (now (tried .exit)) r ⌝ }
 {
     if p.is_home() {
+        return p;
+    }
+    if p.waits(row, down, slot) {
         return p;
     }
     let met = p.meets(row, down);

@@ -5,7 +5,7 @@ use native.Mathlib.Omega.{arith}
 use borrow.Author.Tests.{eqb-true, eqb-false, not-true, not-false}
 use borrow.Author.Needs.{needs}
 use Rattle.table.specs.Table.{entryAt}
-use Rattle.step.proofs.Acting.{home-does, home-tried, acts-first, acts-cut, acts-tries, moves-by}
+use Rattle.step.proofs.Acting.{home-does, home-tried, waits-moves, acts-first, acts-cut, acts-tries, moves-by}
 use Rattle.step.proofs.move_one.Statement.{statement}
 use Rattle.step.proofs.move_one.Tie as tie
 
@@ -21,38 +21,56 @@ returns c =
           (q .left) h;
     }
 
-meets-requires : tie.Need-meets-requires
-meets-requires c κs =
-    let s = c .before .before .before .before .before .before in
-    let h : s .args .p .left ≡ 0 → ⊥ = eqb-false _ _ (sym (c .before .is-home .ensures) ∙ c .if1 .left) in
-    (omega (arith, h), s .pre .fit)
-
 returns-2 : tie.Need-returns-2
 returns-2 c =
+    let a = c .before .before .before .before .before .before .before .before .args in
+    let h : a .p .left ≡ 0 → ⊥ = eqb-false _ _ (sym (c .before .before .before .is-home .ensures) ∙ c .before .before .if1 .left) in
+    waits-moves _ (entryAt (a .table .now) (a .slot .0)) (a .slot .0) (a .tried .now) (a .m) (a .row .now) (a .p) (omega (arith, h))
+    (sym (c .before .waits .ensures) ∙ c .if2 .taken)
+
+meets-requires : tie.Need-meets-requires
+meets-requires c κs =
+    let s = c .before .before .before .before .before .before .before .before in
+    let h : s .args .p .left ≡ 0 → ⊥ = eqb-false _ _ (sym (c .before .before .before .is-home .ensures) ∙ c .before .before .if1 .left) in
+    (omega (arith, h), s .pre .fit)
+
+cast-acts : tie.Need-cast-acts
+cast-acts c = omega (arith, c .before .before .before .before .first-trier .ensures .1, c .before .before .before .before .before .before .before .before .before .before .before .before .before .before .before .before .before .before .before .before .before .pre .noting .low)
+
+cast-acts-2 : tie.Need-cast-acts-2
+cast-acts-2 c = omega (arith, c .before .before .before .before .before .before .before .before .before .before .before .before .before .before .before .before .before .before .before .before .before .pre .noting .low)
+
+acts-requires : tie.Need-acts-requires
+acts-requires c κs =
+    let g = c .before .before .before .before .before .before .before .before .before .before .before .before .meets .ensures in
+    (g .left, omega (arith, g .turned .within, c .before .before .before .before .before .before .before .before .before .before .before .before .before .before .before .before .before .before .before .before .before .pre .fit), g .link)
+
+returns-3 : tie.Need-returns-3
+returns-3 c =
     let d = c .before in
     let f = d .before .before .before .before .before in
     let b = f .before .before .before .before in
     let t = b .before .before .before .before in
     let g = t .meets .ensures in
-    let a = t .before .before .before .before .before .before .before .args in
-    moves-by (acts-tries _ _ (a .slot .0) (a .tried .now) (a .m) (a .row .now) (a .p) _ g _ _ _ _ (b .before .before .if2 .taken)
-    (not-true _ (b .if3 .taken))
+    let a = t .before .before .before .before .before .before .before .before .before .args in
+    moves-by (acts-tries _ _ (a .slot .0) (a .tried .now) (a .m) (a .row .now) (a .p) _ g _ _ _ _ (b .before .before .if3 .taken)
+    (not-true _ (b .if4 .taken))
     (f .before .before .entry .ensures) (f .first-trier .ensures .0) (d .before .before .before .note .ensures) (d .acts .ensures _ (g .cut)))
 
-returns-3 : tie.Need-returns-3
-returns-3 c =
+returns-4 : tie.Need-returns-4
+returns-4 c =
     let d = c .before in
     let t = d .before .before .before in
     let g = t .meets .ensures in
-    let a = t .before .before .before .before .before .before .before .args in
+    let a = t .before .before .before .before .before .before .before .before .before .args in
     let e = entryAt (a .table .now) (a .slot .0) in
     let does = d .acts2 .ensures _ (g .cut) in
     moves-by (⊎-elim (λ w. acts-cut _ e (a .slot .0) (a .tried .now) (a .m) (a .row .now) (a .p) _ g _ _ _ _ (not-false _ (w .2 .left)) does)
-    (λ w. acts-first _ e (a .slot .0) (a .tried .now) (a .m) (a .row .now) (a .p) _ g _ _ _ _ (w .left) does) (d .before .if2 .came))
+    (λ w. acts-first _ e (a .slot .0) (a .tried .now) (a .m) (a .row .now) (a .p) _ g _ _ _ _ (w .left) does) (d .before .if3 .came))
 
 pub move-one-spec : {M : Type 1} → statement M
 move-one-spec =
     tie.close
-    (tie.spec (λ c κs. search needs) returns meets-requires (λ c. search needs) (λ c κs. search needs) (λ c κs. search needs)
-    (λ c κs. search needs) (λ c. search needs) (λ c. search needs) (λ c κs. search needs) (λ c. search needs) returns-2 (λ c. search needs)
-    (λ c. search needs) (λ c κs. search needs) returns-3)
+    (tie.spec (λ c κs. search needs) returns (λ c κs. search needs) returns-2 meets-requires (λ c. search needs) (λ c κs. search needs)
+    (λ c κs. search needs) (λ c κs. search needs) cast-acts cast-acts-2 acts-requires (λ c. search needs) returns-3 (λ c. search needs)
+    (λ c. search needs) (λ c κs. search needs) returns-4)
