@@ -4,8 +4,9 @@
   bench/run.py ORACLE OURS... -- C...      the second program, which makes the plans, and the words that start each program
 
 With NUTHATCHET_BENCH=captures in the environment it asks about captures alone, with NUTHATCHET_BENCH=figures for figures alone, and with
-NUTHATCHET_BENCH=judge it reads files and judges rows alone. With NUTHATCHET_SHARE=N it takes one turn in N of each question but those about
-captures, since an emulator is that much slower.
+NUTHATCHET_BENCH=judge it reads files and judges rows alone. With NUTHATCHET_BENCH=instructions it takes no times: it counts the instructions of
+both programs, which are the same in every run and on every machine (by the emulator of Debian's package qemu-user). With NUTHATCHET_SHARE=N it
+takes one turn in N of each question but those about captures, since an emulator is that much slower.
 
 Times are processor seconds. Both programs print a checksum of all answers, and it has to be the same. docs/BENCHMARKS.md has what this printed."""
 import collections, math, os, random, shutil, subprocess, sys, tempfile
@@ -145,6 +146,36 @@ def against_c(goals):
         )
         note('%d of %d' % (number + 1, len(asked)))
     return each
+
+
+def counting(words):
+    """The words that start a program under an emulator that counts its instructions."""
+    emulator, compiler = shutil.which('qemu-x86_64'), shutil.which('cc')
+    if not emulator or not compiler:
+        sys.exit('instructions are counted by QEMU, with a plugin that cc compiles (Debian, Ubuntu: apt-get install qemu-user gcc)')
+    plugin = os.path.join(made, 'instructions.so')
+    subprocess.run([compiler, '-O2', '-shared', '-fPIC', os.path.join(here, 'instructions.c'), '-o', plugin], check=True)
+    return [emulator, '-plugin', plugin] + words[os.path.basename(words[0]) == 'qemu-x86_64' :]
+
+
+def instructions():
+    """The table of instructions a turn: those of some turns less those of none."""
+    print('%-10s %-8s %12s %12s   ours / C' % ('plan', 'question', 'ours', 'C'), flush=True)
+    both = [counting(words) for words in (ours, c)]
+    questions = asked + [(plan, 'figures3', turns) for plan, turns in searched.items()]
+    for number, (plan, question, turns) in enumerate(questions):
+        turns = turns // 400 + 1
+        taken = []
+        for words in both:
+            ends = []
+            for n in 0, turns:
+                ran = subprocess.run(words + [question, ' %d' % n, ' 0'], cwd=folder(plan), capture_output=True, text=True)
+                if ran.returncode or not ran.stderr.endswith(' instructions\n'):
+                    sys.exit('%s %s: not counted: %s' % (plan, question, ran.stderr.strip()))
+                ends.append(int(ran.stderr.split()[-2]))
+            taken.append((ends[1] - ends[0]) // turns)
+        print('%-10s %-8s %12d %12d   %.2f' % (plan, question, *taken, taken[0] / taken[1]), flush=True)
+        note('%d of %d' % (number + 1, len(questions)))
 
 
 def figured(goals):
@@ -379,6 +410,8 @@ goals = collections.defaultdict(list)
 if not solver and parts in ('', 'captures'):
     note(unsolved)
 make_plans()
+if parts == 'instructions':
+    sys.exit(instructions())
 if parts in ('', 'judge'):
     times = against_c(goals)
 if not parts:

@@ -10,6 +10,7 @@ use Rattle.scope.specs.Plan.{at, slotAt}
 use Rattle.scope.specs.Slot as S
 use Rattle.step.specs.declared.Position.{Position}
 use Rattle.step.specs.declared.Met.{Met}
+use Rattle.step.specs.declared.Event.the-variants.{Waits}
 use Rattle.step.specs.declared.Moved.{Moved}
 use Rattle.step.specs.Where.{leftAt, positionOf, waitsIn, Acts, Meets}
 use Rattle.step.specs.Pass.{firstTrier, noted, triedAfter, does, ActsIn, MovesIn}
@@ -109,9 +110,10 @@ module _ (down : ℕ → Bool) (owner : ℕ → ℕ) (i : ℕ) (tried : List ℕ
         }
 
   -- it waits on its first path: it stays where it is, and tries nothing
-  pub waits-moves : (row : List ℕ) (p : Position) → 0 < p .left → waitsIn row down i p ≡ true → MovesIn row down owner i p m tried tried p
+  pub waits-acts : (row : List ℕ) (p : Position) (e : ℕ) → 0 < p .left → waitsIn row down i p ≡ true → e ≡ at row (p .at) →
+      ActsIn row down owner i p m tried tried (record { next = p; event = Waits e })
   unfolding does triedAfter
-  waits-moves row p some w =
+  waits-acts row p e some w is =
       let two = and-eq-true-iff (not (eqb (slotAt row (p .at)) i) && not (p .turned)) (not (down (at row (p .at)))) .0 w in
       let one = and-eq-true-iff (not (eqb (slotAt row (p .at)) i)) (not (p .turned)) .0 (two .0) in
       let other = not-true (eqb (slotAt row (p .at)) i) (one .0) in
@@ -119,7 +121,7 @@ module _ (down : ℕ → Bool) (owner : ℕ → ℕ) (i : ℕ) (tried : List ℕ
       let whole = not-true (down (at row (p .at))) (two .1) in
       let next = places-next row (p .at) (p .left) some in
       record {
-        next = record { is = rw (first, next, whole, whole, other) refl; within = omega arith };
+        acts = record { is = rw (is, first, next, whole, whole, other) refl; within = omega arith };
         noted = rw (first, next, whole) refl;
       }
 

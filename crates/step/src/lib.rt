@@ -302,7 +302,7 @@ fn note(tried: &mut [u16], link: u16, m: usize)
 }
 
 // What message m does in a slot, in a pass over the messages: `tried` has what those before it try. It tries the link before it if it has
-// turned and that link is whole; only then does it matter who holds the link, and who tries it first.
+// turned and that link is whole; only then does it matter who holds the link, and who tries it first. One that waits is asked no more.
 fn act_one(
     p: Position,
     m: usize,
@@ -321,6 +321,10 @@ fn act_one(
         let event = Event::Arrived;
         return Moved { next: p, event };
     }
+    if p.waits(row, down, slot) {
+        let event = Event::Waits(number(row, p.at as usize) as u16);
+        return Moved { next: p, event };
+    }
     let met = p.meets(row, down);
     let q = met.position;
     if q.turned && !met.down {
@@ -332,8 +336,7 @@ fn act_one(
     met.acts(row, slot, 0, m as u16, m as u16)
 }
 
-// The next position of message m. It asks what `act_one` asks, and not `act_one` itself: each is called in one place, and inlined there. One
-// that waits is asked no more.
+// The next position of message m. It asks what `act_one` asks, and not `act_one` itself: each is called in one place, and inlined there.
 fn move_one(
     p: Position,
     m: usize,

@@ -1,11 +1,11 @@
 -- `step::move_one` meets its contract: what `act_one` does, and of it the next position. Assumes nothing.
-use mathlib.Core.Path.{_≡_, sym, _∙_, ap}
+use mathlib.Core.Path.{_≡_, refl, sym, _∙_, ap}
 use mathlib.Core.Logic.{⊎-elim}
 use native.Mathlib.Omega.{arith}
 use borrow.Author.Tests.{eqb-true, eqb-false, not-true, not-false}
 use borrow.Author.Needs.{needs}
 use Rattle.table.specs.Table.{entryAt}
-use Rattle.step.proofs.Acting.{home-does, home-tried, waits-moves, acts-first, acts-cut, acts-tries, moves-by}
+use Rattle.step.proofs.Acting.{home-does, home-tried, waits-acts, acts-first, acts-cut, acts-tries, moves-by}
 use Rattle.step.proofs.move_one.Statement.{statement}
 use Rattle.step.proofs.move_one.Tie as tie
 
@@ -25,8 +25,8 @@ returns-2 : tie.Need-returns-2
 returns-2 c =
     let a = c .before .before .before .before .before .before .before .before .args in
     let h : a .p .left ≡ 0 → ⊥ = eqb-false _ _ (sym (c .before .before .before .is-home .ensures) ∙ c .before .before .if1 .left) in
-    waits-moves _ (entryAt (a .table .now) (a .slot .0)) (a .slot .0) (a .tried .now) (a .m) (a .row .now) (a .p) (omega (arith, h))
-    (sym (c .before .waits .ensures) ∙ c .if2 .taken)
+    moves-by (waits-acts _ (entryAt (a .table .now) (a .slot .0)) (a .slot .0) (a .tried .now) (a .m) (a .row .now) (a .p) _ (omega (arith, h))
+    (sym (c .before .waits .ensures) ∙ c .if2 .taken) refl)
 
 meets-requires : tie.Need-meets-requires
 meets-requires c κs =
