@@ -1,5 +1,5 @@
--- What the breaker's turn, a pick of his and the network's turn promise each other: the least number of arrivals from there on, if it is below the least that
--- is known, said both ways.
+-- What the breaker's turn, a pick of his and the network's turn promise each other: the least number of arrivals from there on, if it is below
+-- the least that is known, said both ways.
 use Prim.Native.Nat.{ℕ, _+_, _-_, _*_, _≤_, _<_}
 use mathlib.Core.Path.{_≡_}
 use mathlib.Core.Bool.{Bool, true, false, _&&_, cond}

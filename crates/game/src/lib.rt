@@ -1,7 +1,8 @@
 // The least number of arrivals that cuts can leave, as a game: in each slot the breaker picks what else to cut, then the network moves one
 // slot, and they alternate until the timeout. The two turns, and a pick of the breaker's, are functions that call each other; with each call
-// the slots left, then the links unchosen, fall. A turn is told the least number that is known, and passes over what the bounds of `risks` show to leave no fewer. It
-// leans on `picks` for the pairs picked and a slot played under them, and on `order` for the lists that go on from there.
+// the slots left, then the links unchosen, fall. A turn is told the least number that is known, and passes over what the bounds of `risks`
+// show to leave no fewer. It leans on `picks` for the pairs picked and a slot played under them, and on `order` for the lists that go on from
+// there.
 use picks::Picked;
 use picks::Sizes;
 use risks::Hits;

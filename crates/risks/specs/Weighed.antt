@@ -58,10 +58,11 @@ pub record Fits (rest : Rest) : Type 0 where
 abbrev pub tooLight : ℕ → Loss → Bool
 tooLight need loss = ltb (loss .touches) need || ltb (loss .strips) need || ltb (loss .both) (2 * need)
 
--- no list with n pairs more from slot s on can answer: with none it loses too few, and with some not even the heaviest pairs lose enough
+-- what can be lost without one pair more
 abbrev pub lossOf : Rest → Loss
 lossOf rest = record { touches = rest .touches; strips = rest .strips; both = rest .both }
 
+-- no list with n pairs more from slot s on can answer: with none it loses too few, and with some not even the heaviest pairs lose enough
 abbrev pub inVain : Risk → ℕ → List ℕ → ℕ → ℕ → Bool
 inVain risk n most need s = cond (eqb n 0) (ltb (risk .lost) need) (tooLight need (lossOf (restOf risk n most s)))
 

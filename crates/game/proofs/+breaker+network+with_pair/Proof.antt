@@ -249,12 +249,14 @@ breaker-needed-requires-2 t c κs =
 breaker-slice-aggregate-next-link-2 : (t : ℕ) → breaker-lts.Need-slice-aggregate-next-link-2 (breaker-calls t) (breaker-at t) breaker.Post
     breaker-Inv-loop breaker-μ-loop
 breaker-slice-aggregate-next-link-2 t c =
-    let start = c .before .before .before .before .before .before .before .before .before .before .before .before .before .before .before .before .before .before .before .before .before .before .before .before in
+    let start = c .before .before .before .before .before .before .before .before .before .before .before .before .before .before .before
+    .before .before .before .before .before .before .before .before .before in
     sym (start .pre .1 .turn .holding .shut)
 
 breaker-add-next-link : (t : ℕ) → breaker-lts.Need-add-next-link (breaker-calls t) (breaker-at t) breaker.Post breaker-Inv-loop breaker-μ-loop
 breaker-add-next-link t c =
-    let start = c .before .before .before .before .before .before .before .before .before .before .before .before .before .before .before .before .before .before .before .before .before .before .before .before in
+    let start = c .before .before .before .before .before .before .before .before .before .before .before .before .before .before .before
+    .before .before .before .before .before .before .before .before .before in
     omega (arith, c .before .before .before .loop-test .taken, start .pre .1 .turn .board .play .few)
 
 breaker-next-link-requires-2 : (t : ℕ) → breaker-lts.Need-next-link-requires-2 (breaker-calls t) (breaker-at t) breaker.Post breaker-Inv-loop
@@ -280,7 +282,8 @@ breaker-loop-again t c =
     let k = w′ .before in
     let start = k .before .before .before .before .before .before .before .before .before in
     breaks-on _ _ _ _ _ _ _ _ _ _ _ _ _ _ _ (start .pre .1) _ _ _ (k .at-risk .ensures) (w′ .wanting .ensures) (w .losses .ensures) _ _
-    (c .before .before .before .before .before .loop .inv) (c .before .before .before .before .loop-test .taken) _ (c .before .before .before .with-pair .ensures) _ _ (c .before .before .needed2 .ensures .0)
+    (c .before .before .before .before .before .loop .inv) (c .before .before .before .before .loop-test .taken) _ (c .before .before .before
+    .with-pair .ensures) _ _ (c .before .before .needed2 .ensures .0)
     (c .next-link2 .ensures)
 
 breaker-network-requires : (t : ℕ) → breaker-lts.Need-network-requires (breaker-calls t) (breaker-at t) breaker.Post breaker-Inv-loop
@@ -374,7 +377,9 @@ with-pair-in-vain-requires t c κs =
 
 with-pair-returns : (t : ℕ) → with-pair-lts.Need-returns (pair-calls t) (with-pair-at t) with-pair.Post
 with-pair-returns t c =
-    picked-in-vain _ _ _ _ _ _ _ _ _ _ _ _ _ _ _ (c .before .before .before .before .before .before .before .before .before .before .before .pre .1) _ _ _ _ (c .before .before .before .before .needed .ensures .0) (c .before .before .before .hit .ensures) (c .before .before .at-risk .ensures)
+    picked-in-vain _ _ _ _ _ _ _ _ _ _ _ _ _ _ _ (c .before .before .before .before .before .before .before .before .before .before .before .pre
+    .1) _ _ _ _ (c .before .before .before .before .needed .ensures .0) (c .before .before .before .hit .ensures) (c .before .before .at-risk
+    .ensures)
     (c .before .in-vain .ensures) (c .if1 .taken)
 
 with-pair-pick-requires : (t : ℕ) → with-pair-lts.Need-pick-requires (pair-calls t) (with-pair-at t) with-pair.Post
@@ -387,7 +392,11 @@ with-pair-pick-requires t c κs =
     )
 
 with-pair-sub-breaker : (t : ℕ) → with-pair-lts.Need-sub-breaker (pair-calls t) (with-pair-at t) with-pair.Post
-with-pair-sub-breaker t c = omega (arith, c .before .before .before .before .before .before .before .before .before .before .before .before .pre .1 .some)
+with-pair-sub-breaker t c = omega (
+  arith,
+  c .before .before .before .before .before .before .before .before .before .before .before .before .pre
+      .1 .some,
+)
 
 with-pair-add-breaker : (t : ℕ) → with-pair-lts.Need-add-breaker (pair-calls t) (with-pair-at t) with-pair.Post
 with-pair-add-breaker t c =

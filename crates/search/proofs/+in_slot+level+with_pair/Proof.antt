@@ -1,4 +1,5 @@
--- The search: `level` goes over the slots, `in_slot` over the links of a slot, and `with_pair` calls `level` with one pair more. The pairs still
+-- The search: `level` goes over the slots, `in_slot` over the links of a slot, and `with_pair` calls `level` with one pair more. The pairs
+-- still
 -- to come fall from `level` to `level`.
 use Prim.Native.Nat.{ℕ, _+_, _-_, _*_, _<_}
 use mathlib.Core.Path.{sym}
@@ -135,24 +136,33 @@ in-slot-loop-holds t c =
 in-slot-with-pair-requires : (t : ℕ) → in-slot-lts.Need-with-pair-requires (in-calls t) (in-slot-at t) in-slot.Post in-inv in-less
 in-slot-with-pair-requires t c κs = (
   omega (arith, c .before .before .before .before .before .before .before .before .before .before .before .pre .0),
-  may-pick _ _ _ _ _ _ _ _ _ _ _ _ _ _ _ (c .before .before .before .before .before .before .before .before .before .before .before .pre .1) _ (c .before .loop .inv) (c .loop-test .taken),
+  may-pick _ _ _ _ _ _ _ _ _ _ _ _ _ _ _ (c .before .before .before .before .before .before .before .before .before .before .before .pre .1) _
+      (c .before .loop .inv) (c .loop-test .taken),
 )
 
 in-slot-returns : (t : ℕ) → in-slot-lts.Need-returns (in-calls t) (in-slot-at t) in-slot.Post in-inv in-less
 in-slot-returns t c =
-    looks-some _ _ _ _ _ _ _ _ _ _ _ _ _ _ _ (c .before .before .before .before .before .before .before .before .before .before .before .before .before .pre .1) _ _
+    looks-some _ _ _ _ _ _ _ _ _ _ _ _ _ _ _ (c .before .before .before .before .before .before .before .before .before .before .before .before
+    .before .pre .1) _ _
     (c .before .before .before .loop .inv) (c .before .before .loop-test .taken) (c .before .with-pair .ensures) (c .if1 .taken)
 
 in-slot-slice-aggregate-next-link-2 : (t : ℕ) →
     in-slot-lts.Need-slice-aggregate-next-link-2 (in-calls t) (in-slot-at t) in-slot.Post in-inv in-less
-in-slot-slice-aggregate-next-link-2 t c = sym (c .before .before .before .before .before .before .before .before .before .before .before .before .before .before .pre .1 .holding .shut)
+in-slot-slice-aggregate-next-link-2 t c = sym (c .before .before .before .before .before .before .before .before .before .before .before .before
+    .before .before .pre .1 .holding .shut)
 
 in-slot-add-next-link : (t : ℕ) → in-slot-lts.Need-add-next-link (in-calls t) (in-slot-at t) in-slot.Post in-inv in-less
-in-slot-add-next-link t c = omega (arith, c .before .before .before .loop-test .taken, c .before .before .before .before .before .before .before .before .before .before .before .before .before .before .pre .1 .ready .play .few)
+in-slot-add-next-link t c = omega (
+  arith,
+  c .before .before .before .loop-test .taken,
+  c .before .before .before .before .before .before .before
+      .before .before .before .before .before .before .before .pre .1 .ready .play .few,
+)
 
 in-slot-next-link-requires-2 : (t : ℕ) → in-slot-lts.Need-next-link-requires-2 (in-calls t) (in-slot-at t) in-slot.Post in-inv in-less
 in-slot-next-link-requires-2 t c κs = (
-  may-try _ _ _ _ _ _ _ _ _ _ _ _ _ _ _ (c .before .before .before .before .before .before .before .before .before .before .before .before .before .before .pre .1),
+  may-try _ _ _ _ _ _ _ _ _ _ _ _ _ _ _ (c .before .before .before .before .before .before .before .before .before .before .before .before
+      .before .before .pre .1),
   omega (arith, c .before .before .before .loop-test .taken),
   c .before .before .before .before .before .before .before .before .before .before .before .before .before .before .pre .1 .ready .play .few,
 )
@@ -162,8 +172,10 @@ in-slot-loop-less t c = omega (arith, c .before .before .before .before .loop-te
 
 in-slot-loop-again : (t : ℕ) → in-slot-lts.Need-loop-again (in-calls t) (in-slot-at t) in-slot.Post in-inv in-less
 in-slot-loop-again t c =
-    looks-on _ _ _ _ _ _ _ _ _ _ _ _ _ _ _ (c .before .before .before .before .before .before .before .before .before .before .before .before .before .before .before .pre .1) _ _ (c .before .before .before .before .before .loop .inv)
-    (c .before .before .before .before .loop-test .taken) (c .before .before .before .with-pair .ensures) _ (c .before .before .if1 .left) (c .next-link2 .ensures)
+    looks-on _ _ _ _ _ _ _ _ _ _ _ _ _ _ _ (c .before .before .before .before .before .before .before .before .before .before .before .before
+    .before .before .before .pre .1) _ _ (c .before .before .before .before .before .loop .inv)
+    (c .before .before .before .before .loop-test .taken) (c .before .before .before .with-pair .ensures) _ (c .before .before .if1 .left) (c
+    .next-link2 .ensures)
 
 in-slot-nothing-requires : (t : ℕ) → in-slot-lts.Need-nothing-requires (in-calls t) (in-slot-at t) in-slot.Post in-inv in-less
 in-slot-nothing-requires t c κs = search needs
@@ -335,7 +347,9 @@ with-pair-nothing-requires t c κs = search needs
 
 with-pair-returns : (t : ℕ) → with-pair-lts.Need-returns (pair-calls t) (with-pair-at t) with-pair.Post
 with-pair-returns t c =
-    goes-nowhere _ _ _ _ _ _ _ _ _ _ _ _ _ _ (c .before .before .before .before .before .before .before .before .before .before .before .pre .1) _ _ _ _ (c .before .before .before .before .hit .ensures) (c .before .before .before .at-risk .ensures) (c .before .before .in-vain .ensures)
+    goes-nowhere _ _ _ _ _ _ _ _ _ _ _ _ _ _ (c .before .before .before .before .before .before .before .before .before .before .before .pre .1)
+    _ _ _ _ (c .before .before .before .before .hit .ensures) (c .before .before .before .at-risk .ensures) (c .before .before .in-vain
+    .ensures)
     (c .before .if1 .taken) (c .nothing .ensures)
 
 with-pair-pick-requires : (t : ℕ) → with-pair-lts.Need-pick-requires (pair-calls t) (with-pair-at t) with-pair.Post
@@ -352,8 +366,14 @@ with-pair-sub-level t c = omega (arith, c .before .before .before .before .befor
 
 with-pair-level-requires : (t : ℕ) → with-pair-lts.Need-level-requires (pair-calls t) (with-pair-at t) with-pair.Post
 with-pair-level-requires t c κs = (
-  omega (arith, c .before .before .before .before .before .before .before .before .before .before .before .pre .0, c .before .before .before .before .before .before .before .before .before .before .before .pre .1 .some),
-  may-go-on _ _ _ _ _ _ _ _ _ _ _ _ _ _ (c .before .before .before .before .before .before .before .before .before .before .before .pre .1) _ _ (c .pick .ensures) (c .before .before .before .before .hit .ensures),
+  omega (
+    arith,
+    c .before .before .before .before .before .before .before .before .before .before .before .pre .0,
+    c .before .before .before
+        .before .before .before .before .before .before .before .before .pre .1 .some,
+  ),
+  may-go-on _ _ _ _ _ _ _ _ _ _ _ _ _ _ (c .before .before .before .before .before .before .before .before .before .before .before .pre .1) _ _
+      (c .pick .ensures) (c .before .before .before .before .hit .ensures),
 )
 
 with-pair-returns-2 : (t : ℕ) → with-pair-lts.Need-returns-2 (pair-calls t) (with-pair-at t) with-pair.Post
