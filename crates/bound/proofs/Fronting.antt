@@ -131,8 +131,8 @@ module _ (weights fronts : List ℕ) where
               )) i b e x;
         }
 
-    pub fronts_done : (slots : ℕ) → slots ≤ s → Fronts weights slots fronts
-    fronts_done slots h = record { long = g.long; most = λ i e x b. g.most i e x (omega arith) }
+    pub fronts-done : (slots : ℕ) → slots ≤ s → Fronts weights slots fronts
+    fronts-done slots h = record { long = g.long; most = λ i e x b. g.most i e x (omega arith) }
 
 -- the tops, and the fronts after them
 pub tops_and_fronts : (weights : List ℕ) (slots : ℕ) (old new : List ℕ) → slots ≤ most_slots → TopsEach weights slots old →

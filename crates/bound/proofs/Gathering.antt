@@ -129,8 +129,8 @@ module _ (seconds : List ℕ) (e set : ℕ) where
               (λ h. in_second set b v m both (rw (one m, ne_eqb (second_in seconds e m) 0 (λ z. omega arith), eq-eqb m m refl)));
         }
 
-    pub through_done : most_messages ≤ m → Through seconds e set
-    through_done h j l = g.is j (omega arith)
+    pub through-done : most_messages ≤ m → Through seconds e set
+    through-done h j l = g.is j (omega arith)
 
 -- the links below link e have such sets in a row
 pub record ThroughLinks (seconds : List ℕ) (s : ℕ) (sets : List ℕ) (e : ℕ) : Type 0 where
@@ -151,8 +151,8 @@ module _ (seconds : List ℕ) (s : ℕ) (sets : List ℕ) where
               (λ m hm t. rw (get_or-set_same sets (index_of s e) v 0 (omega (arith, g.long))) (is m hm t));
         }
 
-    pub links_done : most_links ≤ e → ThroughRow seconds s sets
-    links_done h = record { long = g.long; is = λ d l. g.is d (omega arith) }
+    pub links-done : most_links ≤ e → ThroughRow seconds s sets
+    links-done h = record { long = g.long; is = λ d l. g.is d (omega arith) }
 
 pub strip_sets_lem : (fragile seconds : List ℕ) (slots : ℕ) (row new : List ℕ) → ThroughRow seconds slots row → Gathered fragile slots row new →
     StripSetsOf fragile seconds slots new

@@ -47,8 +47,8 @@ module _ (slots e o : ℕ) (old : List ℕ) (may : MayAddLink slots e o old) whe
           same = λ i d m other. get_or-set_other new k (index_of i d) v 0 (λ q. other (omega arith)) ∙ g.same i d m other;
         }
 
-    pub link_done : slots ≤ s → AddedLink slots e o old new
-    link_done h = record { long = g.long; here = λ i l. g.here i (omega arith); same = g.same }
+    pub link-done : slots ≤ s → AddedLink slots e o old new
+    link-done h = record { long = g.long; here = λ i l. g.here i (omega arith); same = g.same }
 
 -- a loop over the links, at link e: those from there on weigh what they did
 pub record AddingOthers (others : List ℕ) (slots : ℕ) (old new : List ℕ) (e : ℕ) : Type 0 where
@@ -105,8 +105,8 @@ module _ (others : List ℕ) (slots : ℕ) (old : List ℕ) (may : MayAddOthers 
           rest = λ s d t b m. g.rest s d t (omega arith) m;
         }
 
-  pub others_done : (new : List ℕ) (e : ℕ) → AddingOthers others slots old new e → most_links ≤ e → AddedOthers others slots old new
-  others_done new e g h = record { long = g.long; is = λ s d t m. g.done d (omega arith) s t }
+  pub others-done : (new : List ℕ) (e : ℕ) → AddingOthers others slots old new e → most_links ≤ e → AddedOthers others slots old new
+  others-done new e g h = record { long = g.long; is = λ s d t m. g.done d (omega arith) s t }
 
 -- two counts that are the same of each link
 with_same : (others : List ℕ) → AreLinks others → (f g : ℕ → ℕ) → ((e : ℕ) → e < most_links → f e ≡ g e) → (e : ℕ) → e < most_links →

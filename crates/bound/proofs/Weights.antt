@@ -221,6 +221,6 @@ module _ (Under : ℕ → ℕ → Type 0) (size n : ℕ) (most : List ℕ) where
           rw (get_or-set_other most (k - 1) s v 0 other) (g.tops s i (omega (arith, other)) b c)
 
 -- over the slots, once all are done
-pub tops_done : (weights : List ℕ) (slots : ℕ) (most : List ℕ) (top k : ℕ) → Topping (TopOf weights) most_slots slots most top k → k ≤ 0 →
+pub tops-done : (weights : List ℕ) (slots : ℕ) (most : List ℕ) (top k : ℕ) → Topping (TopOf weights) most_slots slots most top k → k ≤ 0 →
     Tops weights slots most
-tops_done weights slots most top k g h = record { long = g.long; later = λ s i e a b. g.tops s i (omega arith) a b e }
+tops-done weights slots most top k g h = record { long = g.long; later = λ s i e a b. g.tops s i (omega arith) a b e }

@@ -12,7 +12,7 @@ use Rattle.scope.specs.Limits.{most_vertices, most_links, ends_size}
 use Rattle.scope.specs.Lowest.{lowest, some}
 use Rattle.scope.specs.Plan.{Plan, Link, at, link_count, plan_of, link_of}
 use Rattle.scope.specs.Cables.{other_way}
-use Rattle.scope.proofs.Lowest.{seek_found, seek-next, seek_done}
+use Rattle.scope.proofs.Lowest.{seek_found, seek-next, seek-done}
 use Rattle.scope.proofs.Cables.{other-below}
 use Rattle.rows.specs.View.{Number}
 use Rattle.rows.specs.Lies.{PlanLies}
@@ -24,7 +24,7 @@ module _ (plan : Plan) where
     -- the lowest from link e on: there is none, it is link e, or it is a later one
     low-none : (e : ℕ) → length plan.links ≤ e → lowest_from plan a b e ≡ 0
     low-none e h =
-        rw (seek_done (leads plan a b) (length plan.links) e h, le-ltb e (length plan.links) h)
+        rw (seek-done (leads plan a b) (length plan.links) e h, le-ltb e (length plan.links) h)
 
     low-here : (e : ℕ) → e < length plan.links → leads plan a b e ≡ true → lowest_from plan a b e ≡ e + 1
     low-here e h t = rw (seek_found (leads plan a b) (length plan.links) e h t, lt-ltb e (length plan.links) h)

@@ -73,8 +73,8 @@ unfolding laid
 puts_two b n x y = record { buffer = refl; ends = refl }
 
 -- all lines are done
-pub cuts_done : {text entry exit : List ℕ} {r : ℕ} → Puts (cuts_from (length entry / 2) text 0) entry exit 0 r → Cuts text entry exit r
-cuts_done {text} {entry} {exit} {r} p =
+pub cuts-done : {text entry exit : List ℕ} {r : ℕ} → Puts (cuts_from (length entry / 2) text 0) entry exit 0 r → Cuts text entry exit r
+cuts-done {text} {entry} {exit} {r} p =
     let most = cuts-most text (length entry / 2) 0 in
     let e : r ≡ length (cuts_from (length entry / 2) text 0) = let q = p.ends in omega arith in
     record {

@@ -51,9 +51,9 @@ act-whole rank down owner i tried m e p =
       kind7 = λ f fs h d c. absurd (omega arith);
     })
 
-crossed-whole : (rank : ℕ → ℕ) (down : ℕ → ℕ → Bool) (owner : ℕ → ℕ → ℕ) (m i e : ℕ) (ps : List Position) →
+crossed_whole : (rank : ℕ → ℕ) (down : ℕ → ℕ → Bool) (owner : ℕ → ℕ → ℕ) (m i e : ℕ) (ps : List Position) →
     crossing_of (move_in rank down owner m i ps).event ≡ e + 1 → down i e ≡ false
-crossed-whole rank down owner m i e ps c =
+crossed_whole rank down owner m i e ps c =
     act-whole rank (down i) (owner i) i (tried_in (down i) ps) m e (position_of m ps)
     (subst (λ (v : Moved). crossing_of v.event ≡ e + 1) (move_at rank down owner i ps m) c)
 
@@ -106,7 +106,7 @@ module _ (row table crossed : List ℕ) (z : Sizes) (keeps : rules (plan_of row)
       let plan = plan_of row in
       true≢false
       (sym is_cut_there ∙
-      crossed-whole (order_of plan) (is_cut plan cuts) (table_of plan) seen.message seen.slot seen.link
+      crossed_whole (order_of plan) (is_cut plan cuts) (table_of plan) seen.message seen.slot seen.link
       (positions (order_of plan) (is_cut plan cuts) (table_of plan) 0 seen.slot (start plan)) crossing)
 
 -- the loop over the table: nothing is noted at first, and then what was seen

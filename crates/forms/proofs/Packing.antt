@@ -76,8 +76,8 @@ counts-next row s t p i w v h l is read leads =
 pub counts-room : (row : List ℕ) (s : Fields) (p i : ℕ) → Counts row s p i → i < length row → p + width s ≤ length (row_bits row)
 counts-room row s p i h l = omega (arith, counts-next row s (step s (get_or row i 0)) p i (width s) (get_or row i 0) h l refl refl refl)
 
-pub counts_done : (row : List ℕ) (s : Fields) (p i : ℕ) → Counts row s p i → length row ≤ i → p ≡ length (row_bits row)
-counts_done row s p i h l = let e : length (packed s (drop i row)) ≡ 0 = ap length (rest-none row s i l) in omega arith
+pub counts-done : (row : List ℕ) (s : Fields) (p i : ℕ) → Counts row s p i → length row ≤ i → p ≡ length (row_bits row)
+counts-done row s p i h l = let e : length (packed s (drop i row)) ≡ 0 = ap length (rest-none row s i l) in omega arith
 
 -- writing: the loop stands at bit p of the file, with the numbers from index i on still to write
 pub record OnPack (row file₀ file : List ℕ) (s : Fields) (p i : ℕ) : Type 0 where
@@ -148,7 +148,7 @@ module _ (row file₀ file : List ℕ) (s : Fields) (p i : ℕ) (on : OnPack row
   pub packs_done : length row ≤ i → Packed row file p
   packs_done l =
       record {
-        end = counts_done row s p i on.counts l;
+        end = counts-done row s p i on.counts l;
         written = sym (append-nil (take p (bits file))) ∙ ap (λ (b : List ℕ). take p (bits file) ++ b) (sym (rest-none row s i l)) ∙
             on.written;
       }

@@ -320,8 +320,8 @@ module _ (row table touch_sets strip_sets weights most : List ℕ) (z : Sizes) (
 
       -- the network's turn may come, and what it answers is the answer
       module _ (best i : ℕ) (g : Breaking row z p n s e least best i) (done : z.links ≤ i) where
-        pub may_pass : Turn row table touch_sets strip_sets weights most z hits ps p more s best
-        may_pass =
+        pub may-pass : Turn row table touch_sets strip_sets weights most z hits ps p more s best
+        may-pass =
             record {
               board = board;
               holding = m.turn.holding;

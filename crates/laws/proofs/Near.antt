@@ -106,14 +106,14 @@ module _ (rank : ℕ → ℕ) (down other : ℕ → Bool) (owner : ℕ → ℕ) 
       act-first (λ (v : Moved). Meets v w) rank down owner i here m q qs
       (λ c. absurd (false≢true (sym whole ∙ c)))
       (λ c s. names _ w (record { waits_or_crosses = (omega arith, omega arith); whole = whole; cut = cut })
-      (λ z. absurd (not-crossed (sym (z q.link) ∙ eq-eqb q.link q.link refl))))
+      (λ z. absurd (not_crossed (sym (z q.link) ∙ eq-eqb q.link q.link refl))))
       (λ c s. names _ w (record { waits_or_crosses = (omega arith, omega arith); whole = whole; cut = cut }) stays)
     where
       w : Moved
       w = acts rank other owner i there m (on_second (e ∷ es))
 
-      not-crossed : crosses q.link w.event ≡ true → ⊥
-      not-crossed =
+      not_crossed : crosses q.link w.event ≡ true → ⊥
+      not_crossed =
           act-second (λ (v : Moved). crosses q.link v.event ≡ true → ⊥) rank other owner i there m e es
           (λ c h. false≢true h) (λ c o h. false≢true h) (λ c o l h. false≢true h) (λ c o l h. elsewhere (eqb-true e q.link h))
 

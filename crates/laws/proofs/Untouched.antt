@@ -31,9 +31,9 @@ left_after : ℕ → ℕ → List Place → List Place
 left_after i zero path = path
 left_after i (suc n) path = left_after (i + 1) n (left i path)
 
-alone-next : (i : ℕ) (path : List Place) → (alone i path).next ≡ on_first (left i path)
-alone-next i [] = refl
-alone-next i (p ∷ ps) = by (eqb p.slot i)
+alone_next : (i : ℕ) (path : List Place) → (alone i path).next ≡ on_first (left i path)
+alone_next i [] = refl
+alone_next i (p ∷ ps) = by (eqb p.slot i)
   where
     by : (b : Bool) →
         (cond b (moved (on_first ps) 2 p.link) (moved (on_first (p ∷ ps)) 1 p.link)).next ≡ on_first (cond b ps (p ∷ ps))
@@ -54,10 +54,10 @@ left-whole down i [] w = tt
 left-whole down i (p ∷ ps) w = cond_cases (WholeInTime down) (eqb p.slot i) ps (p ∷ ps) (λ h. w.1) (λ h. w)
 
 module _ (rank : ℕ → ℕ) (down : ℕ → ℕ → Bool) (owner : ℕ → ℕ → ℕ) (t m : ℕ) where
-  act-alone : (i : ℕ) (tried : List ℕ) (path : List Place) → slots_rise t i path ≡ true → WholeInTime down path →
+  act_alone : (i : ℕ) (tried : List ℕ) (path : List Place) → slots_rise t i path ≡ true → WholeInTime down path →
       acts rank (down i) (owner i) i tried m (turn (down i) (on_first path)) ≡ alone i path
-  act-alone i tried [] r w = refl
-  act-alone i tried (p ∷ ps) r w =
+  act_alone i tried [] r w = refl
+  act_alone i tried (p ∷ ps) r w =
       let e : down i p.link ≡ false = w.0 i (rises t i p ps r).low in
       rw (e, e)
 
@@ -66,24 +66,24 @@ module _ (rank : ℕ → ℕ) (down : ℕ → ℕ → Bool) (owner : ℕ → ℕ
   move_alone i path ps h r w =
       move_at rank down owner i ps m ∙
       ap (λ (q : Position). acts rank (down i) (owner i) i (tried_in (down i) ps) m (turn (down i) q)) h ∙
-      act-alone i (tried_in (down i) ps) path r w
+      act_alone i (tried_in (down i) ps) path r w
 
   -- where it stands and what it does after n slots
-  stands-alone : (n i : ℕ) (path : List Place) (ps : List Position) → position_of m ps ≡ on_first path → slots_rise t i path ≡ true →
+  stands_alone : (n i : ℕ) (path : List Place) (ps : List Position) → position_of m ps ≡ on_first path → slots_rise t i path ≡ true →
       WholeInTime down path →
       (position_of m (positions rank down owner i n ps) ≡ on_first (left_after i n path)) × (slots_rise t (i + n) (left_after i n path) ≡ true) ×
       (move_in rank down owner m (i + n) (positions rank down owner i n ps) ≡ alone (i + n) (left_after i n path))
   unfolding positions left_after
-  stands-alone zero i path ps h r w =
+  stands_alone zero i path ps h r w =
       let e : i ≡ i + 0 = omega arith in
       let s : slots_rise t (i + 0) path ≡ true = ap (λ (j : ℕ). slots_rise t j path) (sym e) ∙ r in
       (h, s, move_alone (i + 0) path ps h s w)
-  stands-alone (suc n) i path ps h r w =
+  stands_alone (suc n) i path ps h r w =
       let e : i + 1 + n ≡ i + suc n = omega arith in
       let qs = nexts (slot rank down owner i ps) in
       let g : position_of m qs ≡ on_first (left i path) =
-      next-at (slot rank down owner i ps) m ∙ ap (λ (v : Moved). v.next) (move_alone i path ps h r w) ∙ alone-next i path in
-      rw e at (stands-alone n (i + 1) (left i path) qs g (left_rises t i path r) (left-whole down i path w))
+      next-at (slot rank down owner i ps) m ∙ ap (λ (v : Moved). v.next) (move_alone i path ps h r w) ∙ alone_next i path in
+      rw e at (stands_alone n (i + 1) (left i path) qs g (left_rises t i path r) (left-whole down i path w))
 
 none_left : (t : ℕ) (path : List Place) → slots_rise t t path ≡ true → path ≡ []
 none_left t [] r = refl
@@ -96,8 +96,8 @@ nothing_down_lem (p ∷ ps) = (λ i h. refl, nothing_down_lem ps)
 pub untouched : Untouched
 untouched rank down owner t m path ps h r w i =
     let e : 0 + i ≡ i = omega arith in
-    let a = (stands-alone rank down owner t m i 0 path ps h r w).2 in
-    let b = (stands-alone rank nothing_down owner t m i 0 path ps h r (nothing_down_lem path)).2 in
+    let a = (stands_alone rank down owner t m i 0 path ps h r w).2 in
+    let b = (stands_alone rank nothing_down owner t m i 0 path ps h r (nothing_down_lem path)).2 in
     let c : move_in rank down owner m i (positions rank down owner 0 i ps) ≡ alone i (left_after 0 i path) = rw e at a in
     let d : move_in rank nothing_down owner m i (positions rank nothing_down owner 0 i ps) ≡ alone i (left_after 0 i path) = rw e at b in
     ap (λ (v : Moved). v.event) (c ∙ sym d)
@@ -105,7 +105,7 @@ untouched rank down owner t m path ps h r w i =
 pub untouched-arrives : UntouchedArrives
 untouched-arrives rank down owner t m path ps h r w =
     let e : 0 + t ≡ t = omega arith in
-    let a = stands-alone rank down owner t m t 0 path ps h r w in
+    let a = stands_alone rank down owner t m t 0 path ps h r w in
     let s : slots_rise t t (left_after 0 t path) ≡ true = rw e at a.1 in
     ap at_target (a.0 ∙ ap on_first (none_left t (left_after 0 t path) s))
 

@@ -14,7 +14,7 @@ use Rattle.scope.specs.Lowest.{seek, lowest}
 use Rattle.scope.specs.Outcome.{Outcome, gives, refuse}
 use Rattle.scope.specs.Shelf.{name_of, bad_name, names_of, check_names}
 use Rattle.scope.proofs.Bools.{or_left, or_right}
-use Rattle.scope.proofs.Lowest.{seek_found, seek-next, seek_done, seek-low}
+use Rattle.scope.proofs.Lowest.{seek_found, seek-next, seek-done, seek-low}
 use Rattle.scope.proofs.Outcomes.{not-both}
 use Rattle.names.specs.Names.{name_end, bad_size}
 use Rattle.names.proofs.Names.{names-next, names-end, name-length}
@@ -48,7 +48,7 @@ module _ (names : List (List ℕ)) where
       let e : i ≡ length names = omega arith in
       from-none i (drop i names) (drop_of_length-le names {i = i} (omega arith)) ∙
       ap gives e ∙
-      sym (ap settled (seek_done (bad_name names) (length names) i (omega arith)) ∙
+      sym (ap settled (seek-done (bad_name names) (length names) i (omega arith)) ∙
       ap (λ (t : Bool). cond t (refuse 24 i) (gives (length names))) (le-ltb i (length names) (omega arith)))
   from_lowest (suc n) i h = by (bad_name names i) refl (from_lowest n (i + 1) (omega arith))
     where

@@ -35,8 +35,8 @@ module _ (text : List ℕ) (i : ℕ) where
   unfolding name_size
   end-next h n = rw (drop-cons text i 0 h, ne_eqb (get_or text i 0) 10 n, add-one i) (omega arith)
 
-  pub end_done : length text ≤ i → i ≡ name_end text i
-  end_done h =
+  pub end-done : length text ≤ i → i ≡ name_end text i
+  end-done h =
       let none : name_size (drop i text) ≡ 0 = ap name_size (drop_of_length-le text h) ∙ size_none in
       omega arith
 

@@ -8,7 +8,7 @@ use native.Mathlib.Numerals.{add-one}
 use lib.ListN.{length, get_or, drop, set, replicate, length-replicate, drop_of_length-le}
 use lib.Seq.{drop-cons}
 use borrow.Author.Tests.{eq-eqb, ne_eqb}
-use Rattle.text.proofs.Laid.{Left, left-first, left_is, left-more, left_done, left-same, puts_one, laid-front}
+use Rattle.text.proofs.Laid.{Left, left-first, left_is, left-more, left-done, left-same, puts_one, laid-front}
 use Rattle.probe_words.specs.Words.{all_are}
 
 -- A loop that has filled the first i numbers of a buffer b, which has become c.
@@ -32,7 +32,7 @@ module _ (x : ℕ) (b : List ℕ) where
       let same = left-same l in
       let n = length-replicate (length b) x in
       let e : length b - i ≡ 0 = omega arith in
-      let p = left_done (left_is (ap (λ (k : ℕ). replicate k x) e) l) in
+      let p = left-done (left_is (ap (λ (k : ℕ). replicate k x) e) l) in
       let room : length b ≤ length (replicate (length b) x) = omega arith in
       let none : drop (length (replicate (length b) x)) b ≡ [] = drop_of_length-le b room in
       p.buffer ∙ laid-front b (replicate (length b) x) (omega arith) ∙ ap (λ (s : List ℕ). replicate (length b) x ++ s) none

@@ -10,7 +10,7 @@ use borrow.Author.Tests.{lt-ltb, le-ltb, ne_eqb}
 use Rattle.scope.specs.Lines.{byte_at}
 use Rattle.text.specs.Text.{Puts}
 use Rattle.text.specs.declared.Number.{Number}
-use Rattle.text.proofs.Laid.{Left, left-first, left_is, left-more, left_done, left-same, puts_one}
+use Rattle.text.proofs.Laid.{Left, left-first, left_is, left-more, left-done, left-same, puts_one}
 use Rattle.probe_words.specs.declared.Count.{Count}
 use Rattle.probe_words.specs.Words.{items, items_end, Finds, Lists, Numbers, Bytes, number_value, number_next, pair_value, pair_next}
 use Rattle.probe_words.proofs.Found.{pair_half}
@@ -86,7 +86,7 @@ module _ (value next : ℕ → ℕ) (at : ℕ) (b : List ℕ) where
           let e : length b - n ≡ suc (length b - (n + 1)) = omega arith in
           let g' : next i ≤ i = let q = f.behind in omega arith in
           record {
-            puts = left_done (left_is (ap (λ (k : ℕ). items value next k i) e ∙ item_none value next (length b - (n + 1)) i g') l.left);
+            puts = left-done (left_is (ap (λ (k : ℕ). items value next k i) e ∙ item_none value next (length b - (n + 1)) i g') l.left);
             good =
                 ap (leb size)
                 (sym (end-here value next (length b - (n + 1)) i g') ∙ ap (λ (k : ℕ). items_end next k i) (sym e) ∙ l.end);
@@ -98,7 +98,7 @@ module _ (value next : ℕ → ℕ) (at : ℕ) (b : List ℕ) where
         let same = left-same l.left in
         let e : length b - n ≡ 0 = omega arith in
         record {
-          puts = left_done (left_is (ap (λ (k : ℕ). items value next k i) e ∙ room-none value next i) l.left);
+          puts = left-done (left_is (ap (λ (k : ℕ). items value next k i) e ∙ room-none value next i) l.left);
           good = ap (leb size) (sym (end_none value next i) ∙ ap (λ (k : ℕ). items_end next k i) (sym e) ∙ l.end);
           few = l.few;
         }

@@ -11,7 +11,7 @@ use lib.Dec.{ltb, leb}
 use borrow.Author.Tests.{le-leb, lt-leb, ltb-true, ltb-false, eq-eqb, ne_eqb}
 use Rattle.scope.specs.Lines.{byte_at}
 use Rattle.text.specs.Text.{Puts}
-use Rattle.text.proofs.Laid.{Left, left-first, left_is, left-more, left_done, puts_one, word_more, word_done}
+use Rattle.text.proofs.Laid.{Left, left-first, left_is, left-more, left-done, puts_one, word_more, word_done}
 use Rattle.probe_words.specs.Words.{least_of, part_of, last_word, glyph_of, pairs_of, hex_word}
 
 pub least_right : (a b : ℕ) → least_of a b ≤ b
@@ -101,7 +101,7 @@ module _ (n from : ℕ) (b : List ℕ) (fits : from + n ≤ length b) where
       let few = m.few in
       let l = part_length in
       let e : i ≡ n = omega arith in
-      rw e at (left_done (left_is (word_done (take n (drop from b)) i (omega arith)) m.left))
+      rw e at (left-done (left_is (word_done (take n (drop from b)) i (omega arith)) m.left))
 
 -- bytes as pairs of digits, at an index
 pub pairs-more : (s : List ℕ) (i : ℕ) → i < length s →
@@ -109,9 +109,9 @@ pub pairs-more : (s : List ℕ) (i : ℕ) → i < length s →
 unfolding pairs_of
 pairs-more s i h = rw (drop-cons s i 0, add-one)
 
-pub pairs_done : (s : List ℕ) (i : ℕ) → length s ≤ i → pairs_of (drop i s) ≡ []
+pub pairs-done : (s : List ℕ) (i : ℕ) → length s ≤ i → pairs_of (drop i s) ≡ []
 unfolding pairs_of
-pairs_done s i h = rw (drop_of_length-le s h)
+pairs-done s i h = rw (drop_of_length-le s h)
 
 -- the first n bytes as a word
 pub hex_none : (n m : ℕ) (s : List ℕ) → m ≡ least_of n (length s) → m ≡ 0 → 45 ∷ [] ≡ hex_word (take n s)
@@ -132,7 +132,7 @@ hex_some n m s p z =
 
 -- a part that is none, and one that has been moved to the front
 pub puts_none : (s b : List ℕ) → [] ≡ s → Puts s b b 0 0
-puts_none s b e = rw e at (left_done (left-first [] b 0))
+puts_none s b e = rw e at (left-done (left-first [] b 0))
 
 pub moved : (b c : List ℕ) (from to n i : ℕ) → from < to → to ≤ length b → n ≡ to - from → n ≤ i → Moving n from b c i →
     Puts (part_of b from to) b c 0 n

@@ -122,9 +122,9 @@ module _ (row table weights most : List ℕ) (z : Sizes) (p : Picked) (Answers :
         known : b < length (plan_of row).links
         known = omega (arith, play.links)
 
-        any-strips : bared (plan_of row) (cuts_of p) s + weight_in weights 1 s b + j * top_in most 1 s < need →
+        any_strips : bared (plan_of row) (cuts_of p) s + weight_in weights 1 s b + j * top_in most 1 s < need →
             Not (plan_of row) Answers (cuts_of p ++ i ∷ b ∷ x)
-        any-strips less =
+        any_strips less =
             too_light_lem (plan_of row) Answers need (bared (plan_of row)) (weight_in weights 1) (top_in most 1) bounds.strips few (cuts_of p)
             p.count (code p.slot p.link) h.chosen j s i b later known less x long
 
@@ -132,7 +132,7 @@ module _ (row table weights most : List ℕ) (z : Sizes) (p : Picked) (Answers :
         last_light : (n : ℕ) → j ≡ n →
             rest.stripped + weight_in weights 1 s b + front_in most s (need - (rest.touched + weight_in weights 0 s b)) < need → k ≡ 1 →
             Not (plan_of row) Answers (cuts_of p ++ i ∷ b ∷ x)
-        last_light zero none less one = any-strips (rw none (omega (arith, less, v.stripped)))
+        last_light zero none less one = any_strips (rw none (omega (arith, less, v.stripped)))
         last_light (suc n) some less one = λ good it.
             let two : length {A = ℕ} (i ∷ b ∷ x) ≡ 2 * 2 = omega arith in
             omega (
@@ -149,7 +149,7 @@ module _ (row table weights most : List ℕ) (z : Sizes) (p : Picked) (Answers :
             (rest.strips + weight_in weights 1 s b) <
             need → Not (plan_of row) Answers (cuts_of p ++ i ∷ b ∷ x)
         strips_light true one less = last_light j refl less (omega (arith, v.pairs, eqb-true rest.pairs 1 one))
-        strips_light false one less = any-strips (omega (arith, less, v.strips, tops (top_in most 1 s)))
+        strips_light false one less = any_strips (omega (arith, less, v.strips, tops (top_in most 1 s)))
 
     -- a link that may not be tried in slot s is not to be tried in a later one
     pub not_tried : (i b : ℕ) → s ≤ i → b < z.links → passes p.closed weights most need rest s b ≡ false →

@@ -26,9 +26,9 @@ pub line-more : (row : List ℕ) (i n m : ℕ) → i < length row → n ≡ get_
 unfolding row_line
 line-more row i n m h p q = rw (drop_more row i h, p, q)
 
-pub line_done : (row : List ℕ) (i : ℕ) → length row ≤ i → row_line (drop i row) ≡ []
+pub line-done : (row : List ℕ) (i : ℕ) → length row ≤ i → row_line (drop i row) ≡ []
 unfolding row_line
-line_done row i h = rw (drop_of_length-le row h)
+line-done row i h = rw (drop_of_length-le row h)
 
 line-size : (row : List ℕ) → length (row_line row) ≤ 21 * length row
 unfolding row_line

@@ -176,13 +176,13 @@ module _ (row : List ℕ) (f g : ℕ → ℕ → Field) (i : ℕ) where
       }
 
   module _ (h : ℕ → ℕ → Field) (o : Outcome) (passes : Passes row f g i o) where
-    pub pass_then : (j : ℕ) (after : Outcome) → o ≡ gives j → Passes row g h j after → Passes row f h i after
-    pass_then j after e next =
+    pub pass-then : (j : ℕ) (after : Outcome) → o ≡ gives j → Passes row g h j after → Passes row f h i after
+    pass-then j after e next =
         record {
           same = λ p m. passes.same p m ∙ ap (λ (o : Outcome). and_then o (rest_of row (g p m))) e ∙ next.same p m;
           inside = next.inside;
         }
 
-    pub pass_bad : (r : Refusal) → o ≡ refused r → Passes row f h i (refused r)
-    pass_bad r e =
+    pub pass-bad : (r : Refusal) → o ≡ refused r → Passes row f h i (refused r)
+    pass-bad r e =
         record { same = λ p m. passes.same p m ∙ ap (λ (o : Outcome). and_then o (rest_of row (g p m))) e; inside = λ j gave. not-both gave }

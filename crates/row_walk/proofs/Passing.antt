@@ -111,8 +111,8 @@ module _ (row : List ℕ) (whole : Outcome) (places messages k : ℕ) (going : G
   pub messages-more : k < length row → refuse 4 k ≡ whole
   messages-more l = sym (last ∙ from_more row (at (next_place 0 0)) k l refl)
 
-  pub messages_done : length row ≤ k → gives k ≡ whole
-  messages_done l = sym (last ∙ from_end row (at (next_place 0 0)) k l refl)
+  pub messages-done : length row ≤ k → gives k ≡ whole
+  messages-done l = sym (last ∙ from_end row (at (next_place 0 0)) k l refl)
 
 -- the whole row
 module _ (row : List ℕ) (some : 0 < length row) (first : get_or row 0 0 ≡ edition) (o : Outcome)

@@ -42,9 +42,9 @@ module _ (row : List ℕ) where
       let f : n - k ≡ suc (n - (k + 1)) = omega arith in
       rw (f, e)
 
-  pub messages_done : (i n k : ℕ) → n ≤ k → after_messages row i (n - k) ≡ i
+  pub messages-done : (i n k : ℕ) → n ≤ k → after_messages row i (n - k) ≡ i
   unfolding after_messages
-  messages_done i n k h =
+  messages-done i n k h =
       let f : n - k ≡ zero = omega arith in
       rw f
 

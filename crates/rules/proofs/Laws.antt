@@ -34,8 +34,8 @@ pub record Noting (row : List ℕ) (m j : ℕ) (starts : List ℕ) : Type 0 wher
   pub near : j ≤ 131077 + m * 4295229441
 
 module _ (row : List ℕ) where
-  pub noting_first : (n : ℕ) → n ≡ 32 → (j : ℕ) → Is (message_index row 0) (131077 + 0 * 4295229441) j → Noting row 0 j (replicate n 0)
-  noting_first n h j i =
+  pub noting-first : (n : ℕ) → n ≡ 32 → (j : ℕ) → Is (message_index row 0) (131077 + 0 * 4295229441) j → Noting row 0 j (replicate n 0)
+  noting-first n h j i =
       record {
         starts_are =
             record {
@@ -53,9 +53,9 @@ module _ (row : List ℕ) where
       none : (m : ℕ) → cond (ltb m 0) (message_index row m) 0 ≡ 0
       none m = let t : ltb m 0 ≡ false = le-ltb m 0 (omega arith) in rw t
 
-  pub noting_next : (m j r : ℕ) (starts : List ℕ) → Noting row m j starts → m < 32 → Is (after_message row j) (j + 4295229441) r → Noting
+  pub noting-next : (m j r : ℕ) (starts : List ℕ) → Noting row m j starts → m < 32 → Is (after_message row j) (j + 4295229441) r → Noting
       row (m + 1) r (set starts m j)
-  noting_next m j r starts g h i =
+  noting-next m j r starts g h i =
       record {
         starts_are =
             record {
@@ -98,8 +98,8 @@ module _ (row : List ℕ) where
           omega (arith, here k q, g.near)
       little k l false e = omega (arith, get_or-set_other starts m k j 0 (eqb-false k m e), s.small k l)
 
-  pub noting_done : (m j : ℕ) (starts : List ℕ) → Noting row m j starts → m ≡ message_count row → Starts row (message_count row) starts
-  noting_done m j starts g e = rw (← e) g.starts_are
+  pub noting-done : (m j : ℕ) (starts : List ℕ) → Noting row m j starts → m ≡ message_count row → Starts row (message_count row) starts
+  noting-done m j starts g e = rw (← e) g.starts_are
 
 -- where a message stands: at index i, and what is said of the message there is said of message m
 pub record Here (row : List ℕ) (m i : ℕ) : Type 0 where

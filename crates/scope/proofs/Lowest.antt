@@ -21,9 +21,9 @@ module _ (test : ℕ → Bool) where
       let e : n - i ≡ suc (n - (i + 1)) = omega arith in
       rw (e, t)
 
-  pub seek_done : (n i : ℕ) → n ≤ i → seek test (n - i) i ≡ i
+  pub seek-done : (n i : ℕ) → n ≤ i → seek test (n - i) i ≡ i
   unfolding seek
-  seek_done n i h =
+  seek-done n i h =
       let e : n - i ≡ zero = omega arith in
       rw e
 

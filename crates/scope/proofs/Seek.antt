@@ -6,7 +6,7 @@ use native.Mathlib.Omega.{arith}
 use borrow.Author.Tests.{lt-ltb, le-ltb}
 use lib.Dec.{ltb}
 use Rattle.scope.specs.Lowest.{seek, lowest, some}
-use Rattle.scope.proofs.Lowest.{seek_found, seek-next, seek_done}
+use Rattle.scope.proofs.Lowest.{seek_found, seek-next, seek-done}
 
 pub record Seeking (test : ℕ → Bool) (n i : ℕ) : Type 0 where
   pub same : seek test (n - i) i ≡ lowest test n
@@ -23,11 +23,11 @@ module _ (test : ℕ → Bool) (n : ℕ) where
     pub lowest-found : i < n → test i ≡ true → i ≡ lowest test n
     lowest-found h t = sym (seek_found test n i h t) ∙ s.same
 
-    pub lowest_done : n ≤ i → i ≡ lowest test n
-    lowest_done h = sym (seek_done test n i h) ∙ s.same
+    pub lowest-done : n ≤ i → i ≡ lowest test n
+    lowest-done h = sym (seek-done test n i h) ∙ s.same
 
     pub some-found : i < n → test i ≡ true → true ≡ some test n
     some-found h t = sym (ap (λ k. ltb k n) (sym (lowest-found h t)) ∙ lt-ltb i n h)
 
     pub some-none : n ≤ i → false ≡ some test n
-    some-none h = sym (ap (λ k. ltb k n) (sym (lowest_done h)) ∙ le-ltb i n h)
+    some-none h = sym (ap (λ k. ltb k n) (sym (lowest-done h)) ∙ le-ltb i n h)

@@ -72,9 +72,9 @@ longest_events = 4096
 abbrev pub slot_events : ℕ
 slot_events = 64
 
--- the marks of a slot: one a link, one a message, and one for all messages
-abbrev pub marks_size : ℕ
-marks_size = 97
+-- who has tried which link in a slot: how many have, then a link and a message for each
+abbrev pub tries_size : ℕ
+tries_size = 65
 
 -- "k (0 to 3)"
 abbrev pub most_cuts : ℕ

@@ -1,7 +1,7 @@
 -- Laws of what a message does once it has turned, one for each way.
 use Prim.Native.Nat.{ℕ, ◌+◌, ◌-◌, ◌≤◌, ◌<◌}
 use mathlib.Core.Path.{◌≡◌, refl, sym, ◌∙◌}
-use mathlib.Core.Bool.{Bool, true, false}
+use mathlib.Core.Bool.{Bool, true, false, not}
 use mathlib.Core.List.{List}
 use native.Mathlib.Omega.{arith}
 use lib.Dec.{eqb}
@@ -80,9 +80,9 @@ module _ (row : List ℕ) (p : Position) (l : 0 < p.left) where
     pub second-within : end_at row true (p.at + 1) (p.left - 1) ≤ end_of row p
     second-within = rw f (omega arith)
 
-    module _ (entry e : ℕ) (q : e ≡ at row p.at) (d : Bool) where
+    module _ (entry first m e : ℕ) (q : e ≡ at row p.at) (d : Bool) where
       abbrev Does : S.Moved → Type 0
-      Does r = r ≡ does_second row p d entry
+      Does r = r ≡ does_second row p d entry (not (eqb first m)) first
 
       pub second-stays : d ≡ true → Does (S.moved (position_of row p) 7 e)
       second-stays h = rw (f, numbers-next row p.at p.left l, h, q)
@@ -90,13 +90,19 @@ module _ (row : List ℕ) (p : Position) (l : 0 < p.left) where
       pub second-table : d ≡ false → 0 < entry → Does (S.moved (position_of row p) 4 (entry - 1))
       second-table h g = rw (f, numbers-next row p.at p.left l, h, lt-ltb 0 entry g)
 
-      pub second-crosses : d ≡ false → entry ≤ 0 → Does (S.moved (S.on_second (links_after row p)) 3 e)
-      second-crosses h g = rw (h, le-ltb 0 entry g, q)
+      pub second_held : d ≡ false → entry ≤ 0 → (first ≡ m → ⊥) → Does (S.moved (position_of row p) 5 first)
+      second_held h g k = rw (f, numbers-next row p.at p.left l, h, le-ltb 0 entry g, ne_eqb first m k)
+
+      pub second-crosses : d ≡ false → entry ≤ 0 → first ≡ m → Does (S.moved (S.on_second (links_after row p)) 3 e)
+      second-crosses h g k = rw (h, le-ltb 0 entry g, eq-eqb first m k, q)
 
   -- what it does, by where it stands
   module _ (down : ℕ → Bool) (slot entry : ℕ) (held : Bool) (first : ℕ) (e : ℕ) (q : e ≡ at row p.at) (d : Bool) (c : d ≡ down e) where
-    pub act-first : p.turned ≡ false → does_first row p d slot ≡ S.act down slot entry held first (position_of row p)
+    abbrev Is : S.Moved → Type 0
+    Is does = does ≡ S.act down slot entry held first (position_of row p)
+
+    pub act-first : p.turned ≡ false → Is (does_first row p d slot)
     act-first f = rw (f, places_next row p.at p.left l, c, q)
 
-    pub act-second : p.turned ≡ true → does_second row p d entry ≡ S.act down slot entry false first (position_of row p)
+    pub act-second : p.turned ≡ true → Is (does_second row p d entry held first)
     act-second f = rw (f, numbers-next row p.at p.left l, c, q)

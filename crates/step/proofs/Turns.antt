@@ -1,4 +1,4 @@
--- Laws of a message's turn, one for each way.
+-- Laws of a message's turn, one for each way, and of what follows it.
 use Prim.Native.Nat.{ℕ, ◌+◌, ◌≤◌, ◌<◌}
 use mathlib.Core.Path.{◌≡◌, sym, ◌∙◌, ap}
 use mathlib.Core.Bool.{Bool, true, false}
@@ -11,8 +11,10 @@ use Rattle.rows.specs.declared.RowPlace.{RowPlace}
 use Rattle.rows.proofs.Second.{no_links, some-links, links-count, links-next, links-are}
 use Rattle.step.specs.declared.Position.{Position}
 use Rattle.step.specs.declared.Met.{Met}
-use Rattle.step.specs.Where.{position_of, end_of, Leads, Faces, Meets}
+use Rattle.step.specs.declared.Moved.{Moved}
+use Rattle.step.specs.Where.{position_of, end_of, does_first, does_second, Leads, Acts, Faces, Meets, MetActs}
 use Rattle.step.proofs.Left.{numbers-next, places_next, after-size}
+use Rattle.step.proofs.Steps.{act-first, act-second}
 
 -- the position at the front of a place's second path
 abbrev pub turned_to : RowPlace → Position
@@ -64,3 +66,25 @@ module _ (row : List ℕ) (down : ℕ → Bool) (p : Position) (some : 0 < p.lef
 
           pub meets_second : (q : Met) → Faces row down (turned_to place) q → Meets row down p q
           meets_second q g = by (turned_to place) q (record { is = turns; within = second_fits }) (omega (arith, z)) g
+
+-- what it does after its turn, by where it stands then
+module _ (row : List ℕ) (t : Met) (l : 0 < t.position.left) (e : t.link ≡ at row t.position.at) where
+  abbrev q : Position
+  q = t.position
+
+  module _ (slot entry : ℕ) (held : Bool) (first : ℕ) (r : Moved) where
+    pub met_first : q.turned ≡ false →
+        Acts row q (does_first row q t.down slot) r → MetActs row slot entry held first t r
+    met_first f a down c =
+        record {
+          is = a.is ∙ act-first row q l down slot entry held first t.link e t.down c f;
+          within = a.within;
+        }
+
+    pub met_second : q.turned ≡ true →
+        Acts row q (does_second row q t.down entry held first) r → MetActs row slot entry held first t r
+    met_second f a down c =
+        record {
+          is = a.is ∙ act-second row q l down slot entry held first t.link e t.down c f;
+          within = a.within;
+        }

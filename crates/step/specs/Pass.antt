@@ -1,141 +1,95 @@
--- One slot as a pass over the messages, from the highest number down. Each goes as if nobody went before it on the link that it tries, and
--- leaves its mark there; whoever has crossed a link whose mark is another's then goes back, and is held.
--- proofs/Settled has that this is the slot of document 01, in which all try before anyone acts.
-use Rattle.std.specs.Prelude.{ℕ, ◌+◌, ◌-◌, ◌*◌, ◌≤◌, ◌<◌, ◌≡◌, Bool, true, false, ◌&&◌, cond, List, map, length, get_or, drop, ltb, eqb}
-use Rattle.scope.specs.Limits.{most_links, most_messages, marks_size}
+-- One slot in one pass: the messages go through it in their order, and a list that is lent has who has tried which link so far.
+-- proofs/Pass has that the pass is the slot of document 01, in which all try before anyone acts.
+use Rattle.std.specs.Prelude.{ℕ, ◌+◌, ◌*◌, ◌≤◌, ◌<◌, ◌≡◌, Bool, not, cond, List, [], ◌∷◌, length, get_or, drop, set, ltb, eqb}
+use Rattle.scope.specs.Lowest.{lowest}
+use Rattle.scope.specs.Limits.{most_messages, tries_size}
 use Rattle.scope.specs.Plan.{plan_of}
 use Rattle.scope.specs.Slot as S
-use Rattle.scope.specs.Cycle.{order_of}
+use Rattle.scope.specs.Cycle.{order_of, slot, nexts}
 use Rattle.step.specs.declared.Position.{Position}
 use Rattle.step.specs.declared.Moved.{Moved}
-use Rattle.step.specs.Where.{position_of, end_of, Leads, Acts, HasMarks}
-use Rattle.step.specs.Stand.{home, positions_of, Stand}
-use Rattle.step.specs.Marks.{link_mark, back_mark, Marks, marked}
+use Rattle.step.specs.Where.{position_of, end_of, Leads, Acts}
+use Rattle.step.specs.Stand.{positions_of, Stand, Become}
 
--- the links that messages at these positions try, plus one
-abbrev pub all_try : (ℕ → Bool) → List S.Position → List ℕ
-all_try down ps = map (S.tries down) (map (S.turn down) ps)
+-- who has tried which link in this slot: how many have, then a link and a message for each
+abbrev pub triers : List ℕ → ℕ
+triers tried = get_or tried 0 0
 
--- the table gives a link to nobody
-abbrev pub is_free : (ℕ → ℕ) → ℕ → Bool
-is_free owner e = eqb (owner e) 0
+abbrev pub tried_link : List ℕ → ℕ → ℕ
+tried_link tried j = get_or tried (2 * j + 1) 0
 
-module _ (down : ℕ → Bool) (owner : ℕ → ℕ) where
-  -- what message m does in slot i, at a position, if nobody goes before it on the link that it tries
-  unfoldable pub alone : ℕ → ℕ → S.Position → S.Moved
-  alone i m p =
+abbrev pub tried_by : List ℕ → ℕ → ℕ
+tried_by tried j = get_or tried (2 * j + 2) 0
+
+-- the first entry of link e, and its message, or m where there is none
+abbrev pub found_at : List ℕ → ℕ → ℕ
+found_at tried e = lowest (λ j. eqb (tried_link tried j) e) (triers tried)
+
+unfoldable pub first_trier : List ℕ → ℕ → ℕ → ℕ
+first_trier tried e m = cond (ltb (found_at tried e) (triers tried)) (tried_by tried (found_at tried e)) m
+
+-- message m tries link e too
+unfoldable pub noted : List ℕ → ℕ → ℕ → List ℕ
+noted tried e m = set (set (set tried (2 * triers tried + 1) e) (2 * triers tried + 2) m) 0 (triers tried + 1)
+
+-- there is room to note message m and those after it, and whoever has been noted is lower
+pub record Noting (tried : List ℕ) (m : ℕ) : Type 0 where
+  pub low : m < most_messages
+  pub room : tries_size ≤ length tried
+  pub few : triers tried ≤ m
+  pub below : (j : ℕ) → j < triers tried → tried_by tried j < m
+
+-- what has been tried after message m, at a position, and after it and those that follow
+unfoldable pub tried_after : (ℕ → Bool) → List ℕ → ℕ → S.Position → List ℕ
+tried_after down tried m p =
+    let q = S.turn down p in
+    cond (eqb (S.tries down q) 0) tried (noted tried (S.next_second q) m)
+
+unfoldable pub all_tried : (ℕ → Bool) → List ℕ → ℕ → List S.Position → List ℕ
+all_tried down tried m [] = tried
+all_tried down tried m (p ∷ ps) = all_tried down (tried_after down tried m p) (m + 1) ps
+
+module _ (down : ℕ → Bool) (owner : ℕ → ℕ) (i : ℕ) where
+  -- what message m does at a position in slot i, and what it and those that follow do
+  unfoldable pub does : List ℕ → ℕ → S.Position → S.Moved
+  does tried m p =
       let q = S.turn down p in
-      S.act down i (owner (S.next_second q)) false m q
+      let first = first_trier tried (S.next_second q) m in
+      S.act down i (owner (S.next_second q)) (not (eqb first m)) first q
 
-  -- it then crosses a link of its second path
-  unfoldable pub crosses : S.Position → Bool
-  crosses p =
-      let q = S.turn down p in
-      ltb 0 (S.tries down q) && is_free owner (S.next_second q)
+  unfoldable pub pass : List ℕ → ℕ → List S.Position → List S.Moved
+  pass tried m [] = []
+  pass tried m (p ∷ ps) = does tried m p ∷ pass (tried_after down tried m p) (m + 1) ps
 
-  -- and the marks, after it
-  unfoldable pub marks_after : List ℕ → ℕ → S.Position → List ℕ
-  marks_after marks m p =
-      let q = S.turn down p in
-      cond (eqb (S.tries down q) 0) marks (marked marks (S.next_second q) m (is_free owner (S.next_second q)))
-
--- one link back
-abbrev pub gone_back : Position → Position
-gone_back r = record { at = r.at - 1; left = r.left + 1; turned = true }
-
--- one that stands at r can go back, and then stands where a message at p stands after its turn
-pub record GoesBack (row : List ℕ) (down : ℕ → Bool) (p r : Position) : Type 0 where
-  pub some : 0 < r.at
-  pub to : Leads row p (S.turn down (position_of row p)) (gone_back r)
-
--- message m may act: its position, the slot and the marks are in their bounds
-pub record MayAct (row : List ℕ) (p : Position) (m i : ℕ) (marks : List ℕ) : Type 0 where
+-- message m may act: its position, the slot and the list are in their bounds
+pub record MayAct (row : List ℕ) (p : Position) (m i : ℕ) (tried : List ℕ) : Type 0 where
   pub fit : end_of row p < 65536
   pub early : i < 65536
-  pub has : HasMarks (position_of row p)
-  pub few : m < most_messages
-  pub room : marks_size ≤ length marks
-  pub known : (e : ℕ) → e < most_links → link_mark marks e ≤ most_messages
+  pub noting : Noting tried m
 
--- and it may move: it is not yet at its target
-pub record MayMove (row : List ℕ) (p : Position) (m i : ℕ) (marks : List ℕ) : Type 0 where
-  pub may : MayAct row p m i marks
-  pub left : 0 < p.left
-
--- it has gone from p to r; it has moved, and left its mark; and it has acted
-pub record Goes (row : List ℕ) (down : ℕ → Bool) (owner : ℕ → ℕ) (i : ℕ) (p : Position) (m : ℕ) (r : Position) : Type 0 where
-  pub next : Leads row p (alone down owner i m (position_of row p)).next r
-  pub back : crosses down owner (position_of row p) ≡ true → GoesBack row down p r
-
-pub record MovesIn (row : List ℕ) (down : ℕ → Bool) (owner : ℕ → ℕ) (i : ℕ) (p : Position) (m : ℕ) (marks marks' : List ℕ)
-    (r : Position) : Type 0 where
-  pub goes : Goes row down owner i p m r
-  pub leaves : marks' ≡ marks_after down owner marks m (position_of row p)
-
-pub record ActsIn (row : List ℕ) (down : ℕ → Bool) (owner : ℕ → ℕ) (i : ℕ) (p : Position) (m : ℕ) (marks marks' : List ℕ)
+-- it has acted, and it has moved
+pub record ActsIn (row : List ℕ) (down : ℕ → Bool) (owner : ℕ → ℕ) (i : ℕ) (p : Position) (m : ℕ) (tried tried' : List ℕ)
     (r : Moved) : Type 0 where
-  pub acts : Acts row p (alone down owner i m (position_of row p)) r
-  pub back : crosses down owner (position_of row p) ≡ true → GoesBack row down p r.next
-  pub leaves : marks' ≡ marks_after down owner marks m (position_of row p)
+  pub acts : Acts row p (does down owner i tried m (position_of row p)) r
+  pub noted : tried' ≡ tried_after down tried m (position_of row p)
 
--- n messages may move in slot i, in the records that are lent: nobody has left a mark yet
-pub record MayMoveAll (row : List ℕ) (ps : List Position) (n i : ℕ) (marks : List ℕ) : Type 0 where
+pub record MovesIn (row : List ℕ) (down : ℕ → Bool) (owner : ℕ → ℕ) (i : ℕ) (p : Position) (m : ℕ) (tried tried' : List ℕ)
+    (r : Position) : Type 0 where
+  pub next : Leads row p (does down owner i tried m (position_of row p)).next r
+  pub noted : tried' ≡ tried_after down tried m (position_of row p)
+
+-- n messages may move in slot i, in the records that are lent: nobody has tried anything yet
+pub record MayMoveAll (row : List ℕ) (ps : List Position) (n i : ℕ) (tried : List ℕ) : Type 0 where
   pub stand : Stand row n ps
   pub long : n ≤ length ps
   pub early : i < 65536
-  pub room : marks_size ≤ length marks
-  pub none : (j : ℕ) → get_or marks j 0 ≡ 0
+  pub room : tries_size ≤ length tried
+  pub none : triers tried ≡ 0
 
--- they have moved, each as if nobody went before it: the records past them are as they were, and the marks are those of them all
+-- they have moved: the first n records are the next positions of the slot, the records past them are as they were, and the list has who
+-- tried what
 pub record MovesAll (row : List ℕ) (n : ℕ) (down : ℕ → ℕ → Bool) (owner : ℕ → ℕ → ℕ) (i : ℕ) (ps ps' : List Position)
-    (marks' : List ℕ) : Type 0 where
-  pub each : (k : ℕ) → k < n → Goes row (down i) (owner i) i (get_or ps k home) k (get_or ps' k home)
+    (tried tried' : List ℕ) : Type 0 where
+  pub next : Become row n (nexts (slot (order_of (plan_of row)) down owner i (positions_of row n ps))) ps'
   pub rest : drop n ps' ≡ drop n ps
-  pub marks : Marks (order_of (plan_of row)) (is_free (owner i)) (all_try (down i) (positions_of row n ps)) 0 marks'
-
--- those of n messages that the marks name may go back
-pub record MayGoBack (ps : List Position) (n : ℕ) (marks : List ℕ) : Type 0 where
-  pub few : n ≤ most_messages
-  pub room : marks_size ≤ length marks
-  pub fit : (k : ℕ) → k < n → 0 < back_mark marks k → (0 < (get_or ps k home).at) × ((get_or ps k home).left < 65535)
-
--- they have gone back, and all others are as they were
-pub record HaveGoneBack (ps : List Position) (n : ℕ) (marks : List ℕ) (ps' : List Position) : Type 0 where
-  pub each : (k : ℕ) → k < n → get_or ps' k home ≡ cond (ltb 0 (back_mark marks k)) (gone_back (get_or ps k home)) (get_or ps k home)
-  pub rest : drop n ps' ≡ drop n ps
-
--- message k's event in a row of events
-pub record Tells (out : List ℕ) (k : ℕ) (v : S.Event) : Type 0 where
-  pub kind : get_or out (2 * k) 0 ≡ v.kind
-  pub number : get_or out (2 * k + 1) 0 ≡ v.number
-
--- past the events of n messages, a buffer is as it was
-pub record Behind (n : ℕ) (buffer out : List ℕ) : Type 0 where
-  pub long : length out ≡ length buffer
-  pub rest : (j : ℕ) → 2 * n ≤ j → get_or out j 0 ≡ get_or buffer j 0
-
--- n messages have moved, each as if nobody went before it, and been told of
-pub record TellsAll (row : List ℕ) (n : ℕ) (down : ℕ → ℕ → Bool) (owner : ℕ → ℕ → ℕ) (i : ℕ) (ps ps' : List Position)
-    (marks' buffer out : List ℕ) : Type 0 where
-  pub moves : MovesAll row n down owner i ps ps' marks'
-  pub told : (k : ℕ) → k < n → Tells out k (alone (down i) (owner i) i k (position_of row (get_or ps k home))).event
-  pub behind : Behind n buffer out
-
--- those of n messages that the marks name may be told of as held: each was told of with the link that it crossed
-pub record MayHold (n : ℕ) (marks out : List ℕ) : Type 0 where
-  pub few : n ≤ most_messages
-  pub room : marks_size ≤ length marks
-  pub enough : 2 * n ≤ length out
-  pub fit : (k : ℕ) → k < n → 0 < back_mark marks k →
-      (get_or out (2 * k + 1) 0 < most_links) × (0 < link_mark marks (get_or out (2 * k + 1) 0))
-
--- they are: kind 5, by the message whose mark the link has
-abbrev pub held_on : List ℕ → ℕ → S.Event
-held_on marks e = record { kind = 5; number = link_mark marks e - 1 }
-
-pub record HaveHeld (n : ℕ) (marks out out' : List ℕ) : Type 0 where
-  pub each : (k : ℕ) → k < n →
-      Tells out' k
-      (cond (ltb 0 (back_mark marks k)) (held_on marks (get_or out (2 * k + 1) 0))
-      (record { kind = get_or out (2 * k) 0; number = get_or out (2 * k + 1) 0 }))
-  pub behind : Behind n out out'
+  pub noted : tried' ≡ all_tried (down i) tried 0 (positions_of row n ps)

@@ -1,11 +1,15 @@
 -- One slot against what was seen of it: a number for each message, the link that it crosses in the slot plus one, or 0. Of a message past the
 -- end nothing was seen, and whatever it does is as seen.
-use Rattle.std.specs.Prelude.{ℕ, ◌+◌, ◌*◌, ◌<◌, ◌≡◌, Bool, not, ◌||◌, List, [], length, get_or, leb, eqb}
+use Rattle.std.specs.Prelude.{ℕ, ◌<◌, ◌≡◌, Bool, not, ◌||◌, List, [], length, get_or, leb, eqb}
+use Rattle.scope.specs.Limits.{most_messages}
 use Rattle.scope.specs.Lowest.{lowest}
 use Rattle.scope.specs.Slot as S
+use Rattle.step.specs.declared.Position.{Position}
 use Rattle.step.specs.declared.Standing.{Standing}
+use Rattle.step.specs.declared.Gone.{Gone}
 use Rattle.step.specs.declared.Watched.{Watched}
 use Rattle.step.specs.Events.{an_event, crossing_of}
+use Rattle.step.specs.Stand.{MovesAndTells}
 use Rattle.step.specs.Slot.{all_in, GoesOn}
 
 -- an event of message m is as seen
@@ -20,9 +24,13 @@ event_at ms m = (get_or ms m (S.moved (S.on_first []) 0 0)).event
 abbrev pub first_other : List ℕ → ℕ → List S.Moved → ℕ
 first_other seen n ms = lowest (λ m. not (as_seen seen m (event_at ms m))) n
 
--- the same of events as they stand in a row of them
-abbrev pub first_other_in : List ℕ → ℕ → List ℕ → ℕ
-first_other_in seen n out = lowest (λ m. not (as_seen seen m (an_event (get_or out (2 * m) 0) (get_or out (2 * m + 1) 0)))) n
+-- n messages have gone up to that one; and all have moved and been told of, where there is none
+pub record GoesAsSeen (row : List ℕ) (n : ℕ) (ms : List S.Moved) (seen : List ℕ) (ps : List Position) (buffer out : List ℕ) (r : Gone) :
+    Type 0 where
+  pub alike : r.alike ≡ first_other seen n ms
+  pub event : an_event r.kind r.number ≡ event_at ms r.alike
+  pub long : length r.positions ≡ most_messages
+  pub done : r.alike ≡ n → MovesAndTells row n ms ps r.positions buffer out
 
 -- the slot that n messages go through from where they stand, up to that one: all stand as they did, or, where there is none, one time on
 pub record Watches (row table down seen : List ℕ) (n i : ℕ) (s : Standing) (r : Watched) : Type 0 where

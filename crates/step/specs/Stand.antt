@@ -4,7 +4,7 @@ use Rattle.scope.specs.Limits.{most_messages}
 use Rattle.scope.specs.Slot as S
 use Rattle.scope.specs.Cycle.{nexts, numbers}
 use Rattle.step.specs.declared.Position.{Position}
-use Rattle.step.specs.Where.{position_of, end_of, HasMarks}
+use Rattle.step.specs.Where.{position_of, end_of}
 
 -- a position with nothing left
 abbrev pub home : Position
@@ -14,11 +14,10 @@ home = record { at = 0; left = 0; turned = false }
 abbrev pub positions_of : List ℕ → ℕ → List Position → List S.Position
 positions_of row n ps = map (position_of row) (take n ps)
 
--- n messages at positions that end below index 65536, and whose links have marks
+-- n messages at positions that end below index 65536
 pub record Stand (row : List ℕ) (n : ℕ) (ps : List Position) : Type 0 where
   pub few : n ≤ most_messages
   pub fit : (k : ℕ) → k < n → end_of row (get_or ps k home) < 65536
-  pub has : (k : ℕ) → k < n → HasMarks (position_of row (get_or ps k home))
 
 -- n messages at the positions `next`
 pub record Become (row : List ℕ) (n : ℕ) (next : List S.Position) (ps : List Position) : Type 0 where

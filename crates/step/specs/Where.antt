@@ -1,7 +1,6 @@
 -- What a position in a row says: the places or links that are left to it, and where they end.
-use Rattle.std.specs.Prelude.{ℕ, ◌+◌, ◌-◌, ◌≤◌, ◌<◌, ◌≡◌, Bool, true, false, cond, List, [], get_or}
-use Rattle.scope.specs.Limits.{most_links}
-use Rattle.scope.specs.Plan.{Place, at, numbers_at, place_at, place_size, places_at, after_places}
+use Rattle.std.specs.Prelude.{ℕ, ◌+◌, ◌-◌, ◌≤◌, ◌<◌, ◌≡◌, Bool, not, ◌&&◌, cond, List, eqb}
+use Rattle.scope.specs.Plan.{Place, at, slot_at, numbers_at, place_at, place_size, places_at, after_places}
 use Rattle.scope.specs.Slot as S
 use Rattle.step.specs.declared.Position.{Position}
 use Rattle.step.specs.declared.Met.{Met}
@@ -32,21 +31,16 @@ places_after row p = places_at row (p.at + place_size row p.at) (p.left - 1)
 abbrev pub links_after : List ℕ → Position → List ℕ
 links_after row p = numbers_at row (p.at + 1) (p.left - 1)
 
--- on a second path, past the next link
-abbrev pub past_link : Position → Position
-past_link p = record { at = p.at + 1; left = p.left - 1; turned = true }
-
--- what a message at p does on its first path, and on its second path if nobody goes before it, with its next link cut or whole
+-- what a message at p does on its first path, and on its second path, with its next link cut or whole
 abbrev pub does_first : List ℕ → Position → Bool → ℕ → S.Moved
 does_first row p cut slot = S.on_first_path cut slot (place_at row p.at) (places_after row p)
 
-abbrev pub does_second : List ℕ → Position → Bool → ℕ → S.Moved
-does_second row p cut entry = S.on_second_path cut entry false 0 (at row p.at) (links_after row p)
+abbrev pub does_second : List ℕ → Position → Bool → ℕ → Bool → ℕ → S.Moved
+does_second row p cut entry held first = S.on_second_path cut entry held first (at row p.at) (links_after row p)
 
--- each link of a second path that it may come to is below the limit, and has a mark
-abbrev pub HasMarks : S.Position → Type 0
-HasMarks (S.on_first ps) = (j k : ℕ) → get_or (get_or ps j (record { link = 0; slot = 0; second = [] })).second k 0 < most_links
-HasMarks (S.on_second es) = (k : ℕ) → get_or es k 0 < most_links
+-- it waits: on its first path, with its next link whole, in another slot than its own there
+abbrev pub waits_in : List ℕ → (ℕ → Bool) → ℕ → Position → Bool
+waits_in row down slot p = not (eqb (slot_at row p.at) slot) && not p.turned && not (down (at row p.at))
 
 -- r is the position `next`, and does not go beyond p's end
 pub record Leads (row : List ℕ) (p : Position) (next : S.Position) (r : Position) : Type 0 where
@@ -57,11 +51,6 @@ pub record Leads (row : List ℕ) (p : Position) (next : S.Position) (r : Positi
 pub record Acts (row : List ℕ) (p : Position) (does : S.Moved) (r : Moved) : Type 0 where
   pub is : moved_of row r ≡ does
   pub within : end_of row r.next ≤ end_of row p
-
--- r is what a message at p does on its second path, and its next position is past the next link where it crosses that
-pub record ActsSecond (row : List ℕ) (p : Position) (cut : Bool) (entry : ℕ) (r : Moved) : Type 0 where
-  pub acts : Acts row p (does_second row p cut entry) r
-  pub crossed : cut ≡ false → entry ≡ 0 → r.next ≡ past_link p
 
 -- r is the position p, with the link before it
 pub record Faces (row : List ℕ) (down : ℕ → Bool) (p : Position) (r : Met) : Type 0 where
@@ -75,3 +64,9 @@ pub record Meets (row : List ℕ) (down : ℕ → Bool) (p : Position) (r : Met)
   pub left : 0 < r.position.left
   pub link : r.link ≡ at row r.position.at
   pub cut : r.down ≡ down r.link
+
+-- r is what a message does that meets this, whatever else is down
+abbrev pub MetActs : List ℕ → ℕ → ℕ → Bool → ℕ → Met → Moved → Type 0
+MetActs row slot entry held first met r =
+    (down : ℕ → Bool) → met.down ≡ down met.link →
+    Acts row met.position (S.act down slot entry held first (position_of row met.position)) r

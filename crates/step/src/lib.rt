@@ -2,27 +2,24 @@
 // with `slot` of document 01's section "One slot" (specs/Slot and specs/Cycle of `scope`), for any row of numbers, anything that is down in
 // the slot and any table. All that is asked is that a position ends below index 65536, which no function here undoes.
 //
-// A slot is one pass over the messages, from the highest number down. Each goes as if nobody went before it on the link that it tries, and
-// leaves its mark there: the mark of a link ends as the lowest message that tries it. Who has crossed a link whose mark is another's goes
-// back, and is held by that one. `after` moves the messages, in records that are lent; `told` moves them and tells what they do; `watched` is
-// that too, held against what was seen. `move_all` and `lend` alone hold a slice of records, and their proofs are walks by hand.
-ghost use Rattle.std.specs.Prelude.{◌+◌, ◌*◌, ◌<◌, ◌≤◌, ◌≡◌, true, false, length, set, eqb};
+// A slot is one pass over the messages, in their order: `after` moves them, in records that are lent; `told` moves them and tells what
+// they do; `watched` is that pass too, held against what was seen, and ends at the first message that does something else. `move_all` and
+// `lend` alone hold a slice of records, and their proofs are walks by hand.
+ghost use Rattle.std.specs.Prelude.{◌+◌, ◌<◌, ◌≤◌, ◌≡◌, true, false, not, length, set, eqb};
 ghost use Rattle.scope.specs.Plan.{at};
 ghost use Rattle.scope.specs.Slot.{on_first};
 ghost use Rattle.cuts.specs.Down.{is_down};
 ghost use Rattle.table.specs.Table.{entry_at};
 ghost use Rattle.step.specs.Events.{event_of, an_event, crossing_of};
-ghost use Rattle.step.specs.Where.{end_of, places_after, past_link, does_first, Leads, Acts, ActsSecond, Faces, Meets};
-ghost use Rattle.step.specs.Stand.{Stand, Moves, MayTellAll, MovesAndTells};
-ghost use Rattle.step.specs.Seen.{as_seen, first_other_in, Watches};
+ghost use Rattle.step.specs.Where.{end_of, places_after, does_first, does_second, waits_in, Leads, Acts, Faces, Meets, MetActs};
+ghost use Rattle.step.specs.Stand.{Stand, Moves, MayTellAll};
+ghost use Rattle.step.specs.Seen.{as_seen, GoesAsSeen, Watches};
 ghost use Rattle.step.specs.Slot.{down_now, all_in, MayGo, GoesOn, MayTell, GoesAndTells};
-ghost use Rattle.step.specs.Marks.{MayMark, marked};
-ghost use Rattle.step.specs.Pass.{gone_back, MayAct, MayMove, MovesIn, ActsIn, MayMoveAll, MovesAll, MayGoBack, HaveGoneBack};
-ghost use Rattle.step.specs.Pass.{TellsAll, MayHold, HaveHeld};
+ghost use Rattle.step.specs.Pass.{first_trier, noted, Noting, MayAct, ActsIn, MovesIn, MayMoveAll, MovesAll};
 
 use cuts::is_down;
 use rows::{number, place_at, place_slot};
-use scope::limits::{LINKS, MARKS, MESSAGES, SLOT_EVENTS};
+use scope::limits::{MESSAGES, SLOT_EVENTS, TRIES};
 
 // "Slot numbers run from 0 to t − 1; times run from 0 to t. What happens in slot i leads from time i to time i + 1." A time is made
 // as the first one and by the slot step (`Standing::after` and `told`) alone, and a slot is made from a time before the timeout alone.
@@ -162,8 +159,21 @@ impl Position {
         }
     }
 
+    // It waits: it is on its first path, another slot than its own there, and its next link is whole. Most messages do in most slots.
+    fn waits(self, row: &[u16], down: &[u8], slot: Slot) -> bool
+        ensures { result ≡ waits_in row.now (is_down down.now) slot.0 self }
+    {
+        if place_slot(row, self.at as usize) == slot.0 {
+            return false;
+        }
+        if self.turned {
+            return false;
+        }
+        !is_down(down, number(row, self.at as usize))
+    }
+
     // The position after its turn, if the next link of its first path is cut and it has a second path there, with the link before it.
-    fn meets(self, row: &[u16], down: &[u8]) -> Met
+    pub fn meets(self, row: &[u16], down: &[u8]) -> Met
         requires { (0 < self.left) × (end_of row.now self < 65536) }
         ensures { Meets row.now (is_down down.now) self result }
     {
@@ -219,35 +229,11 @@ impl Position {
         }
     }
 
-    // On its second path, past the next link.
-    fn past_link(self) -> Position
-        requires { (0 < self.left) × (self.at < 65535) }
-        ensures { result ≡ past_link self }
-    {
-        Position {
-            at: self.at + 1,
-            left: self.left - 1,
-            turned: true,
-        }
-    }
-
-    // One link back on its second path.
-    fn gone_back(self) -> Position
-        requires { (0 < self.at) × (self.left < 65535) }
-        ensures { result ≡ gone_back self }
-    {
-        Position {
-            at: self.at - 1,
-            left: self.left + 1,
-            turned: true,
-        }
-    }
-
-    // What it does on its second path, with its next link cut or whole, if nobody goes before it there: kinds 7, 4 and 3. `entry` is what
-    // the table has for that link and slot.
-    fn act_second(self, row: &[u16], link: u16, down: bool, entry: u8) -> Moved
+    // What it does on its second path, with its next link cut or whole: the tests "go in the order 7, 4, 5, 3". `entry` is what the
+    // table has for that link and slot, `first` who goes first of those that try the link, and `m` this message.
+    fn act_second(self, row: &[u16], link: u16, down: bool, entry: u8, first: u16, m: u16) -> Moved
         requires { (self.turned ≡ true) × (0 < self.left) × (end_of row.now self < 65536) × (link ≡ at row.now self.at) }
-        ensures { ActsSecond row.now self down entry result }
+        ensures { Acts row.now self (does_second row.now self down entry (not (eqb first m)) first) result }
     {
         if down {
             let event = Event::StaysSecond(link);
@@ -255,30 +241,67 @@ impl Position {
         } else if 0 < entry {
             let event = Event::HeldByTable((entry - 1) as u16);
             Moved { next: self, event }
+        } else if first != m {
+            let event = Event::HeldByLower(first);
+            Moved { next: self, event }
         } else {
-            let next = self.past_link();
+            let next = Position {
+                at: self.at + 1,
+                left: self.left - 1,
+                turned: true,
+            };
             let event = Event::CrossesSecond(link);
             Moved { next, event }
         }
     }
 }
 
-// Message m tries a link, and leaves its mark there. A mark keeps the lower of two messages: that is m, since those before it in the pass are
-// higher. Whoever had left a mark there goes back, if it has crossed the link: it has if that is free in the table.
-fn mark(marks: &mut [u8], link: usize, m: usize, free: bool)
-    requires { MayMark marks.old link m }
-    ensures { marks.new ≡ marked marks.old link m free }
-{
-    let other = marks[link] as usize;
-    marks[link] = (m + 1) as u8;
-    if free && 0 < other {
-        marks[LINKS + other - 1] = 1;
-        marks[LINKS + MESSAGES] = 1;
+impl Met {
+    // What message m does in a slot once it has turned, if it must: self is what it meets. `entry` is what the table has for the link before
+    // it, and `first` who goes first of those that try that link, m itself where nobody is before it.
+    pub fn acts(self, row: &[u16], slot: Slot, entry: u8, first: u16, m: u16) -> Moved
+        requires { (0 < self.position.left) × (end_of row.now self.position < 65536) ×
+            (self.link ≡ at row.now self.position.at) }
+        ensures { MetActs row.now slot.0 entry (not (eqb first m)) first self result }
+    {
+        let p = self.position;
+        if p.turned {
+            p.act_second(row, self.link, self.down, entry, first, m)
+        } else {
+            p.act_first(row, slot, self.link, self.down)
+        }
     }
 }
 
-// What message m does in a slot if nobody goes before it on the link that it tries. It tries the link before it if it has turned and that
-// link is whole, and leaves its mark there.
+// The first of those who have tried a link in this slot, or m where nobody has.
+fn first_trier(tried: &[u16], link: u16, m: usize) -> usize
+    requires { Noting tried.now m }
+    ensures { (result ≡ first_trier tried.now link m) × (result ≤ m) }
+{
+    let n = tried[0] as usize;
+    let mut j = 0;
+    while j < n {
+        if tried[2 * j + 1] == link {
+            return tried[2 * j + 2] as usize;
+        }
+        j += 1;
+    }
+    m
+}
+
+// Message m tries a link too.
+fn note(tried: &mut [u16], link: u16, m: usize)
+    requires { Noting tried.old m }
+    ensures { tried.new ≡ noted tried.old link m }
+{
+    let n = tried[0] as usize;
+    tried[2 * n + 1] = link;
+    tried[2 * n + 2] = m as u16;
+    tried[0] = (n + 1) as u16;
+}
+
+// What message m does in a slot, in a pass over the messages: `tried` has what those before it try. It tries the link before it if it has
+// turned and that link is whole; only then does it matter who holds the link, and who tries it first. One that waits is asked no more.
 fn act_one(
     p: Position,
     m: usize,
@@ -286,57 +309,32 @@ fn act_one(
     table: &[u8],
     down: &[u8],
     slot: Slot,
-    marks: &mut [u8],
+    tried: &mut [u16],
 ) -> Moved
-    requires { MayAct row.now p m slot.0 marks.old }
+    requires { MayAct row.now p m slot.0 tried.old }
     ensures { ActsIn row.now (is_down down.now) (entry_at table.now slot.0) slot.0 p m
-        marks.old marks.new result }
+        tried.old tried.new result }
 {
     if p.is_home() {
         let event = Event::Arrived;
         return Moved { next: p, event };
     }
+    if p.waits(row, down, slot) {
+        let event = Event::Waits(number(row, p.at as usize) as u16);
+        return Moved { next: p, event };
+    }
     let met = p.meets(row, down);
     let q = met.position;
-    if q.turned {
-        if met.down {
-            return q.act_second(row, met.link, true, 0);
-        }
+    if q.turned && !met.down {
         let entry = table::entry(table, slot.0, met.link as usize);
-        mark(marks, met.link as usize, m, entry == 0);
-        return q.act_second(row, met.link, false, entry);
+        let first = first_trier(tried, met.link, m);
+        note(tried, met.link, m);
+        return met.acts(row, slot, entry, first as u16, m as u16);
     }
-    q.act_first(row, slot, met.link, met.down)
+    met.acts(row, slot, 0, m as u16, m as u16)
 }
 
-// The same on its second path, and of it the next position.
-fn move_second(
-    q: Position,
-    m: usize,
-    row: &[u16],
-    table: &[u8],
-    down: &[u8],
-    slot: Slot,
-    marks: &mut [u8],
-) -> Position
-    requires { (q.turned ≡ true) × MayMove row.now q m slot.0 marks.old }
-    ensures { MovesIn row.now (is_down down.now) (entry_at table.now slot.0) slot.0 q m
-        marks.old marks.new result }
-{
-    let link = number(row, q.at as usize);
-    if is_down(down, link) {
-        return q;
-    }
-    let free = table::entry(table, slot.0, link) == 0;
-    mark(marks, link, m, free);
-    if free {
-        return q.past_link();
-    }
-    q
-}
-
-// The next position of message m, which is not yet at its target. It asks what `act_one` asks, and not `act_one` itself: where a message
-// waits, as most do, that is three tests.
+// The next position of message m. It asks what `act_one` asks, and not `act_one` itself: each is called in one place, and inlined there.
 fn move_one(
     p: Position,
     m: usize,
@@ -344,35 +342,32 @@ fn move_one(
     table: &[u8],
     down: &[u8],
     slot: Slot,
-    marks: &mut [u8],
+    tried: &mut [u16],
 ) -> Position
-    requires { MayMove row.now p m slot.0 marks.old }
+    requires { MayAct row.now p m slot.0 tried.old }
     ensures { MovesIn row.now (is_down down.now) (entry_at table.now slot.0) slot.0 p m
-        marks.old marks.new result }
+        tried.old tried.new result }
 {
-    if p.turned {
-        return move_second(p, m, row, table, down, slot, marks);
-    }
-    if !is_down(down, number(row, p.at as usize)) {
-        if place_slot(row, p.at as usize) == slot.0 {
-            return p.past_place(row);
-        }
+    if p.is_home() {
         return p;
     }
-    let place = place_at(row, p.at as usize);
-    if place.count == 0 {
+    if p.waits(row, down, slot) {
         return p;
     }
-    let q = Position {
-        at: place.second as u16,
-        left: place.count as u16,
-        turned: true,
-    };
-    move_second(q, m, row, table, down, slot, marks)
+    let met = p.meets(row, down);
+    let here = met.position;
+    if here.turned && !met.down {
+        let entry = table::entry(table, slot.0, met.link as usize);
+        let first = first_trier(tried, met.link, m);
+        note(tried, met.link, m);
+        let moved = met.acts(row, slot, entry, first as u16, m as u16);
+        return moved.next;
+    }
+    let moved = met.acts(row, slot, 0, m as u16, m as u16);
+    moved.next
 }
 
-// One slot of all messages, in the records that are lent: each moves as if nobody went before it, from the highest down. One at its target
-// stays as it is.
+// One slot of all messages, in the records that are lent: each moves, in their order. One at its target stays as it is.
 fn move_all(
     ps: &mut [Position],
     n: usize,
@@ -380,20 +375,20 @@ fn move_all(
     table: &[u8],
     down: &[u8],
     i: Slot,
-    marks: &mut [u8],
+    tried: &mut [u16],
 )
-    requires { MayMoveAll row.now ps.old n i.0 marks.old }
+    requires { MayMoveAll row.now ps.old n i.0 tried.old }
     ensures { MovesAll row.now n (down_now down.now) (entry_at table.now) i.0
-        ps.old ps.new marks.new }
+        ps.old ps.new tried.old tried.new }
 {
-    let mut m = n;
-    while 0 < m {
-        m -= 1;
+    let mut m = 0;
+    while m < n {
         let p = ps[m];
         if p.left != 0 {
-            let q = move_one(p, m, row, table, down, i, marks);
+            let q = move_one(p, m, row, table, down, i, tried);
             ps[m] = q;
         }
+        m += 1;
     }
 }
 
@@ -405,36 +400,18 @@ fn lend(
     table: &[u8],
     down: &[u8],
     i: Slot,
-    marks: &mut [u8],
+    tried: &mut [u16],
 ) -> [Position; MESSAGES]
-    requires { MayMoveAll row.now ps n i.0 marks.old }
+    requires { MayMoveAll row.now ps n i.0 tried.old }
     ensures { MovesAll row.now n (down_now down.now) (entry_at table.now) i.0
-        ps result marks.new }
+        ps result tried.old tried.new }
 {
     let mut qs = ps;
-    move_all(&mut qs, n, row, table, down, i, marks);
+    move_all(&mut qs, n, row, table, down, i, tried);
     qs
 }
 
-// Those of n messages go back that the marks name.
-fn go_back(ps: [Position; MESSAGES], n: usize, marks: &[u8]) -> [Position; MESSAGES]
-    requires { MayGoBack ps n marks.now }
-    ensures { HaveGoneBack ps n marks.now result }
-{
-    let mut qs = ps;
-    let mut k = 0;
-    while k < n {
-        if 0 < marks[LINKS + k] {
-            let p = qs[k];
-            let q = p.gone_back();
-            qs[k] = q;
-        }
-        k += 1;
-    }
-    qs
-}
-
-// One slot of all messages, from its beginning on, when nobody has left a mark.
+// The same, from the beginning of the slot on: nobody has tried anything.
 fn after_slot(
     ps: [Position; MESSAGES],
     n: usize,
@@ -446,13 +423,8 @@ fn after_slot(
     requires { Stand row.now n ps × (i.0 < 65536) }
     ensures { Moves row.now n (all_in row.now table.now down.now i.0 n ps) ps result }
 {
-    let mut marks = [0u8; MARKS];
-    let mut qs = lend(ps, n, row, table, down, i, &mut marks);
-    if 0 < marks[LINKS + MESSAGES] {
-        let back = go_back(qs, n, &marks);
-        qs = back;
-    }
-    qs
+    let mut tried = [0u16; TRIES];
+    lend(ps, n, row, table, down, i, &mut tried)
 }
 
 // The link that an event of this kind and number crosses, plus one, or 0.
@@ -485,89 +457,59 @@ fn put_event(out: &mut [u16], k: usize, kind: u16, number: u16)
     out[k + 1] = number;
 }
 
-// One slot of all messages that is told, in records of one's own: each moves as if nobody went before it, from the highest down, and its
-// event is put in its place in `out`.
-fn act_all(
+// How many messages do what was seen of them, the event of the next one, and all records where that is nobody.
+#[derive(Drop)]
+struct Gone {
+    alike: usize,
+    kind: u16,
+    number: u16,
+    positions: [Position; MESSAGES],
+}
+
+// One slot of all messages that is told, in records of one's own: each moves, in their order, and its event is put at the front of `out`. It
+// ends at the first message that does something else than was seen of it.
+fn go_all(
     ps: [Position; MESSAGES],
     n: usize,
     row: &[u16],
     table: &[u8],
     down: &[u8],
     i: Slot,
-    marks: &mut [u8],
+    seen: &[u8],
     out: &mut [u16],
-) -> [Position; MESSAGES]
-    requires { MayMoveAll row.now ps n i.0 marks.old × (2 * n ≤ length out.old) }
-    ensures { TellsAll row.now n (down_now down.now) (entry_at table.now) i.0
-        ps result marks.new out.old out.new }
-{
-    let mut qs = ps;
-    let mut m = n;
-    while 0 < m {
-        m -= 1;
-        let p = qs[m];
-        let moved = act_one(p, m, row, table, down, i, marks);
-        let q = moved.next;
-        qs[m] = q;
-        let event = moved.event;
-        put_event(out, 2 * m, event.kind(), event.number());
-    }
-    qs
-}
-
-// Those of n messages are told of as held that the marks name: by whose mark is on the link that they crossed, kind 5.
-fn hold(n: usize, marks: &[u8], out: &mut [u16])
-    requires { MayHold n marks.now out.old }
-    ensures { HaveHeld n marks.now out.old out.new }
-{
-    let mut k = 0;
-    while k < n {
-        if 0 < marks[LINKS + k] {
-            let link = out[2 * k + 1] as usize;
-            let first = marks[link] as u16 - 1;
-            let event = Event::HeldByLower(first);
-            put_event(out, 2 * k, event.kind(), event.number());
-        }
-        k += 1;
-    }
-}
-
-// One slot of all messages that is told, from its beginning on, when nobody has left a mark.
-fn tell_slot(
-    ps: [Position; MESSAGES],
-    n: usize,
-    row: &[u16],
-    table: &[u8],
-    down: &[u8],
-    i: Slot,
-    out: &mut [u16],
-) -> [Position; MESSAGES]
+) -> Gone
     requires { MayTellAll row.now ps n i.0 (length out.old) }
-    ensures { MovesAndTells row.now n (all_in row.now table.now down.now i.0 n ps)
-        ps result out.old out.new }
+    ensures { GoesAsSeen row.now n (all_in row.now table.now down.now i.0 n ps)
+        seen.now ps out.old out.new result }
 {
-    let mut marks = [0u8; MARKS];
-    let qs = act_all(ps, n, row, table, down, i, &mut marks, out);
-    if 0 < marks[LINKS + MESSAGES] {
-        hold(n, &marks, out);
-        return go_back(qs, n, &marks);
-    }
-    qs
-}
-
-// The first of n messages whose event in a row of events is not as seen, or n.
-fn first_other(out: &[u16], n: usize, seen: &[u8]) -> usize
-    requires { 2 * n ≤ length out.now }
-    ensures { result ≡ first_other_in seen.now n out.now }
-{
+    let mut tried = [0u16; TRIES];
+    let mut qs = ps;
     let mut k = 0;
     while k < n {
-        if !as_seen(out[2 * k], out[2 * k + 1], seen, k) {
-            return k;
+        let p = qs[k];
+        let moved = act_one(p, k, row, table, down, i, &mut tried);
+        let event = moved.event;
+        let kind = event.kind();
+        let number = event.number();
+        if !as_seen(kind, number, seen, k) {
+            return Gone {
+                alike: k,
+                kind,
+                number,
+                positions: qs,
+            };
         }
+        put_event(out, 2 * k, kind, number);
+        let q = moved.next;
+        qs[k] = q;
         k += 1;
     }
-    k
+    Gone {
+        alike: k,
+        kind: 0,
+        number: 0,
+        positions: qs,
+    }
 }
 
 // Where all messages stand at a time, one record a message.
@@ -639,7 +581,8 @@ impl Standing {
             out.old out.new }
     {
         let ps = self.positions;
-        let qs = tell_slot(ps, n, row, table, down, i, out);
+        let gone = go_all(ps, n, row, table, down, i, &[], out);
+        let qs = gone.positions;
         let time = i.leads_to();
         Standing {
             time,
@@ -662,25 +605,25 @@ impl Standing {
     {
         let mut out = [0u16; SLOT_EVENTS];
         let ps = self.positions;
-        let qs = tell_slot(ps, n, row, table, down, i, &mut out);
-        let alike = first_other(&out, n, seen);
-        if alike < n {
+        let gone = go_all(ps, n, row, table, down, i, seen, &mut out);
+        if gone.alike < n {
             return Watched {
-                alike,
-                kind: out[2 * alike],
-                number: out[2 * alike + 1],
+                alike: gone.alike,
+                kind: gone.kind,
+                number: gone.number,
                 next: self,
             };
         }
+        let qs = gone.positions;
         let time = i.leads_to();
         let next = Standing {
             time,
             positions: qs,
         };
         Watched {
-            alike,
-            kind: 0,
-            number: 0,
+            alike: gone.alike,
+            kind: gone.kind,
+            number: gone.number,
             next,
         }
     }

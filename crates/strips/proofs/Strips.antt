@@ -253,8 +253,8 @@ module _ (row bytes : List ℕ) (good : GoodRow row) (ways : Ways (plan_of row) 
     at_most_one true = omega arith
     at_most_one false = omega arith
 
-    pub may_pass : MayMore (λ e. second_in bytes e m) counts
-    may_pass =
+    pub may-pass : MayMore (λ e. second_in bytes e m) counts
+    may-pass =
         record {
           long = g.numbers.long;
           few = λ e l. omega (

@@ -178,9 +178,9 @@ zeros-next table k h z =
     below_more (λ j. get_or (set table k 0) j 0 ≡ 0) k (λ j l. get_or-set_other table k j 0 0 (λ e. omega arith) ∙ z j l)
     (get_or-set_same table k 0 0 h)
 
-pub zeros_done : (table : List ℕ) (k : ℕ) → length table ≡ table_size → table_size ≤ k → ((j : ℕ) → j < k → get_or table j 0 ≡ 0) →
+pub zeros-done : (table : List ℕ) (k : ℕ) → length table ≡ table_size → table_size ≤ k → ((j : ℕ) → j < k → get_or table j 0 ≡ 0) →
     Table (λ i e. 0) table
-zeros_done table k long h z = record { long = long; is = λ i e hi he. entry_in table i e hi he ∙ z (index_of i e) (omega arith) }
+zeros-done table k long h z = record { long = long; is = λ i e hi he. entry_in table i e hi he ∙ z (index_of i e) (omega arith) }
 
 -- the lowest of one number more
 pub lowest-more : (test : ℕ → Bool) (m : ℕ) → lowest test (m + 1) ≡ cond (ltb (lowest test m) m) (lowest test m) (cond (test m) m (m + 1))

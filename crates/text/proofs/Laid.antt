@@ -118,8 +118,8 @@ module _ {text b : List ℕ} {at : ℕ} where
         ends = omega arith;
       }
 
-  pub left_done : {c : List ℕ} {i : ℕ} → Left text b at [] c i → Puts text b c at i
-  left_done {c} {i} l =
+  pub left-done : {c : List ℕ} {i : ℕ} → Left text b at [] c i → Puts text b c at i
+  left-done {c} {i} l =
       let n : i + 0 ≡ at + length text = l.ends in
       record { buffer = sym (laid_nil c i) ∙ l.buffer; ends = omega arith }
 

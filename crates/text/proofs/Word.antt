@@ -30,6 +30,6 @@ module _ (text : List ℕ) (i : ℕ) (word : List ℕ) where
     pub stands-next : b ≡ get_or word j 0 → stands text (i + j) (drop j word) ≡ stands text (i + (j + 1)) (drop (j + 1) word)
     stands-next e = stands-more j h ∙ rw (← p, eq-eqb b (get_or word j 0) e)
 
-  pub stands_done : (j : ℕ) → length word ≤ j → stands text (i + j) (drop j word) ≡ true
+  pub stands-done : (j : ℕ) → length word ≤ j → stands text (i + j) (drop j word) ≡ true
   unfolding stands
-  stands_done j h = rw (drop_of_length-le word h)
+  stands-done j h = rw (drop_of_length-le word h)

@@ -28,6 +28,6 @@ pub spaced-more : (ns : List ℕ) (i : ℕ) → i < length ns → spaced (drop i
 unfolding spaced
 spaced-more ns i h = ap spaced (drop-cons ns i 0 h) ∙ rw (add-one i)
 
-pub spaced_done : (ns : List ℕ) (i : ℕ) → length ns ≤ i → spaced (drop i ns) ≡ []
+pub spaced-done : (ns : List ℕ) (i : ℕ) → length ns ≤ i → spaced (drop i ns) ≡ []
 unfolding spaced
-spaced_done ns i h = rw (drop_of_length-le ns h)
+spaced-done ns i h = rw (drop_of_length-le ns h)

@@ -98,9 +98,9 @@ module _ (plan : Plan) (m : ℕ) where
       ap (slack_lines plan m) (drop-cons plan.messages m [] h) ∙
       ap (λ (k : ℕ). message_slacks plan m 0 (path_of plan m) ++ slack_lines plan (m + 1) (drop k plan.messages)) (sym (add-one m))
 
-  pub messages_done : length plan.messages ≤ m → slack_lines plan m (drop m plan.messages) ≡ []
+  pub messages-done : length plan.messages ≤ m → slack_lines plan m (drop m plan.messages) ≡ []
   unfolding slack_lines
-  messages_done h = rw (drop_of_length-le plan.messages h)
+  messages-done h = rw (drop_of_length-le plan.messages h)
 
 -- how many places a message has
 place-count : (row : List ℕ) (m i n : ℕ) → m < message_count row → i ≡ message_index row m → n ≡ place_count row i →

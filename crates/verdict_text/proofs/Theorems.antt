@@ -109,8 +109,8 @@ pub record GoesTo (large : ℕ) (Kind : List ℕ → List ℕ → Type 0) : Type
   pub to : (file text : List ℕ) → TextUpTo large file text → Kind file text
   pub back : (file text : List ℕ) → Kind file text → TextUpTo large file text
 
-pub any-text : (large : ℕ) → large ≤ 3 → GoesTo large (TextUpTo large)
-any-text large few = record { few = few; to = λ file text t. t; back = λ file text t. t }
+pub any_text : (large : ℕ) → large ≤ 3 → GoesTo large (TextUpTo large)
+any_text large few = record { few = few; to = λ file text t. t; back = λ file text t. t }
 
 verdict_to : (file text : List ℕ) (o : Outcome) → read_file file longest_row ≡ o → TextUpTo 1 file text → VerdictText file text
 unfolding TextUpTo VerdictText

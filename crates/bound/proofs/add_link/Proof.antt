@@ -3,7 +3,7 @@ use Prim.Native.Nat.{◌-◌}
 use native.Mathlib.Omega.{arith}
 use mathlib.Core.Path.{refl}
 use borrow.Author.Rules.{rules}
-use Rattle.bound.proofs.Others.{AddingLink, link-none, link-small, link-more, link_done}
+use Rattle.bound.proofs.Others.{AddingLink, link-none, link-small, link-more, link-done}
 use Rattle.bound.proofs.add_link.Statement.{statement}
 use Rattle.bound.proofs.add_link.Tie as tie
 
@@ -29,7 +29,7 @@ loop-again c =
     (link-more _ _ _ _ s.before.before.requires _ _ s.loop.invariant _ c.before.before.before.before.loop-test.true refl)
 
 returns : tie.Need-returns invariant-loop decreases-loop
-returns c = link_done _ _ _ _ c.before.before.before.requires _ _ c.before.loop.invariant c.loop-test.false
+returns c = link-done _ _ _ _ c.before.before.before.requires _ _ c.before.loop.invariant c.loop-test.false
 
 pub add-link-spec : {M : Type 1} → statement M
 add-link-spec =

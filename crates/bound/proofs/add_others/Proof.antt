@@ -3,7 +3,7 @@ use Prim.Native.Nat.{◌-◌}
 use mathlib.Core.Logic.{⊎_elim}
 use borrow.Author.Rules.{rules}
 use Rattle.scope.specs.Limits.{most_links}
-use Rattle.bound.proofs.Others.{AddingOthers, others-none, others-may, others_add, others_skip, others_done}
+use Rattle.bound.proofs.Others.{AddingOthers, others-none, others-may, others_add, others_skip, others-done}
 use Rattle.bound.proofs.add_others.Statement.{statement}
 use Rattle.bound.proofs.add_others.Tie as tie
 
@@ -32,7 +32,7 @@ loop-again c =
     (λ t. rw t.1 (others_skip _ _ _ may _ _ s.loop.invariant low _ is t.0.left)) c.if1.branch
 
 returns : tie.Need-returns invariant-loop decreases-loop
-returns c = others_done _ _ _ c.before.before.before.before.requires _ _ c.before.loop.invariant c.loop-test.false
+returns c = others-done _ _ _ c.before.before.before.before.requires _ _ c.before.loop.invariant c.loop-test.false
 
 pub add-others-spec : {M : Type 1} → statement M
 add-others-spec =

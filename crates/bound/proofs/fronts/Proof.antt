@@ -2,7 +2,7 @@
 use Prim.Native.Nat.{◌-◌}
 use borrow.Author.Rules.{rules}
 use Rattle.bound.specs.Fronts.{Fronts}
-use Rattle.bound.proofs.Fronting.{fronts-none, fronts-more, fronts_done}
+use Rattle.bound.proofs.Fronting.{fronts-none, fronts-more, fronts-done}
 use Rattle.bound.proofs.fronts.Statement.{statement}
 use Rattle.bound.proofs.fronts.Tie as tie
 
@@ -22,7 +22,7 @@ loop-again c =
     c.before.before.front-row.ensures
 
 returns : tie.Need-returns invariant-loop decreases-loop
-returns c = fronts_done _ _ _ c.before.loop.invariant _ c.loop-test.false
+returns c = fronts-done _ _ _ c.before.loop.invariant _ c.loop-test.false
 
 pub fronts-spec : {M : Type 1} → statement M
 fronts-spec =

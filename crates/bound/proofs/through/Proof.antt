@@ -2,7 +2,7 @@
 use Prim.Native.Nat.{◌-◌}
 use borrow.Author.Rules.{rules}
 use Rattle.scope.specs.Limits.{most_messages}
-use Rattle.bound.proofs.Gathering.{ThroughBelow, through-none, through-more, through_done}
+use Rattle.bound.proofs.Gathering.{ThroughBelow, through-none, through-more, through-done}
 use Rattle.bound.proofs.through.Statement.{statement}
 use Rattle.bound.proofs.through.Tie as tie
 
@@ -20,7 +20,7 @@ loop-again c =
     through-more _ _ _ _ c.before.before.before.before.loop.invariant _ _ c.before.one-if.ensures c.either.ensures
 
 returns : tie.Need-returns invariant-loop decreases-loop
-returns c = through_done _ _ _ _ c.before.loop.invariant c.loop-test.false
+returns c = through-done _ _ _ _ c.before.loop.invariant c.loop-test.false
 
 pub through-spec : {M : Type 1} → statement M
 through-spec =

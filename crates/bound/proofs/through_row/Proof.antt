@@ -3,7 +3,7 @@ use Prim.Native.Nat.{◌-◌}
 use native.Mathlib.Omega.{arith}
 use borrow.Author.Rules.{rules}
 use Rattle.scope.specs.Limits.{most_links}
-use Rattle.bound.proofs.Gathering.{ThroughLinks, links-none, links-more, links_done}
+use Rattle.bound.proofs.Gathering.{ThroughLinks, links-none, links-more, links-done}
 use Rattle.bound.proofs.through_row.Statement.{statement}
 use Rattle.bound.proofs.through_row.Tie as tie
 
@@ -33,7 +33,7 @@ loop-again c =
     c.before.through.ensures)
 
 returns : tie.Need-returns invariant-loop decreases-loop
-returns c = links_done _ _ _ _ c.before.loop.invariant c.loop-test.false
+returns c = links-done _ _ _ _ c.before.loop.invariant c.loop-test.false
 
 pub through-row-spec : {M : Type 1} → statement M
 through-row-spec =

@@ -3,7 +3,7 @@ use native.Mathlib.Omega.{arith}
 use borrow.Author.Rules.{rules}
 use Rattle.scope.specs.Limits.{most_slots}
 use Rattle.bound.specs.Weights.{TopOf}
-use Rattle.bound.proofs.Weights.{Topping, topping_none, topping_more, tops_done}
+use Rattle.bound.proofs.Weights.{Topping, topping_none, topping_more, tops-done}
 use Rattle.bound.proofs.tops.Statement.{statement}
 use Rattle.bound.proofs.tops.Tie as tie
 
@@ -23,7 +23,7 @@ loop-again c =
     c.before.before.loop-test.true _ _ c.before.top_of.ensures c.larger.ensures
 
 returns : tie.Need-returns invariant-loop decreases-loop
-returns c = tops_done _ _ _ _ _ c.before.loop.invariant c.loop-test.false
+returns c = tops-done _ _ _ _ _ c.before.loop.invariant c.loop-test.false
 
 pub tops-spec : {M : Type 1} → statement M
 tops-spec =

@@ -5,9 +5,9 @@ use mathlib.Core.Path.{◌≡◌}
 use native.Mathlib.Omega.{arith}
 use lib.ListN.{length, length-set}
 use Rattle.scope.specs.Lines.{cuts_from}
-use Rattle.text.proofs.Laid.{Left, left-first, left_is, left-more, left_done, puts_one}
+use Rattle.text.proofs.Laid.{Left, left-first, left_is, left-more, left-done, puts_one}
 use Rattle.cut_lines.proofs.Forms.{end_none, end_line, end_is, slot-some}
-use Rattle.cut_lines.proofs.Lines.{cuts-none, cuts-end, line-more, line-bad, puts_two, cuts_done}
+use Rattle.cut_lines.proofs.Lines.{cuts-none, cuts-end, line-more, line-bad, puts_two, cuts-done}
 use Rattle.cut_lines.proofs.cuts.Statement.{statement}
 use Rattle.cut_lines.proofs.cuts.Tie as tie
 
@@ -22,7 +22,7 @@ loop-holds : tie.Need-loop-init invariant-loop decreases-loop
 loop-holds c = (search rules, search rules, left-first _ _ _)
 
 returns : tie.Need-returns invariant-loop decreases-loop
-returns c = cuts_done (left_done (left_is (cuts-end _ _ _ c.if1.true) c.before.before.loop.invariant.2))
+returns c = cuts-done (left-done (left_is (cuts-end _ _ _ c.if1.true) c.before.before.loop.invariant.2))
 
 returns-2 : tie.Need-returns-2 invariant-loop decreases-loop
 returns-2 c =
@@ -30,8 +30,8 @@ returns-2 c =
     let l = c.before.before.before.before.loop in
     let e = c.before.line-end in
     let bad = end_none s.args.text.now l.i e.result e.ensures.is c.if2.true in
-    cuts_done
-    (left_done (left-more (left_is (line-bad s.args.text.now l.lines l.i c.before.before.before.loop-test.true
+    cuts-done
+    (left-done (left-more (left_is (line-bad s.args.text.now l.lines l.i c.before.before.before.loop-test.true
     c.before.before.if1.false bad) l.invariant.2) (puts_one _ _ 0)))
 
 value-at-requires : tie.Need-value-at-requires invariant-loop decreases-loop
@@ -73,7 +73,7 @@ loop-again c =
 returns-3 : tie.Need-returns-3 invariant-loop decreases-loop
 returns-3 c =
     let z : c.before.loop.lines ≡ 0 = omega (arith, c.loop-test.false) in
-    cuts_done (left_done (left_is (cuts-none _ _ _ z) c.before.loop.invariant.2))
+    cuts-done (left-done (left_is (cuts-none _ _ _ z) c.before.loop.invariant.2))
 
 pub cuts-spec : {M : Type 1} → statement M
 cuts-spec =

@@ -3,7 +3,7 @@ use mathlib.Core.Path.{◌≡◌, sym, ◌∙◌, ap}
 use Prim.Native.Nat.{◌-◌, ◌≤◌}
 use Rattle.scope.specs.Lowest.{seek, lowest}
 use Rattle.scope.specs.Cuts.{pairs}
-use Rattle.scope.proofs.Lowest.{seek_found, seek-next, seek_done}
+use Rattle.scope.proofs.Lowest.{seek_found, seek-next, seek-done}
 use Rattle.cuts.specs.Pairs.{is_bad}
 use native.Mathlib.Omega.{arith}
 use borrow.Author.Rules.{rules}
@@ -36,7 +36,7 @@ loop-again c = (
 )
 
 returns-2 : tie.Need-returns-2 invariant-loop decreases-loop
-returns-2 c = sym (seek_done _ _ _ c.loop-test.false) ∙ c.before.loop.invariant.2
+returns-2 c = sym (seek-done _ _ _ c.loop-test.false) ∙ c.before.loop.invariant.2
 
 pub first-bad-spec : {M : Type 1} → statement M
 first-bad-spec =

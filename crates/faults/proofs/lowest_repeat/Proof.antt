@@ -5,7 +5,7 @@ use mathlib.Core.Path.{◌∙◌, ap}
 use Rattle.scope.specs.Good.{repeats}
 use Rattle.scope.specs.Lowest.{lowest}
 use Rattle.scope.specs.Plan.{plan_of}
-use Rattle.scope.proofs.Seek.{lowest_done}
+use Rattle.scope.proofs.Seek.{lowest-done}
 use Rattle.faults.proofs.Repeats.{Repeating, repeating_first, repeating_found, repeating_next}
 use borrow.Author.Rules.{rules}
 use Rattle.faults.proofs.lowest_repeat.Statement.{statement}
@@ -39,7 +39,7 @@ loop-again c =
 returns-2 : tie.Need-returns-2 invariant-loop decreases-loop
 returns-2 c =
     let row = c.before.before.before.before.args.row.now in
-    lowest_done (repeats (plan_of row)) _ _ c.before.loop.invariant.seeking c.loop-test.false ∙
+    lowest-done (repeats (plan_of row)) _ _ c.before.loop.invariant.seeking c.loop-test.false ∙
     ap (lowest (repeats (plan_of row))) c.before.before.links.ensures.is
 
 pub lowest-repeat-spec : {M : Type 1} → statement M

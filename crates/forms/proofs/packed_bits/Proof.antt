@@ -2,7 +2,7 @@
 use Prim.Native.Nat.{◌-◌}
 use native.Mathlib.Omega.{arith}
 use lib.ListN.{length}
-use Rattle.forms.proofs.Packing.{Counts, counts-first, counts-next, counts-room, counts_done, row_walks, row_bits_most}
+use Rattle.forms.proofs.Packing.{Counts, counts-first, counts-next, counts-room, counts-done, row_walks, row_bits_most}
 use borrow.Author.Rules.{rules}
 use Rattle.forms.proofs.packed_bits.Statement.{statement}
 use Rattle.forms.proofs.packed_bits.Tie as tie
@@ -33,7 +33,7 @@ loop-again c =
 returns : tie.Need-returns invariant-loop decreases-loop
 returns c =
     let at = c.before.loop in
-    counts_done c.before.before.before.before.args.row.now at.s at.p at.i at.invariant c.loop-test.false
+    counts-done c.before.before.before.before.args.row.now at.s at.p at.i at.invariant c.loop-test.false
 
 pub packed-bits-spec : {M : Type 1} → statement M
 packed-bits-spec =

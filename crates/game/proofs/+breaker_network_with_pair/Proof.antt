@@ -6,7 +6,7 @@ use Rattle.risks.proofs.Light.{goes_up}
 use Rattle.risks.proofs.Risks.{may-weigh}
 use Rattle.game.proofs.Turns.{room, may-hit, may-cut, picked_in_vain}
 use Rattle.game.proofs.Turns.{Breaking, may_weigh_rest, may_try, over_turned, from-within, breaks-first, may_pick}
-use Rattle.game.proofs.Turns.{still_low, breaks_on, may_pass, passed_on, may_move, ends, may_break}
+use Rattle.game.proofs.Turns.{still_low, breaks_on, may-pass, passed_on, may_move, ends, may_break}
 use borrow.Fn.Kinds.{In}
 use borrow.Fn.PlainCycle.{Measures, is, falls, and}
 use Rattle.game.proofs.breaker.Reads as breaker
@@ -278,7 +278,7 @@ breaker_network_requires t c κs =
     let d = k.before in
     let start = d.before.before.before.before.before.before.before.before in (
       omega (arith, start.requires.0),
-      may_pass _ _ _ _ _ _ _ _ _ _ _ _ _ _ _ start.requires.1 _ _ _ k.at-risk.ensures w'.wanting.ensures w.losses.ensures _ _ _ d.needed.ensures.0 c.before.before.before.before.before.before.before.before.first-worth.ensures c.before.before.before.before.before.before.before.worth.ensures _ _ c.before.loop.invariant c.loop-test.false,
+      may-pass _ _ _ _ _ _ _ _ _ _ _ _ _ _ _ start.requires.1 _ _ _ k.at-risk.ensures w'.wanting.ensures w.losses.ensures _ _ _ d.needed.ensures.0 c.before.before.before.before.before.before.before.before.first-worth.ensures c.before.before.before.before.before.before.before.worth.ensures _ _ c.before.loop.invariant c.loop-test.false,
     )
 
 breaker_returns_2 : (t : ℕ) → breaker-lts.Need-returns-2 (breaker_calls t) (breaker-at t) breaker.Post breaker_inv_loop breaker_μ_loop

@@ -2,7 +2,7 @@
 use Prim.Native.Nat.{◌≤◌, ◌-◌}
 use borrow.Author.Rules.{rules}
 use Rattle.scope.specs.Lines.{event_lines}
-use Rattle.text.proofs.Laid.{Left, left-first, left_is, left-told, left-more, left_done, left-same}
+use Rattle.text.proofs.Laid.{Left, left-first, left_is, left-told, left-more, left-done, left-same}
 use Rattle.listing.proofs.Lines.{lines_more, lines_done, lines_first}
 use Rattle.listing.proofs.event_lines.Statement.{statement}
 use Rattle.listing.proofs.event_lines.Tie as tie
@@ -44,7 +44,7 @@ same_length : tie.Need-same-length invariant-loop decreases-loop
 same_length c = left-same c.before.loop.invariant.1
 
 returns : tie.Need-returns invariant-loop decreases-loop
-returns c = left_done (left_is (lines_done _ _ _ _ c.loop-test.false) c.before.loop.invariant.1)
+returns c = left-done (left_is (lines_done _ _ _ _ c.loop-test.false) c.before.loop.invariant.1)
 
 pub event-lines-spec : {M : Type 1} → statement M
 event-lines-spec =

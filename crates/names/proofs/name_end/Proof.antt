@@ -4,7 +4,7 @@ use mathlib.Core.Path.{◌≡◌, refl, ◌∙◌}
 use borrow.Author.Rules.{rules}
 use lib.ListN.{length}
 use Rattle.names.specs.Names.{name_end}
-use Rattle.names.proofs.Names.{end-found, end-next, end_done}
+use Rattle.names.proofs.Names.{end-found, end-next, end-done}
 use Rattle.names.proofs.name_end.Statement.{statement}
 use Rattle.names.proofs.name_end.Tie as tie
 
@@ -24,7 +24,7 @@ loop-again : tie.Need-loop-preserved invariant-loop decreases-loop
 loop-again c = end-next _ _ c.before.before.loop-test.true c.if1.false ∙ c.before.before.before.loop.invariant
 
 returns-2 : tie.Need-returns-2 invariant-loop decreases-loop
-returns-2 c = end_done _ _ c.loop-test.false ∙ c.before.loop.invariant
+returns-2 c = end-done _ _ c.loop-test.false ∙ c.before.loop.invariant
 
 pub name-end-spec : {M : Type 1} → statement M
 name-end-spec =

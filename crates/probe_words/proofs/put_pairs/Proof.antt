@@ -2,9 +2,9 @@
 use Prim.Native.Nat.{◌-◌, ◌≤◌}
 use borrow.Author.Rules.{rules}
 use lib.ListN.{length, drop}
-use Rattle.text.proofs.Laid.{Left, left-first, left_is, left-told, left-more, left_done, left-same}
+use Rattle.text.proofs.Laid.{Left, left-first, left_is, left-told, left-more, left-done, left-same}
 use Rattle.probe_words.specs.Words.{pairs_of}
-use Rattle.probe_words.proofs.Parts.{pairs-more, pairs_done}
+use Rattle.probe_words.proofs.Parts.{pairs-more, pairs-done}
 use Rattle.probe_words.proofs.put_pairs.Statement.{statement}
 use Rattle.probe_words.proofs.put_pairs.Tie as tie
 
@@ -33,7 +33,7 @@ same_length : tie.Need-same-length invariant-loop decreases-loop
 same_length c = left-same c.before.loop.invariant.1
 
 returns : tie.Need-returns invariant-loop decreases-loop
-returns c = left_done (left_is (pairs_done _ _ c.loop-test.false) c.before.loop.invariant.1)
+returns c = left-done (left_is (pairs-done _ _ c.loop-test.false) c.before.loop.invariant.1)
 
 pub put-pairs-spec : {M : Type 1} → statement M
 put-pairs-spec =

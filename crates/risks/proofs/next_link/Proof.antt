@@ -3,7 +3,7 @@ use Prim.Native.Nat.{◌-◌, ◌≤◌}
 use mathlib.Core.Path.{◌≡◌, refl, sym, ◌∙◌}
 use borrow.Author.Rules.{rules}
 use Rattle.scope.specs.Lowest.{seek}
-use Rattle.scope.proofs.Lowest.{seek_found, seek-next, seek_done}
+use Rattle.scope.proofs.Lowest.{seek_found, seek-next, seek-done}
 use Rattle.risks.specs.Weighed.{passes}
 use Rattle.risks.proofs.next_link.Statement.{statement}
 use Rattle.risks.proofs.next_link.Tie as tie
@@ -31,7 +31,7 @@ loop-again c = (
 )
 
 returns-2 : tie.Need-returns-2 invariant-loop decreases-loop
-returns-2 c = sym (seek_done _ _ _ c.loop-test.false) ∙ c.before.loop.invariant.1
+returns-2 c = sym (seek-done _ _ _ c.loop-test.false) ∙ c.before.loop.invariant.1
 
 pub next-link-spec : {M : Type 1} → statement M
 next-link-spec =

@@ -5,7 +5,7 @@ use mathlib.Core.Bool.{false}
 use borrow.Author.Rules.{rules}
 use borrow.Author.Tests.{not-true, not-false}
 use lib.ListN.{length, drop}
-use Rattle.text.proofs.Laid.{Left, left-first, left_is, left-more, left_done, left-same}
+use Rattle.text.proofs.Laid.{Left, left-first, left_is, left-more, left-done, left-same}
 use Rattle.row_text.specs.Rows.{numbers_from, numbers_of}
 use Rattle.row_text.proofs.Words.{word_none, word_last, word_ends, word_bad, from-none}
 use Rattle.row_text.proofs.numbers.Statement.{statement}
@@ -31,7 +31,7 @@ same_length c =
 returns : tie.Need-returns invariant-loop decreases-loop
 returns c =
     let s = c.before.before.before.before.before.before.before in
-    left_done (left-more (left_is (word_none _ _ _ c.before.before.before.before.before.number_at.ensures
+    left-done (left-more (left_is (word_none _ _ _ c.before.before.before.before.before.number_at.ensures
     c.before.before.before.before.before.before.loop-test.true c.before.before.before.before.if1.true)
     s.loop.invariant.3) c.before.before.put.ensures)
 
@@ -45,7 +45,7 @@ same-length-2 c =
 returns-2 : tie.Need-returns-2 invariant-loop decreases-loop
 returns-2 c =
     let s = c.before.before.before.before.before.before.before.before.before in
-    left_done (left-more (left_is (word_last _ _ _ c.before.before.before.before.before.before.before.number_at.ensures
+    left-done (left-more (left_is (word_last _ _ _ c.before.before.before.before.before.before.before.number_at.ensures
     c.before.before.before.before.before.before.if1.false c.before.before.before.before.before.if2.true)
     s.loop.invariant.3) c.before.before.put2.ensures)
 
@@ -66,7 +66,7 @@ same-length-3 c =
 returns-3 : tie.Need-returns-3 invariant-loop decreases-loop
 returns-3 c =
     let s = c.before.before.before.before.before.before.before.before.before.before.before in
-    left_done
+    left-done
     (left-more
     (left_is
     (word_bad _ _ _ c.before.before.before.before.before.before.before.before.before.number_at.ensures
@@ -96,7 +96,7 @@ same-length-4 : tie.Need-same-length-4 invariant-loop decreases-loop
 same-length-4 c = c.before.loop.invariant.2
 
 returns-4 : tie.Need-returns-4 invariant-loop decreases-loop
-returns-4 c = left_done (left_is (from-none _ _ _ _ c.loop-test.false refl) c.before.loop.invariant.3)
+returns-4 c = left-done (left_is (from-none _ _ _ _ c.loop-test.false refl) c.before.loop.invariant.3)
 
 pub numbers-spec : {M : Type 1} → statement M
 numbers-spec =

@@ -2,9 +2,9 @@
 use Prim.Native.Nat.{◌≤◌, ◌-◌}
 use borrow.Author.Rules.{rules}
 use lib.ListN.{length, drop}
-use Rattle.text.proofs.Laid.{Left, left-first, left_is, left-told, left-more, left_done, left-same}
+use Rattle.text.proofs.Laid.{Left, left-first, left_is, left-told, left-more, left-done, left-same}
 use Rattle.row_text.specs.Rows.{row_line}
-use Rattle.row_text.proofs.Lines.{line-more, line_done, line-told}
+use Rattle.row_text.proofs.Lines.{line-more, line-done, line-told}
 use Rattle.row_text.proofs.row_line.Statement.{statement}
 use Rattle.row_text.proofs.row_line.Tie as tie
 
@@ -35,7 +35,7 @@ same_length : tie.Need-same-length invariant-loop decreases-loop
 same_length c = left-same c.before.loop.invariant.1
 
 returns : tie.Need-returns invariant-loop decreases-loop
-returns c = left_done (left_is (line_done _ _ c.loop-test.false) c.before.loop.invariant.1)
+returns c = left-done (left_is (line-done _ _ c.loop-test.false) c.before.loop.invariant.1)
 
 pub row-line-spec : {M : Type 1} → statement M
 row-line-spec =

@@ -3,7 +3,7 @@ use Prim.Native.Nat.{◌+◌, ◌*◌}
 use mathlib.Core.Path.{sym, ◌∙◌, ap}
 use native.Mathlib.Omega.{arith}
 use Rattle.scope.specs.Outcome.{outcome_of}
-use Rattle.row_walk.proofs.Parts.{fields_end, pass_then, pass_bad}
+use Rattle.row_walk.proofs.Parts.{fields_end, pass-then, pass-bad}
 use Rattle.row_walk.proofs.Passing.{sizes_of_plan, messages_of_plan, links_of_plan}
 use borrow.Author.Rules.{rules}
 use Rattle.row_walk.proofs.walk_head.Statement.{statement}
@@ -38,9 +38,9 @@ returns c =
     (sym two ∙ gave) in
     let one = c.before.before.before.before.before.walk-fields2.ensures in
     let more = ap outcome_of c.before.before.before.messages.given.1 in
-    pass_then row _ _ 1 _ _ (sizes_of_plan row c.before.before.before.before.before.before.before.before.before.before.before.requires
+    pass-then row _ _ 1 _ _ (sizes_of_plan row c.before.before.before.before.before.before.before.before.before.before.before.requires
     _ two) _ _ gave
-    (pass_then row _ _ _ _ _ (messages_of_plan row _ end.1 _ _ end.0 one) _ _ more
+    (pass-then row _ _ _ _ _ (messages_of_plan row _ end.1 _ _ end.0 one) _ _ more
     (links_of_plan row _ (fields_end row 5 1 _ _ end.1 (sym one ∙ more)).1 _ _ _ _ (ap (λ n. n * 2 + 1) c.before.links.ensures.is)
     c.walk-fields3.ensures))
 
@@ -50,14 +50,14 @@ returns-2 c =
     let two = c.before.before.before.before.before.before.before.walk-fields.ensures in
     let gave = ap outcome_of c.before.before.before.before.before.sizes.given.1 in
     let end = fields_end row 6 2 1 _ c.before.before.before.before.before.before.before.before.before.requires (sym two ∙ gave) in
-    pass_then row _ _ 1 _ _ (sizes_of_plan row c.before.before.before.before.before.before.before.before.before.requires _ two) _ _ gave
-    (pass_bad row _ _ _ _ _ (messages_of_plan row _ end.1 _ _ end.0 c.before.before.before.walk-fields2.ensures) _
+    pass-then row _ _ 1 _ _ (sizes_of_plan row c.before.before.before.before.before.before.before.before.before.requires _ two) _ _ gave
+    (pass-bad row _ _ _ _ _ (messages_of_plan row _ end.1 _ _ end.0 c.before.before.before.walk-fields2.ensures) _
     (ap outcome_of c.before.messages2.given.1))
 
 returns-3 : tie.Need-returns-3
 returns-3 c =
     let row = c.before.before.before.before.before.args.row.now in
-    pass_bad row _ _ 1 _ _ (sizes_of_plan row c.before.before.before.before.before.requires _
+    pass-bad row _ _ 1 _ _ (sizes_of_plan row c.before.before.before.before.before.requires _
     c.before.before.before.walk-fields.ensures) _ (ap outcome_of c.before.sizes2.given.1)
 
 pub walk-head-spec : {M : Type 1} → statement M

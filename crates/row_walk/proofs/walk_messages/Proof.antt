@@ -6,7 +6,7 @@ use Rattle.scope.specs.Fields.{next_message, next_place}
 use Rattle.scope.specs.Outcome.{outcome_of}
 use Rattle.row_walk.specs.Walk.{rest_of}
 use Rattle.row_walk.proofs.Parts.{fields_end, fields_small}
-use Rattle.row_walk.proofs.Passing.{Going, going_next, going-bad, place-turn, message-turn, messages-more, messages_done}
+use Rattle.row_walk.proofs.Passing.{Going, going_next, going-bad, place-turn, message-turn, messages-more, messages-done}
 use borrow.Author.Rules.{rules}
 use Rattle.row_walk.proofs.walk_messages.Statement.{statement}
 use Rattle.row_walk.proofs.walk_messages.Tie as tie
@@ -72,7 +72,7 @@ returns-3 c = c.refuse.ensures ∙ messages-more _ _ _ _ _ c.before.before.befor
     c.before.before.before.if1.false c.before.before.if2.true c.before.if3.true
 
 returns-4 : tie.Need-returns-4 invariant-loop decreases-loop
-returns-4 c = messages_done _ _ _ _ _ c.before.before.before.loop.invariant.0 c.before.before.if1.false c.before.if2.true
+returns-4 c = messages-done _ _ _ _ _ c.before.before.before.loop.invariant.0 c.before.before.if1.false c.before.if2.true
     c.if3.false
 
 pub walk-messages-spec : {M : Type 1} → statement M

@@ -2,7 +2,7 @@
 use mathlib.Core.Path.{sym, ◌∙◌, ap}
 use native.Mathlib.Omega.{arith}
 use Rattle.scope.specs.Outcome.{outcome_of}
-use Rattle.row_walk.proofs.Parts.{fields_end, pass_then, pass_bad}
+use Rattle.row_walk.proofs.Parts.{fields_end, pass-then, pass-bad}
 use Rattle.row_walk.proofs.Passing.{held_of_place, flag_of_place, flag-set, flag-clear}
 use borrow.Author.Rules.{rules}
 use Rattle.row_walk.proofs.walk_place.Statement.{statement}
@@ -33,10 +33,10 @@ returns c =
     let gave = ap outcome_of c.before.before.before.before.before.before.before.before.held.given.1 in
     let end = fields_end row 6 2 a.i _
     c.before.before.before.before.before.before.before.before.before.before.before.before.requires (sym two ∙ gave) in
-    pass_then row _ _ a.i _ _
+    pass-then row _ _ a.i _ _
     (held_of_place row a.i c.before.before.before.before.before.before.before.before.before.before.before.before.requires _ two) _
     _ gave
-    (pass_then row _ _ _ _ _ (flag_of_place row _ end.1 _ c.before.before.before.before.before.before.walk-fields2.ensures) _ _
+    (pass-then row _ _ _ _ _ (flag_of_place row _ end.1 _ c.before.before.before.before.before.before.walk-fields2.ensures) _ _
     (ap outcome_of c.before.before.before.before.flag.given.1)
     (flag-set row _ _ _ (sym c.before.before.number.ensures.is ∙ c.before.if1.true) c.walk-second.ensures))
 
@@ -50,9 +50,9 @@ returns-2 c =
     (sym two ∙ gave) in
     let one = c.before.before.before.before.before.walk-fields2.ensures in
     let set = ap outcome_of c.before.before.before.flag.given.1 in
-    pass_then row _ _ a.i _ _
+    pass-then row _ _ a.i _ _
     (held_of_place row a.i c.before.before.before.before.before.before.before.before.before.before.before.requires _ two) _ _ gave
-    (pass_then row _ _ _ _ _ (flag_of_place row _ end.1 _ one) _ _ set
+    (pass-then row _ _ _ _ _ (flag_of_place row _ end.1 _ one) _ _ set
     (flag-clear row _ _ (λ e. c.if1.false (c.before.number.ensures.is ∙ e)) (fields_end row 1 1 _ _ end.1 (sym one ∙ set)).1))
 
 returns-3 : tie.Need-returns-3
@@ -62,15 +62,15 @@ returns-3 c =
     let two = c.before.before.before.before.before.before.before.walk-fields.ensures in
     let gave = ap outcome_of c.before.before.before.before.before.held.given.1 in
     let end = fields_end row 6 2 a.i _ c.before.before.before.before.before.before.before.before.before.requires (sym two ∙ gave) in
-    pass_then row _ _ a.i _ _
+    pass-then row _ _ a.i _ _
     (held_of_place row a.i c.before.before.before.before.before.before.before.before.before.requires _ two) _ _ gave
-    (pass_bad row _ _ _ _ _ (flag_of_place row _ end.1 _ c.before.before.before.walk-fields2.ensures) _
+    (pass-bad row _ _ _ _ _ (flag_of_place row _ end.1 _ c.before.before.before.walk-fields2.ensures) _
     (ap outcome_of c.before.flag2.given.1))
 
 returns-4 : tie.Need-returns-4
 returns-4 c =
     let a = c.before.before.before.before.before.args in
-    pass_bad a.row.now _ _ a.i _ _
+    pass-bad a.row.now _ _ a.i _ _
     (held_of_place a.row.now a.i c.before.before.before.before.before.requires _ c.before.before.before.walk-fields.ensures) _
     (ap outcome_of c.before.held2.given.1)
 

@@ -3,7 +3,7 @@ use Prim.Native.Nat.{◌+◌}
 use mathlib.Core.Path.{sym, ◌∙◌, ap}
 use native.Mathlib.Omega.{arith}
 use Rattle.scope.specs.Outcome.{outcome_of}
-use Rattle.row_walk.proofs.Parts.{fields_end, pass_then, pass_bad}
+use Rattle.row_walk.proofs.Parts.{fields_end, pass-then, pass-bad}
 use Rattle.row_walk.proofs.Passing.{count_of_second, links_of_second}
 use borrow.Author.Rules.{rules}
 use Rattle.row_walk.proofs.walk_second.Statement.{statement}
@@ -23,13 +23,13 @@ returns c =
     let one = c.before.before.before.before.before.walk-fields.ensures in
     let gave = ap outcome_of c.before.before.before.count.given.1 in
     let end = fields_end row 4 1 a.i _ c.before.before.before.before.before.before.before.requires (sym one ∙ gave) in
-    pass_then row _ _ a.i _ _ (count_of_second row a.i c.before.before.before.before.before.before.before.requires _ one) _ _ gave
+    pass-then row _ _ a.i _ _ (count_of_second row a.i c.before.before.before.before.before.before.before.requires _ one) _ _ gave
     (links_of_second row _ end.1 _ _ _ (ap (λ n. n + 1) c.before.number.ensures.is) c.walk-fields2.ensures)
 
 returns-2 : tie.Need-returns-2
 returns-2 c =
     let a = c.before.before.before.before.before.args in
-    pass_bad a.row.now _ _ a.i _ _
+    pass-bad a.row.now _ _ a.i _ _
     (count_of_second a.row.now a.i c.before.before.before.before.before.requires _ c.before.before.before.walk-fields.ensures)
     _ (ap outcome_of c.before.count2.given.1)
 

@@ -37,7 +37,7 @@ returns c =
     let a = c.before.before.before.before.args in
     let l = c.before.loop in
     record {
-      is = sym (law.messages_done a.row.now l.at a.m l.k c.loop-test.false) ∙ l.invariant.0;
+      is = sym (law.messages-done a.row.now l.at a.m l.k c.loop-test.false) ∙ l.invariant.0;
       small = omega arith;
     }
 

@@ -4,7 +4,7 @@ use mathlib.Core.Path.{◌∙◌, sym}
 use native.Mathlib.Omega.{arith}
 use borrow.Author.Rules.{rules}
 use Rattle.scope.specs.Plan.{plan_of}
-use Rattle.scope.proofs.Seek.{Seeking, seeking_first, seeking_next, lowest-found, lowest_done}
+use Rattle.scope.proofs.Seek.{Seeking, seeking_first, seeking_next, lowest-found, lowest-done}
 use Rattle.rules.specs.Rules.{breaks}
 use Rattle.rules.proofs.Laws as law
 use Rattle.rules.proofs.lowest_breaking.Statement.{statement}
@@ -41,7 +41,7 @@ loop-again c = seeking_next _ _ _ c.before.before.before.loop.invariant c.before
     (sym c.before.breaks.ensures ∙ c.if2.false)
 
 returns-3 : tie.Need-returns-3 invariant-loop decreases-loop
-returns-3 c = lowest_done _ _ _ c.before.loop.invariant c.loop-test.false
+returns-3 c = lowest-done _ _ _ c.before.loop.invariant c.loop-test.false
 
 pub lowest-breaking-spec : {M : Type 1} → statement M
 lowest-breaking-spec =

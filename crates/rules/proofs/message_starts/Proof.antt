@@ -16,7 +16,7 @@ decreases-loop row starts₀ n at₀ m₀ starts at m = n - m
 
 loop-holds : tie.Need-loop-init invariant-loop decreases-loop
 loop-holds c = (
-  law.noting_first c.before.before.before.args.row.now 32 refl c.message-index.result
+  law.noting-first c.before.before.before.args.row.now 32 refl c.message-index.result
       c.message-index.ensures,
   omega arith,
 )
@@ -48,7 +48,7 @@ after-message-requires c κs = omega (
 
 loop-again : tie.Need-loop-preserved invariant-loop decreases-loop
 loop-again c = let l = c.before.before.loop in (
-  law.noting_next c.before.before.before.before.before.before.args.row.now l.m l.at c.after-message.result
+  law.noting-next c.before.before.before.before.before.before.args.row.now l.m l.at c.after-message.result
       l.starts l.invariant.0
       (omega (
         arith,
@@ -61,7 +61,7 @@ loop-again c = let l = c.before.before.loop in (
 
 returns : tie.Need-returns invariant-loop decreases-loop
 returns c = let l = c.before.loop in
-    law.noting_done c.before.before.before.before.before.args.row.now l.m l.at l.starts l.invariant.0
+    law.noting-done c.before.before.before.before.before.args.row.now l.m l.at l.starts l.invariant.0
     (omega (arith, c.loop-test.false, l.invariant.1, c.before.before.before.messages.ensures.is))
 
 pub message-starts-spec : {M : Type 1} → statement M

@@ -1,7 +1,7 @@
 -- `sheet_lines::sum_lines` meets its contract: what the loop has left are the lines from k on.
 use Prim.Native.Nat.{◌-◌, ◌≤◌}
 use borrow.Author.Rules.{rules}
-use Rattle.text.proofs.Laid.{Left, left-first, left_is, left-told, left-more, left_done, left-same}
+use Rattle.text.proofs.Laid.{Left, left-first, left_is, left-told, left-more, left-done, left-same}
 use Rattle.sheet_lines.specs.Sheet.{tally_lines}
 use Rattle.sheet_lines.specs.Tally.{sums}
 use Rattle.sheet_lines.specs.declared.Tally.{Tally}
@@ -43,7 +43,7 @@ returns : tie.Need-returns invariant-loop decreases-loop
 returns c =
     let l = c.before in
     let s = l.before.before.before.before in
-    left_done (left_is (tally_done s.args.t sums l.loop.k c.loop-test.false) l.loop.invariant.1)
+    left-done (left_is (tally_done s.args.t sums l.loop.k c.loop-test.false) l.loop.invariant.1)
 
 pub sum-lines-spec : {M : Type 1} → statement M
 sum-lines-spec =

@@ -1,7 +1,7 @@
 -- `step::lend` meets its contract: a walk of its MIR, by hand. The array is copied to a local, which is lent as a slice to `move_all` for a
 -- lifetime of the call, and comes back as the list that `move_all`'s contract says.
--- row, table, down and marks are passed on at their own lifetimes, shares and names: nothing of them is needed after the call, and what
--- `move_all` says of the last list of marks is what `lend` says of it.
+-- row, table, down and tried are passed on at their own lifetimes, shares and names: nothing of them is needed after the call, and what
+-- `move_all` says of the last list of tried is what `lend` says of it.
 -- All that the proof knows of `move_all` is that it meets its contract.
 -- Assumes nothing.
 use mathlib.Core.Path.{◌≡◌, refl, sym, ◌∙◌, ap, subst}
@@ -74,7 +74,7 @@ use Rattle.step.specs.contracts.lend.Key.{name as #step·lend}
 use Rattle.step.proofs.lend.Statement as stated
 use Rattle.step.proofs.lend.Code as code
 
--- the array's slot, and those of the slices that are only read. Of all but marks nothing is had at exit
+-- the array's slot, and those of the slices that are only read. Of all but tried nothing is had at exit
 abbrev ArrayP : Param 4
 ArrayP = array_of (plain (λ _. P.the_row)) 32
 
@@ -84,13 +84,13 @@ Shr j ok R = shr_slice_of (j ∷ []) ok (plain (λ _. R))
 abbrev stayed : Stays (lend.ended).signature.params (lend.ended).kept
 stayed =
     stay_dropped ArrayP yes & stay_dropped (plain (λ _. usize)) yes & stay_dropped (Shr 0 tt u16) yes & stay_dropped (Shr 1 tt u8) yes
-    & stay_dropped (Shr 2 tt u8) yes & stay_dropped (plain (λ _. S.the_row)) yes & gave_slice (3 ∷ []) tt (plain (λ _. u8)) & tt
+    & stay_dropped (Shr 2 tt u8) yes & stay_dropped (plain (λ _. S.the_row)) yes & gave_slice (3 ∷ []) tt (plain (λ _. u16)) & tt
 
 -- the contract that the proof cites
 abbrev MoveAll : {M : Type 1} {𝓤 : Ura M} (𝓛 : Logic 𝓤) (mem : Memory → SProp 𝓤) (run : Routine → Fun 𝓤) → Contract 𝓤
 MoveAll 𝓛 mem run = triple_of 𝓛 move_all.signature (move_all.spec 𝓛 mem run)
 
--- the last values of its parameters: a list of records, a list for marks, and none of the others
+-- the last values of its parameters: a list of records, a list for tried, and none of the others
 abbrev Ends : Type 0
 Ends = List Position × (Unit {0} × (Unit {0} × (Unit {0} × (Unit {0} × (Unit {0} × (List ℕ × Unit {0}))))))
 
@@ -170,7 +170,7 @@ module _ {M : Type 1} {𝓤 : Ura M} (𝓛 : Logic 𝓤) (at_mem : Memory → SP
   abbrev Rest : Fml
   Rest =
       owns
-      (usize ∷ ShrSlice (named 0) κ₁ u16 ∷ ShrSlice (named 1) κ₂ u8 ∷ ShrSlice (named 2) κ₃ u8 ∷ S.the_row ∷ MutSlice (named 3) κ₄ u8 ∷ [])
+      (usize ∷ ShrSlice (named 0) κ₁ u16 ∷ ShrSlice (named 1) κ₂ u8 ∷ ShrSlice (named 2) κ₃ u8 ∷ S.the_row ∷ MutSlice (named 3) κ₄ u16 ∷ [])
       (n & x₁ & x₂ & x₃ & i & x₄ & tt) vals
 
   -- the local array at b, lent under the name γ; and what `move_all`'s triple binds outside, where it is lent for the lifetime ν
@@ -194,14 +194,14 @@ module _ {M : Type 1} {𝓤 : Ura M} (𝓛 : Logic 𝓤) (at_mem : Memory → SP
 
   -- what `move_all` says, at its last lists
   abbrev Moved : Ends → Type 0
-  Moved zs = MovesAll x₁.now n (down_now x₃.now) (entry_at x₂.now) i.0 ps zs.0 (last zs)
+  Moved zs = MovesAll x₁.now n (down_now x₃.now) (entry_at x₂.now) i.0 ps zs.0 x₄.now (last zs)
 
   -- what `move_all` asks, and what is there once it is done
   abbrev Asked : ℕ → ℕ → GName → List (Item 𝓤)
   Asked ν b γ = (‵ (flft (ν ∷ []) full_share) ⊛ Tokens) ∷ ‵ (fsep (Lent ν b γ) Rest) ∷ []
 
   abbrev Done : Ends → List (Item 𝓤)
-  Done zs = ‵ (R.own_val zs.0 (mach zs.0 ∷ [])) ∷ Tokens ∷ ‵ (finally u8 x₄.name (last zs)) ∷ ‵ ftrue ∷ []
+  Done zs = ‵ (R.own_val zs.0 (mach zs.0 ∷ [])) ∷ Tokens ∷ ‵ (finally u16 x₄.name (last zs)) ∷ ‵ ftrue ∷ []
 
   goes : (ν b : ℕ) (γ : GName) → MayMoveAll x₁.now ps n i.0 x₄.now → ent 𝓤 (⋆ 𝓛 (Asked ν b γ)) (Callee.pre (to ν b γ))
   goes ν b γ may = qed 𝓛 (Asked ν b γ) ∵ says ! may $ frame ! $ done !
@@ -215,7 +215,7 @@ module _ {M : Type 1} {𝓤 : Ura M} (𝓛 : Logic 𝓤) (at_mem : Memory → SP
 
   module _ (C : Calls 𝓤 H) (Λ : Loops 𝓤 H) (fm : FmC 𝓤 H 𝓛.laws C) (known : Triple 𝓤 (C #step·move-all) (Callee)) where
     walk : Is R ps (mach ps ∷ []) → n < 2 ^ 64 → Room u16 (length x₁.now) → Room u8 (length x₂.now) → Room u8 (length x₃.now) →
-        Is S.the_row i (S'.lowered i ∷ []) → Room u8 (length x₄.now) → MayMoveAll x₁.now ps n i.0 x₄.now →
+        Is S.the_row i (S'.lowered i ∷ []) → Room u16 (length x₄.now) → MayMoveAll x₁.now ps n i.0 x₄.now →
         ent 𝓤 (on_entry 𝓛 lend.signature (κ₁ & κ₂ & κ₃ & κ₄ & tt) (q₁ & q₂ & q₃ & q₄ & tt) a (mach ps ∷ [], vals))
         (WpFn 𝓤 H C Λ code.function
         (mach ps ∷ vint w64 n ∷ slice_val x₁ ∷ slice_val x₂ ∷ slice_val x₃ ∷ S'.lowered i ∷ slice_val x₄ ∷ []) Post)
@@ -258,7 +258,7 @@ module _ {M : Type 1} {𝓤 : Ura M} (𝓛 : Logic 𝓤) (at_mem : Memory → SP
         split ! $ move ! (1 ∷ []) $ heard ! (Moved zs) (λ e. fsplit ! $ fsplit ! $ move ! (1 ∷ []) $ feq_l ! (λ long₀. move ! (1 ∷ []) $
         fdrop ! $ fdrop ! $ fdrop ! $ fdrop ! $ fdrop ! $
         fsplit ! $ fsplit ! $ move ! (1 ∷ []) $ feq_l ! (λ long₄.
-        -- [the marks' last list; true; the records' last list; the tokens and the result; the lender's part; _13; …]
+        -- [tried's last list; true; the records' last list; the tokens and the result; the lender's part; _13; …]
         move ! (3 ∷ []) $ split ! $ move ! (1 ∷ []) $ feq_l ! (λ is-u. land ! (from ! (stop !))
         (init ! 13 refl (subst (λ (v : Val). Holds (has_ty ty_unit v) × WT v) (sym (ap only is-u)) (tt, tt))) $
         -- the lifetime is ended, and the array comes back at the records' last list
@@ -267,7 +267,7 @@ module _ {M : Type 1} {𝓤 : Ura M} (𝓛 : Logic 𝓤) (at_mem : Memory → SP
         use1 𝓛 (‵ (fat full_share ty_r l₈ 0 (mach zs.0)) ⊛ ‵ (R.own_val zs.0 (mach zs.0 ∷ [])))
         (together 𝓛 l₈ (length ps) zs.0 (long₀ ∙ long)) $ split ! $
         move ! (1 ∷ []) $ peeks ! R (Is R) (shows 𝓛 R) zs.0 (mach zs.0 ∷ []) (λ is-zs.
-        -- [what the array owns; _8; the tokens; the marks' last list; true; _13; …; _9; …; what frees _8; _7; …; _0; …]
+        -- [what the array owns; _8; the tokens; tried's last list; true; _13; …; _9; …; what frees _8; _7; …; _0; …]
         sets ! (of_opd ! (local ! 1 refl)) 30 refl (typed zs.0 is-zs) $ returns ! (look ! 30 refl) $
         forget ! 1 refl $ forget ! 5 refl $ forget ! 7 refl $ forget ! 9 refl $ forget ! 11 refl $ forget ! 13 refl $ forget ! 16 refl $
         forget ! 18 refl $ forget ! 20 refl $ forget ! 22 refl $ forget ! 24 refl $ forget ! 26 refl $ forget ! 28 refl $ forget ! 30 refl $
@@ -291,7 +291,7 @@ module _ {M : Type 1} {𝓤 : Ura M} (𝓛 : Logic 𝓤) (mem : Memory → SProp
       & uint_vals w64 & shr_slice_vals & shr_slice_vals & shr_slice_vals & LL.vals S.the_type S'.the_laws & shr_slice_vals & tt)
       (λ κs. Array-Tells P.the_row (LL.vals P.the_type P'.the_laws) (LL.tells P.the_type P'.the_laws) 32
       & uint_Tells w64 & shr_slice_Tells (named 0) κs.0 u16 & shr_slice_Tells (named 1) κs.1.0 u8
-      & shr_slice_Tells (named 2) κs.1.1.0 u8 & LL.tells S.the_type S'.the_laws & mut_slice_Tells (named 3) κs.1.1.1.0 u8 & tt)
+      & shr_slice_Tells (named 2) κs.1.1.0 u8 & LL.tells S.the_type S'.the_laws & mut_slice_Tells (named 3) κs.1.1.1.0 u16 & tt)
       (λ κs qs bounds a g are.
       let b = a.1.1 in
       let c = b.1.1 in
@@ -309,7 +309,7 @@ module _ {M : Type 1} {𝓤 : Ura M} (𝓛 : Logic 𝓤) (mem : Memory → SProp
       (Goes-dropped 𝓛 4 ArrayP yes (λ κs x f. refl) & Goes-dropped 𝓛 4 (plain (λ _. usize)) yes (λ κs x f. refl)
       & Goes-dropped 𝓛 4 (Shr 0 tt u16) yes (λ κs x f. refl) & Goes-dropped 𝓛 4 (Shr 1 tt u8) yes (λ κs x f. refl)
       & Goes-dropped 𝓛 4 (Shr 2 tt u8) yes (λ κs x f. refl) & Goes-dropped 𝓛 4 (plain (λ _. S.the_row)) yes (λ κs x f. refl)
-      & Goes-gave_slice 𝓛 4 3 tt (plain (λ _. u8)) & tt)
+      & Goes-gave_slice 𝓛 4 3 tt (plain (λ _. u16)) & tt)
       (lend.clauses 𝓛 mem run) (WpFn 𝓤 H 𝓣.C 𝓣.Λ code.function) (WpFn-mono 𝓤 H 𝓛.laws 𝓣 code.function)
       (lend_walks 𝓣.C 𝓣.Λ (fm_of 𝓤 H 𝓛.laws 𝓣) known)
 

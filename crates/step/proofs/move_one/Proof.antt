@@ -1,86 +1,76 @@
--- `step::move_one` meets its contract: one law of proofs/Acting for each way. Assumes nothing.
-use mathlib.Core.Path.{refl}
+-- `step::move_one` meets its contract: what `act_one` does, and of it the next position. Assumes nothing.
+use mathlib.Core.Path.{◌≡◌, refl, sym, ◌∙◌, ap}
+use mathlib.Core.Logic.{⊎_elim}
 use native.Mathlib.Omega.{arith}
-use borrow.Author.Tests.{not-true, not-false}
+use borrow.Author.Tests.{eqb-true, eqb-false, not-true, not-false}
 use borrow.Author.Rules.{rules}
-use Rattle.cuts.specs.Down.{is_down}
 use Rattle.table.specs.Table.{entry_at}
-use Rattle.step.proofs.Acting.{moves-past, moves_waits, moves-none, turned-fits, turned-leads, turned-may, turned-moves}
+use Rattle.step.proofs.Acting.{home-does, home_tried, waits_acts, acts-first, acts-cut, acts-tries, moves_by}
 use Rattle.step.proofs.move_one.Statement.{statement}
 use Rattle.step.proofs.move_one.Tie as tie
 
+returns : tie.Need-returns
+returns c =
+    let a = c.before.before.before.before.before.before.args in
+    let q = a.p in
+    let h : q.left ≡ 0 = eqb-true _ _ (sym c.before.is_home.ensures ∙ c.if1.true) in
+    let e = home-does _ _ a.slot.0 a.tried.now a.m a.row.now q.turned q.at q.left h in
+    record {
+      next = record { is = ap (λ x. x.next) e; within = omega arith };
+      noted = home_tried _ (entry_at a.table.now a.slot.0) a.slot.0 a.tried.now a.m a.row.now q.turned q.at
+          q.left h;
+    }
+
 returns-2 : tie.Need-returns-2
 returns-2 c =
-    let s = c.before.before.before.before.before.before.before.before.before.before.before.before.before.before in
-    let a = s.args in
-    let n = c.before.before.before.before.before.before.before.number in
-    let d = c.before.before.before.before.before.before.is_down in
-    moves-past a.row.now (is_down a.down.now) a.p s.requires.left c.before.before.before.before.before.before.before.before.before.if1.false _ n.ensures.is _ d.ensures
-    (entry_at a.table.now a.slot.0) a.slot.0 a.m a.marks.now (not-true _ c.before.before.before.before.before.if2.true) _ c.before.before.before.place-slot.ensures.is c.before.if3.true _
-    c.past-place.ensures
+    let a = c.before.before.before.before.before.before.before.before.args in
+    let h : a.p.left ≡ 0 → ⊥ = eqb-false _ _ (sym c.before.before.before.is_home.ensures ∙ c.before.before.if1.false) in
+    moves_by (waits_acts _ (entry_at a.table.now a.slot.0) a.slot.0 a.tried.now a.m a.row.now a.p _ (omega (arith, h))
+    (sym c.before.waits.ensures ∙ c.if2.true) refl)
+
+meets-requires : tie.Need-meets-requires
+meets-requires c κs =
+    let s = c.before.before.before.before.before.before.before.before in
+    let h : s.args.p.left ≡ 0 → ⊥ = eqb-false _ _ (sym c.before.before.before.is_home.ensures ∙ c.before.before.if1.false) in
+    (omega (arith, h), s.requires.fit)
+
+cast-acts : tie.Need-overflow-cast-acts
+cast-acts c = omega (arith, c.before.before.before.before.first-trier.ensures.1, c.before.before.before.before.before.before.before.before.before.before.before.before.before.before.before.before.before.before.before.before.before.requires.noting.low)
+
+cast-acts-2 : tie.Need-overflow-cast-acts-2
+cast-acts-2 c = omega (arith, c.before.before.before.before.before.before.before.before.before.before.before.before.before.before.before.before.before.before.before.before.before.requires.noting.low)
+
+acts-requires : tie.Need-acts-requires
+acts-requires c κs =
+    let g = c.before.before.before.before.before.before.before.before.before.before.before.before.meets.ensures in
+    (g.left, omega (arith, g.turned.within, c.before.before.before.before.before.before.before.before.before.before.before.before.before.before.before.before.before.before.before.before.before.requires.fit), g.link)
 
 returns-3 : tie.Need-returns-3
 returns-3 c =
-    let s = c.before.before.before.before.before.before.before.before.before.before.before.before.before in
-    let a = s.args in
-    let n = c.before.before.before.before.before.before.number in
-    let d = c.before.before.before.before.before.is_down in
-    moves_waits a.row.now (is_down a.down.now) a.p s.requires.left c.before.before.before.before.before.before.before.before.if1.false _ n.ensures.is _ d.ensures
-    (entry_at a.table.now a.slot.0) a.slot.0 a.m a.marks.now (not-true _ c.before.before.before.before.if2.true) _ c.before.before.place-slot.ensures.is c.if3.false
+    let d = c.before in
+    let f = d.before.before.before.before.before in
+    let b = f.before.before.before.before in
+    let t = b.before.before.before.before in
+    let g = t.meets.ensures in
+    let a = t.before.before.before.before.before.before.before.before.before.args in
+    moves_by (acts-tries _ _ a.slot.0 a.tried.now a.m a.row.now a.p _ g _ _ _ _ b.before.before.if3.true
+    (not-true _ b.if4.true)
+    f.before.before.entry.ensures f.first-trier.ensures.0 d.before.before.before.note.ensures (d.acts.ensures _ g.cut))
 
 returns-4 : tie.Need-returns-4
 returns-4 c =
-    let s = c.before.before.before.before.before.before.before.before.before.before.before.before.before in
-    let a = s.args in
-    let n = c.before.before.before.before.before.before.number in
-    let d = c.before.before.before.before.before.is_down in
-    moves-none a.row.now (is_down a.down.now) a.p s.requires.left c.before.before.before.before.before.before.before.before.if1.false _ n.ensures.is _ d.ensures
-    (entry_at a.table.now a.slot.0) a.slot.0 a.m a.marks.now (not-false _ c.before.before.before.before.if2.false) _ c.before.before.place_at.ensures c.if4.true
-
-cast-t19 : tie.Need-overflow-cast-t19
-cast-t19 c =
-    let s = c.before.before.before.before.before.before.before.before.before.before.before.before.before.before in
-    let a = s.args in
-    let n = c.before.before.before.before.before.before.before.number in
-    let d = c.before.before.before.before.before.before.is_down in
-    let w = turned-fits a.row.now (is_down a.down.now) a.p s.requires.left c.before.before.before.before.before.before.before.before.before.if1.false _ n.ensures.is _ d.ensures
-    (not-false _ c.before.before.before.before.before.if2.false) _ c.before.before.before.place_at.ensures c.before.if4.false in
-    omega (arith, w, s.requires.may.fit)
-
-cast-t20 : tie.Need-overflow-cast-t20
-cast-t20 c =
-    let s = c.before.before.before.before.before.before.before.before.before.before.before.before.before.before.before in
-    let a = s.args in
-    let n = c.before.before.before.before.before.before.before.before.number in
-    let d = c.before.before.before.before.before.before.before.is_down in
-    let w = turned-fits a.row.now (is_down a.down.now) a.p s.requires.left c.before.before.before.before.before.before.before.before.before.before.if1.false _ n.ensures.is _ d.ensures
-    (not-false _ c.before.before.before.before.before.before.if2.false) _ c.before.before.before.before.place_at.ensures c.before.before.if4.false in
-    omega (arith, w, s.requires.may.fit)
-
-move-second-requires-2 : tie.Need-move-second-requires-2
-move-second-requires-2 c κs =
-    let s = c.before.before.before.before.before.before.before.before.before.before.before.before.before.before.before.before in
-    let a = s.args in
-    let n = c.before.before.before.before.before.before.before.before.before.number in
-    let d = c.before.before.before.before.before.before.before.before.is_down in
-    let l = turned-leads a.row.now (is_down a.down.now) a.p s.requires.left c.before.before.before.before.before.before.before.before.before.before.before.if1.false _ n.ensures.is _ d.ensures
-    (not-false _ c.before.before.before.before.before.before.before.if2.false) _ c.before.before.before.before.before.place_at.ensures c.before.before.before.if4.false in
-    (refl, turned-may a.row.now (is_down a.down.now) a.p _ a.m a.slot.0 a.marks.now l (omega (arith, c.before.before.before.if4.false)) s.requires)
-
-returns-5 : tie.Need-returns-5
-returns-5 c =
-    let s = c.before.before.before.before.before.before.before.before.before.before.before.before.before.before.before.before.before.before.before in
-    let a = s.args in
-    let n = c.before.before.before.before.before.before.before.before.before.before.before.before.number in
-    let d = c.before.before.before.before.before.before.before.before.before.before.before.is_down in
-    let l = turned-leads a.row.now (is_down a.down.now) a.p s.requires.left c.before.before.before.before.before.before.before.before.before.before.before.before.before.before.if1.false _ n.ensures.is _ d.ensures
-    (not-false _ c.before.before.before.before.before.before.before.before.before.before.if2.false) _ c.before.before.before.before.before.before.before.before.place_at.ensures c.before.before.before.before.before.before.if4.false in
-    turned-moves a.row.now (is_down a.down.now) (entry_at a.table.now a.slot.0) a.slot.0 a.p _ a.m a.marks.now _ _ l refl
-    c.before.before.move-second2.ensures
+    let d = c.before in
+    let t = d.before.before.before in
+    let g = t.meets.ensures in
+    let a = t.before.before.before.before.before.before.before.before.before.args in
+    let e = entry_at a.table.now a.slot.0 in
+    let does = d.acts2.ensures _ g.cut in
+    moves_by (⊎_elim (λ w. acts-cut _ e a.slot.0 a.tried.now a.m a.row.now a.p _ g _ _ _ _ (not-false _ w.2.left) does)
+    (λ w. acts-first _ e a.slot.0 a.tried.now a.m a.row.now a.p _ g _ _ _ _ w.left does) d.before.if3.branch)
 
 pub move-one-spec : {M : Type 1} → statement M
 move-one-spec =
     tie.close
-    (tie.spec (λ c κs. search rules) (λ c. search rules) (λ c. search rules) (λ c. search rules) (λ c κs. search rules) (λ c κs. search rules)
-    (λ c. search rules) (λ c κs. search rules) (λ c κs. search rules) returns-2 returns-3 (λ c. search rules) (λ c κs. search rules) returns-4
-    cast-t19 cast-t20 move-second-requires-2 (λ c. search rules) returns-5)
+    (tie.spec (λ c κs. search rules) returns (λ c κs. search rules) returns-2 meets-requires (λ c. search rules) (λ c κs. search rules)
+    (λ c κs. search rules) (λ c κs. search rules) cast-acts cast-acts-2 acts-requires (λ c. search rules) returns-3 (λ c. search rules)
+    (λ c. search rules) (λ c κs. search rules) returns-4)

@@ -1,7 +1,7 @@
 -- `strips::strip_all` meets its contract: the messages below message m are done. Assumes nothing.
 use Prim.Native.Nat.{◌-◌}
 use borrow.Author.Rules.{rules}
-use Rattle.strips.proofs.Strips.{StrippingAll, stripping_all_none, near, may-strip, may_pass, stripping_all_more, stripping_all_done}
+use Rattle.strips.proofs.Strips.{StrippingAll, stripping_all_none, near, may-strip, may-pass, stripping_all_more, stripping_all_done}
 use Rattle.strips.proofs.strip_all.Statement.{statement}
 use Rattle.strips.proofs.strip_all.Tie as tie
 
@@ -34,7 +34,7 @@ pass-requires c κs =
       s.requires.counted.bytes.long,
       (may-strip _ _ s.requires.good s.requires.counted.bytes _ l.before.before.messages.ensures.is _ _ _ _ _
           l.loop.invariant c.before.before.before.before.before.before.before.before.before.loop-test.true).message,
-      may_pass _ _ s.requires.good s.requires.counted.bytes _ l.before.before.messages.ensures.is _ _ _ _ _ l.loop.invariant
+      may-pass _ _ s.requires.good s.requires.counted.bytes _ l.before.before.messages.ensures.is _ _ _ _ _ l.loop.invariant
           c.before.before.before.before.before.before.before.before.before.loop-test.true,
     )
 

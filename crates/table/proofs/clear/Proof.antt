@@ -22,7 +22,7 @@ loop-again : tie.Need-loop-preserved invariant-loop decreases-loop
 loop-again c = let l = c.before.loop in (simp length-set (omega arith), law.zeros-next l.table l.k (omega arith) l.invariant.1)
 
 returns : tie.Need-returns invariant-loop decreases-loop
-returns c = let l = c.before.loop in law.zeros_done l.table l.k l.invariant.0 c.loop-test.false l.invariant.1
+returns c = let l = c.before.loop in law.zeros-done l.table l.k l.invariant.0 c.loop-test.false l.invariant.1
 
 pub clear_spec : {M : Type 1} → statement M
 clear_spec =

@@ -5,7 +5,7 @@ use borrow.Author.Rules.{rules}
 use native.Mathlib.Omega.{arith}
 use lib.ListN.{length, drop}
 use Rattle.text.specs.Reading.{stands}
-use Rattle.text.proofs.Word.{stands-first, stands-not, stands-next, stands_done}
+use Rattle.text.proofs.Word.{stands-first, stands-not, stands-next, stands-done}
 use Rattle.text.proofs.stands.Statement.{statement}
 use Rattle.text.proofs.stands.Tie as tie
 
@@ -36,7 +36,7 @@ loop-again c = (
 )
 
 returns-2 : tie.Need-returns-2 invariant-loop decreases-loop
-returns-2 c = sym (stands_done _ _ _ _ c.loop-test.false) ∙ c.before.loop.invariant.1
+returns-2 c = sym (stands-done _ _ _ _ c.loop-test.false) ∙ c.before.loop.invariant.1
 
 pub stands-spec : {M : Type 1} → statement M
 stands-spec =

@@ -4,8 +4,8 @@ use borrow.Author.Rules.{rules}
 use native.Mathlib.Omega.{arith}
 use lib.ListN.{length, drop}
 use Rattle.scope.specs.Lines.{spaced}
-use Rattle.text.proofs.Laid.{Left, left-first, left_is, left-told, left-more, left_done, left-same}
-use Rattle.verdict_lines.proofs.Marks.{spaced-more, spaced_done}
+use Rattle.text.proofs.Laid.{Left, left-first, left_is, left-told, left-more, left-done, left-same}
+use Rattle.verdict_lines.proofs.Marks.{spaced-more, spaced-done}
 use Rattle.verdict_lines.proofs.spaced.Statement.{statement}
 use Rattle.verdict_lines.proofs.spaced.Tie as tie
 
@@ -45,7 +45,7 @@ same_length : tie.Need-same-length invariant-loop decreases-loop
 same_length c = left-same c.before.loop.invariant.1
 
 returns : tie.Need-returns invariant-loop decreases-loop
-returns c = left_done (left_is (spaced_done _ _ c.loop-test.false) c.before.loop.invariant.1)
+returns c = left-done (left_is (spaced-done _ _ c.loop-test.false) c.before.loop.invariant.1)
 
 pub spaced-spec : {M : Type 1} → statement M
 spaced-spec =

@@ -2,7 +2,7 @@
 use Prim.Native.Nat.{◌≤◌, ◌-◌}
 use borrow.Author.Rules.{rules}
 use native.Mathlib.Omega.{arith}
-use Rattle.text.proofs.Laid.{Left, left-first, left_is, left-told, left-more, left_done, left-same}
+use Rattle.text.proofs.Laid.{Left, left-first, left_is, left-told, left-more, left-done, left-same}
 use Rattle.verdict_text.specs.Layout.{lines_of}
 use Rattle.verdict_text.proofs.Verdicts.{lines_first, lines_more, lines_done, part-told, part-puts}
 use Rattle.verdict_text.proofs.lines.Statement.{statement}
@@ -48,7 +48,7 @@ same_length : tie.Need-same-length invariant-loop decreases-loop
 same_length c = left-same c.before.loop.invariant.1
 
 returns : tie.Need-returns invariant-loop decreases-loop
-returns c = left_done (left_is (lines_done _ _ _ _ c.loop-test.false) c.before.loop.invariant.1)
+returns c = left-done (left_is (lines_done _ _ _ _ c.loop-test.false) c.before.loop.invariant.1)
 
 pub lines-spec : {M : Type 1} → statement M
 lines-spec =

@@ -6,7 +6,7 @@ use lib.ListN.{drop}
 use Rattle.scope.specs.Plan.{plan_of, path_of}
 use Rattle.scope.specs.Lines.{message_slacks}
 use Rattle.rows.proofs.Walked.{walked}
-use Rattle.text.proofs.Laid.{Left, left-first, left_is, left-told, left-more, left_done, left-same}
+use Rattle.text.proofs.Laid.{Left, left-first, left_is, left-told, left-more, left-done, left-same}
 use Rattle.verdict_text.proofs.Slacks.{places_more, places_done, counted, counted-all}
 use Rattle.verdict_text.proofs.message_slacks.Statement.{statement}
 use Rattle.verdict_text.proofs.message_slacks.Tie as tie
@@ -49,7 +49,7 @@ same_length c = left-same c.before.loop.invariant.1
 returns : tie.Need-returns invariant-loop decreases-loop
 returns c =
     let s = c.before.before.before.before.before.before in
-    left_done (left_is (places_done _ _ _ (counted-all _ _ _ _ _ s.requires.1 c.before.before.before.message-index.ensures.is
+    left-done (left_is (places_done _ _ _ (counted-all _ _ _ _ _ s.requires.1 c.before.before.before.message-index.ensures.is
     c.before.before.place-count.ensures.is c.loop-test.false)) c.before.loop.invariant.1)
 
 pub message-slacks-spec : {M : Type 1} → statement M

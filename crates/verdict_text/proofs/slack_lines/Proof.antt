@@ -5,8 +5,8 @@ use native.Mathlib.Omega.{arith}
 use lib.ListN.{drop}
 use Rattle.scope.specs.Plan.{plan_of}
 use Rattle.scope.specs.Lines.{slack_lines}
-use Rattle.text.proofs.Laid.{Left, left-first, left_is, left-told, left-more, left_done, left-same}
-use Rattle.verdict_text.proofs.Slacks.{messages-more, messages_done, below, below_all}
+use Rattle.text.proofs.Laid.{Left, left-first, left_is, left-told, left-more, left-done, left-same}
+use Rattle.verdict_text.proofs.Slacks.{messages-more, messages-done, below, below_all}
 use Rattle.verdict_text.proofs.Room.{slacks_told}
 use Rattle.verdict_text.proofs.slack_lines.Statement.{statement}
 use Rattle.verdict_text.proofs.slack_lines.Tie as tie
@@ -44,7 +44,7 @@ same_length : tie.Need-same-length invariant-loop decreases-loop
 same_length c = left-same c.before.loop.invariant.1
 
 returns : tie.Need-returns invariant-loop decreases-loop
-returns c = left_done (left_is (messages_done _ _ (below_all _ _ _ c.before.before.messages.ensures.is c.loop-test.false))
+returns c = left-done (left_is (messages-done _ _ (below_all _ _ _ c.before.before.messages.ensures.is c.loop-test.false))
     c.before.loop.invariant.1)
 
 pub slack-lines-spec : {M : Type 1} → statement M

@@ -1,7 +1,7 @@
 -- `whole_verdict::text` meets its contract: what came prints what the whole file prints.
 use borrow.Author.Rules.{rules}
 use Rattle.program_io.proofs.Fits.{came-whole}
-use Rattle.verdict_text.proofs.Theorems.{any-text, program_prints}
+use Rattle.verdict_text.proofs.Theorems.{any_text, program_prints}
 use Rattle.whole_verdict.proofs.text.Statement.{statement}
 use Rattle.whole_verdict.proofs.text.Tie as tie
 
@@ -12,7 +12,7 @@ returns : tie.Need-returns
 returns c =
     let start = c.before.before.before.before.before.before.before.before in
     let s = start in
-    λ file f. program_prints _ _ (any-text _ s.requires.0) s.args.plan.now file _ _ s.args.p _ s.requires.2 s.requires.3
+    λ file f. program_prints _ _ (any_text _ s.requires.0) s.args.plan.now file _ _ s.args.p _ s.requires.2 s.requires.3
     c.before.before.whole-text.ensures f
 
 pub text-spec : {M : Type 1} → statement M
