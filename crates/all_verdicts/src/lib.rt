@@ -2,6 +2,9 @@
 // `all_answers` takes anything and asks nothing; `answers_good` takes a row that is known to be good. The first failing list for l is that for
 // every lower l down to one more than its arrivals, so there is one search for each distinct list. It leans on `plan` for refusals 1 to
 // 10, on `search` for the search and on `verdicts` for what that is lent.
+
+#![tactic(auto)]
+
 ghost use Rattle.std.specs.Prelude.{◌+◌, ◌*◌, ◌≤◌, ◌<◌, ◌≡◌, ◌++◌, ◌∷◌, length, drop};
 ghost use Rattle.scope.specs.Limits.{most_messages};
 ghost use Rattle.scope.specs.Plan.{plan_of};

@@ -3,6 +3,9 @@
 // figures for 0 to K) and `bench inferK N` (at most K cuts that explain the capture on standard input, a byte a number); a space stands before
 // N and L. It prints a checksum of the answers, of the row and of the numbers that the last one wrote, which the C program beside it
 // (bench/bench.c) prints too.
+
+#![tactic(auto)]
+
 ghost use Rattle.std.specs.Prelude.{◌≤◌, ◌<◌, length};
 ghost use Rattle.scope.specs.Limits.{longest_row};
 

@@ -1,6 +1,9 @@
 // A field of up to 16 bits at any bit of a slice of bytes, most significant bit first: read as a number, and written. Each takes the
 // three bytes that such a field can touch as one number, so the work does not grow with the width; and the byte at an index, for all who
 // read bytes. It leans on scope's `Bits`.
+
+#![tactic(auto)]
+
 ghost use Rattle.std.specs.Prelude.{◌≡◌, ◌+◌, ◌%◌, ◌^◌, ◌≤◌, ◌<◌, set};
 ghost use Rattle.std.proofs.lemmas.List.Edits.{sets};
 ghost use Rattle.scope.specs.Bits.{bits, bits_of};

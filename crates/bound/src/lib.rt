@@ -1,6 +1,9 @@
 // How many messages, and which, a pair of a cut list can harm, as tables that a search is lent: what it touches and strips (`losses`), the
 // most from a slot on, and sets of messages. A search needs no more of this than specs/Bounds says, so that a sharper bound can take its
 // place. It leans on the table of `table`, on `sets` for sets of messages and on the theorems of `losses`.
+
+#![tactic(auto)]
+
 ghost use Rattle.std.specs.Prelude.{◌≡◌, ◌+◌, ◌-◌, min, ◌≤◌, ◌<◌, length, ltb};
 ghost use Rattle.scope.specs.Limits.{most_slots, most_links, most_messages, seconds_size, plane_size, weights_size, tops_size, front_size, fronts_size};
 ghost use Rattle.sets.specs.Sums.{one_if};

@@ -2,6 +2,9 @@
 // for where the ends of a link stand.
 //
 // A byte for each two ends holds the lowest link that has them, plus one; so the link that goes back is one read.
+
+#![tactic(auto)]
+
 ghost use Rattle.std.specs.Prelude.{◌≡◌, ltb};
 ghost use Rattle.scope.specs.Plan.{plan_of};
 ghost use Rattle.rows.specs.Lies.{PlanLies};

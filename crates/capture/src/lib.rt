@@ -1,6 +1,9 @@
 // What is kept of a capture, whatever its length: how many triples it has, its last one, the first bad one, and for each slot and message
 // which link was crossed. A capture is taken triple by triple, from numbers (`keep`) or as its lines are read (`add`, `unfinished`), and
 // nothing of it is looked at twice. Nothing here knows a replay. It leans on specs/ of `scope` (Capture) and on the total reads of `rows`.
+
+#![tactic(auto)]
+
 ghost use Rattle.std.specs.Prelude.{◌<◌, ◌≡◌, length, replicate};
 ghost use Rattle.scope.specs.Limits.{most_slots, most_links, most_messages, crossed_size};
 ghost use Rattle.scope.specs.Plan.{plan_of};

@@ -3,6 +3,9 @@
 // being read: `begin`, then `feed` for each piece, then `finish`. A line out of form is a bad triple, and nothing behind a bad triple matters.
 // That this is what specs/Lines of `scope` makes of the whole text is in proofs/; that printed lines are read back, and that accepted ones were
 // printed so, in specs/Round. It leans on `text` for a digit that goes on with a number and on `capture`.
+
+#![tactic(auto)]
+
 ghost use Rattle.std.specs.Prelude.{◌<◌, ◌≤◌, ◌≡◌, [], ◌∷◌};
 ghost use Rattle.scope.specs.Plan.{plan_of};
 ghost use Rattle.capture_lines.specs.Rest.{fresh, with_digit, with_number, is_fresh, step_of, SmallLine};

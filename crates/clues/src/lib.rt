@@ -3,6 +3,9 @@
 // cables of what is named, slot by slot, and says that no list with at most so many pairs more has the crossings of the table, or how many
 // links such a list cuts at least, and which where it cuts no more. That a link is named at all is `Named` of `laws`; it leans on `cables`
 // for the other way of a link, on `step` for a slot, on `picks` for the pairs picked and on `order` for lists with one pair more.
+
+#![tactic(auto)]
+
 ghost use Rattle.std.specs.Prelude.{◌+◌, ◌*◌, ◌<◌, ◌≡◌, true};
 ghost use Rattle.step.specs.Events.{an_event};
 ghost use Rattle.clues.specs.Clues.{clue_of, MayLook, Looked, MaySuspect, Suspected};

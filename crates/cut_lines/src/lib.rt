@@ -2,6 +2,9 @@
 // text of any bytes is taken; `cuts` reads as many lines as the lent buffer has room for pairs, and a line of another form ends
 // the list with a lone number, which is the bad pair of refusal 12. That 65 lines are as many as can matter, and 650 bytes as many
 // as they can have, is in proofs/Enough. It leans on specs/Lines of `scope` and on `text`, which reads bytes, words and numbers.
+
+#![tactic(auto)]
+
 ghost use Rattle.std.specs.Prelude.{◌+◌, ◌<◌, ◌^◌, ◌≡◌, true};
 ghost use Rattle.cut_lines.specs.Reads.{Found, Size, End, Cuts};
 ghost use Rattle.scope.specs.Lines.{is_cut_line, is_digit, link_index, number_at, number_size};

@@ -1,6 +1,9 @@
 // The replay of one cycle under a cut list: document 01's refusals 1 to 10, 14 to 19, 12 and 13, or the number of arrivals with the row of
 // events. It takes anything and asks nothing. It leans on `plan` for the refusals of a row, on `cables` for the other way of each link, on
 // `cuts` for 12, on `table` for who holds a link, and on `cycle`, which plays.
+
+#![tactic(auto)]
+
 ghost use Rattle.std.specs.Prelude.{◌*◌, ◌≡◌};
 ghost use Rattle.scope.specs.Plan.{message_count, timeout_of, plan_of};
 ghost use Rattle.cables.specs.Others.{OtherWays};

@@ -1,6 +1,9 @@
 // Cut lists: refusal 12, and what is down in a slot, so that "is this link down" is one read.
 // It leans on specs/ of `scope` (Cuts, Outcome), on the total read of `rows` and on `cables` for the other way of a link. No function but
 // `bad_pair` and its parts asks anything of the list, and no list is passed over further than its first bad pair.
+
+#![tactic(auto)]
+
 ghost use Rattle.std.specs.Prelude.{◌+◌, ◌*◌, ◌<◌, ◌^◌, ◌≡◌};
 ghost use Rattle.scope.specs.Lowest.{lowest};
 ghost use Rattle.scope.specs.Outcome.{outcome_of};

@@ -3,6 +3,9 @@
 // other ways that are lent, whatever they are: proofs/Agree has when they are the plan's and the list's. All that `play` asks is that
 // there are at most 32 messages, that they end below index 65536 of the row, and that there is room for the events. It leans on `step`
 // for one slot and on `cuts` for what is down in it.
+
+#![tactic(auto)]
+
 ghost use Rattle.std.specs.Prelude.{ℕ, ◌≤◌, ◌≡◌, cond, List, map, length, eqb};
 ghost use Rattle.scope.specs.Limits.{most_messages};
 ghost use Rattle.scope.specs.Plan.{messages_at, first_message};

@@ -1,5 +1,8 @@
 // The deep program: reads `plan.bin` and prints what the verdict program does, for k up to 3 whatever the size of the plan.
 // `whole_verdict` composes the text.
+
+#![tactic(auto)]
+
 ghost use Rattle.std.specs.Prelude.{◌≡◌, ℕ, List, length};
 ghost use Rattle.scope.specs.Limits.{plan_room};
 ghost use Rattle.verdict_text.specs.Layout.{verdict_room};

@@ -1,6 +1,9 @@
 // The program `explain`: reads `plan.bin` and a capture from standard input, and prints which cuts explain it: the first list of at most two
 // pairs on one line, then the listing of its replay, or `unexplained`, or a refusal. The capture is read piece by piece to its end, however
 // long it is, and of it are kept what `capture_lines` keeps, and the table of its crossings.
+
+#![tactic(auto)]
+
 ghost use Rattle.std.specs.Prelude.{ℕ, ◌≡◌, List, length};
 ghost use Rattle.scope.specs.Limits.{plan_room};
 ghost use Rattle.scope.specs.Plan.{plan_of};

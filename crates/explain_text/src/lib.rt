@@ -3,6 +3,9 @@
 // hands what `capture_lines` has kept of it to `say`. It leans on `plan` (the row of a file), `capture_lines` (the capture of an input),
 // `explanations` (the answer) and `replay_text` (the listing). That a plan file and an input have one text, that its first bytes decide a
 // plan file, and that every text has room in `ROOM` bytes, is in proofs/Theorems.
+
+#![tactic(auto)]
+
 ghost use Rattle.std.specs.Prelude.{ℕ, ◌-◌, ◌≤◌, ◌≡◌, List, length};
 ghost use Rattle.scope.specs.Plan.{plan_of};
 ghost use Rattle.scope.specs.Questions.{may_explain};

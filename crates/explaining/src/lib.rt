@@ -5,6 +5,9 @@
 // has its cable crossed, since that is whole there; and where the slot before the next pair differs from the table, no later pair mends it.
 // It leans on `cables` for the other way of a link, on `picks` for the pairs picked, on `clues` for what a slot says, on `order` for the
 // steps from pair to pair and on `laws` for who crosses a link.
+
+#![tactic(auto)]
+
 ghost use Rattle.std.specs.Prelude.{◌-◌, ◌≤◌, ◌≡◌, length};
 ghost use Rattle.scope.specs.Limits.{most_links, most_slots, crossed_size};
 ghost use Rattle.scope.specs.Lowest.{seek};

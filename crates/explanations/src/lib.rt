@@ -2,6 +2,9 @@
 // none. `explain` takes anything and asks nothing; `explain_good` takes a row that is known to be good, and what was kept of a capture. It
 // leans on `plan` for a row's refusals, on `capture` for 23 and for the table of crossings, and on `explaining` for the walk over cut lists;
 // that a list matches the table exactly if it explains the capture is proved here.
+
+#![tactic(auto)]
+
 ghost use Rattle.plan.specs.Answers.{GoodRow};
 ghost use Rattle.explaining.specs.Walk.{Hunts};
 ghost use Rattle.explanations.specs.Explained.{Answered, AnsweredFor, MayExplain, MayDecide};

@@ -1,6 +1,9 @@
 // Whether one link or one message breaks a rule: the tests of refusals 5, 8 and 9, of refusal 6 the lowest link at once, and of the rules of
 // paths the earliest one that the first path, or a second path, of a message breaks, with the place and the step. Each is its namesake in
 // specs/ of `scope` (Good, PathRules) on the plan of a row; a message is told by its index. It leans on `rows`, `paths` and `table`.
+
+#![tactic(auto)]
+
 ghost use Rattle.std.specs.Prelude.{◌≡◌, ◌+◌, ◌<◌, ◌≤◌, ◌^◌, length};
 ghost use Rattle.scope.specs.Limits.{most_places};
 ghost use Rattle.scope.specs.Lowest.{lowest};

@@ -2,6 +2,9 @@
 // `figures` take anything and ask nothing; `figures_good` takes a row that is known to be good. Each game begins with the figure for one
 // pair less, which is the least that is known then. They lean on `plan` for refusals 1 to 10, on `verdicts` for what a game is lent and on
 // `game` for the least.
+
+#![tactic(auto)]
+
 ghost use Rattle.std.specs.Prelude.{◌≡◌, length};
 ghost use Rattle.scope.specs.Outcome.{outcome_of};
 ghost use Rattle.scope.specs.Plan.{plan_of};

@@ -1,6 +1,9 @@
 // Files of a plan: the fields of one walked into its row, with refusals 1, 2 and 4, and a row written as its file, each by one loop that
 // asks `grammar` for the next field. `row_walk` judges a row's form. proofs/Theorems.antt says what follows: files and rows give each
 // other, and how long they can be. It leans on scope's `Row` and `File`.
+
+#![tactic(auto)]
+
 ghost use Rattle.std.specs.Prelude.{◌≡◌, ◌*◌, ◌^◌, ◌≤◌, ◌<◌, length};
 ghost use Rattle.scope.specs.Outcome.{outcome_of};
 ghost use Rattle.scope.specs.Bits.{bits};

@@ -3,6 +3,9 @@
 // the slots left, then the links unchosen, fall. A turn is told the least number that is known, and passes over what the bounds of `risks`
 // show to leave no fewer. It leans on `picks` for the pairs picked and a slot played under them, and on `order` for the lists that go on from
 // there.
+
+#![tactic(auto)]
+
 ghost use Rattle.std.specs.Prelude.{◌+◌, ◌-◌, ◌≤◌, ◌≡◌};
 ghost use Rattle.scope.specs.Limits.{most_links, most_messages};
 ghost use Rattle.scope.specs.Plan.{plan_of};

@@ -1,5 +1,8 @@
 // The fields of a plan in their order: how wide the next one is, and what comes after it. A reader or writer that asks only this
 // knows nothing else of the order. proofs/Most.antt has the most that can follow a field. It leans on scope's `Fields`.
+
+#![tactic(auto)]
+
 ghost use Rattle.std.specs.Prelude.{◌≡◌};
 ghost use Rattle.scope.specs.Fields as fields;
 

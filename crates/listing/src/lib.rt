@@ -1,6 +1,9 @@
 // The lines that the programs print, laid into lent bytes: document 01, "Programs". `listing` is the whole text of a replay, `refusal_text`
 // that of a refusal; they ask nothing of what they print, and refuse with 13 where the buffer is too short. It leans on specs/Lines of
 // `scope`, on `rows::number` (the total read of a row) and on `text` (a byte, a word, a number, a refusal).
+
+#![tactic(auto)]
+
 ghost use Rattle.std.specs.Prelude.{◌*◌, ◌<◌, ◌^◌};
 ghost use Rattle.listing.specs.Prints.{Prints};
 ghost use Rattle.text.specs.Text.{Puts, Told};

@@ -2,6 +2,9 @@
 // many names it has, or refuses the first that is too long, empty or one too many; `name_end` is where the name ends that begins at an index.
 // How the names of a text follow one another, and that its first `limits::NAMES_ROOM` bytes decide, is in proofs/Names and proofs/Front. It
 // leans on specs/Shelf of `scope`.
+
+#![tactic(auto)]
+
 ghost use Rattle.std.specs.Prelude.{◌≡◌};
 ghost use Rattle.names.specs.Names.{name_end, bad_size};
 ghost use Rattle.scope.specs.Outcome.{outcome_of};

@@ -2,6 +2,9 @@
 // only. Each function takes anything and asks nothing, returns the number of the refusal, 0 where there is none, and writes its place,
 // the place and the step on a path, and the result, zero where documents 01 and 02 say zero. It leans on the crate that answers the
 // question, and adds only how it is said.
+
+#![tactic(auto)]
+
 ghost use Rattle.std.specs.Prelude.{◌+◌, ◌≤◌, ◌≡◌};
 ghost use Rattle.scope.specs.Limits.{longest_row, most_cuts};
 ghost use Rattle.scope.specs.Lines.{replay_text, refused_line};

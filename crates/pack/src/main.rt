@@ -1,5 +1,8 @@
 // A row of decimals on standard input, written as the plan file `plan.bin`, or its refusal on standard output. A file that is there already is
 // left as it is: a line on standard error says so.
+
+#![tactic(auto)]
+
 ghost use Rattle.std.specs.Prelude.{◌≡◌, length};
 ghost use Rattle.scope.specs.Limits.{longest_file};
 ghost use Rattle.row_text.specs.Rows.{pack_room, Packs};

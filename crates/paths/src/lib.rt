@@ -1,6 +1,9 @@
 // Paths as lists of links: the earliest rule that a path breaks, at its first step, and where the path ends, as specs/ of `scope`
 // (PathRules, Good) says of the plan of a row; it leans on `rows` and `sets`. A path is a slice of links, so that the second paths, which
 // are parts of the row, and the first paths, which are copied out of it, go by the same rule.
+
+#![tactic(auto)]
+
 ghost use Rattle.std.specs.Prelude.{◌≡◌, cond, not, ◌<◌, ◌≤◌, ◌^◌, length, ltb, eqb};
 ghost use Rattle.scope.specs.Limits.{most_vertices};
 ghost use Rattle.scope.specs.Plan.{plan_of, link_of, link_count, place_count};

@@ -1,6 +1,9 @@
 // The pairs that a search has picked so far: none, one more, and where the messages stand one slot on under them. What is asked of the
 // lists that go on from here is not known here: the search for the verdict and the one for a capture lean on it alike. It leans on `cables`
 // for the names of cables, on `cuts` for what is down, on `step` for a slot and on `order` for what makes pairs a cut list.
+
+#![tactic(auto)]
+
 ghost use Rattle.std.specs.Prelude.{◌+◌, ◌<◌, ◌≡◌};
 ghost use Rattle.scope.specs.Limits.{most_cuts, most_slots, most_links};
 ghost use Rattle.cables.specs.Others.{AreLinks};

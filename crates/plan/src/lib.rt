@@ -1,6 +1,9 @@
 // A plan as a file and as a row: judged, read, written, and one second path of it shown. Every function takes anything, refuses
 // what is bad by document 01's numbers, and then leaves what it was lent as it was. It leans on `row_walk` and `forms` for the
 // form of rows and files and on `rules` for the rules of a good plan.
+
+#![tactic(auto)]
+
 ghost use Rattle.std.specs.Prelude.{◌≡◌, length};
 ghost use Rattle.scope.specs.Outcome.{outcome_of};
 ghost use Rattle.scope.specs.Questions.{judge, second_path};

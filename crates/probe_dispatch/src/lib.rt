@@ -1,6 +1,9 @@
 // A line of the probe and its answer: which question the line is, by its leading word, the numbers that stand behind the word, and the
 // question's answer, laid into lent bytes from an index on. What a line asks and what is said to it is in specs/Line. It leans on
 // `probe_words` for what is read and on `probe_questions` for what is answered.
+
+#![tactic(auto)]
+
 ghost use Rattle.std.specs.Prelude.{◌≤◌, ◌^◌, ◌≡◌, length};
 ghost use Rattle.text.specs.Text.{Puts};
 ghost use Rattle.probe_questions.specs.Asked.{Lays};

@@ -1,6 +1,9 @@
 // The lines that the probe answers with, laid into lent bytes from an index on: an answer with the numbers or bytes that it wrote and whether
 // the lent buffer is as it should be, a slack, a list or that there is none, and a part of a row. The texts are in specs/Answers. Each function gives the
 // index after its line, and asks that it begins in the lower half of what can be told. It leans on `text`, `verdict_lines` and `probe_words`.
+
+#![tactic(auto)]
+
 ghost use Rattle.std.specs.Prelude.{◌≤◌, ◌^◌, ◌≡◌};
 ghost use Rattle.scope.specs.Lines.{refused_line};
 ghost use Rattle.scope.specs.Outcome.{outcome_of};

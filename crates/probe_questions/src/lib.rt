@@ -1,6 +1,9 @@
 // The questions of the probe, each of the numbers that stand in its line: the answer is laid into lent bytes from an index on. Every buffer
 // that is lent for an answer is filled before the call, and what is lent has exactly the room that the question names; behind it lies a
 // margin, filled too, that no call may reach. The lines are in specs/Asked; how each is written is `probe_lines`'.
+
+#![tactic(auto)]
+
 ghost use Rattle.std.specs.Prelude.{◌+◌, ◌≤◌, ◌<◌, ◌*◌, ◌^◌, ◌≡◌, length, set, replicate};
 ghost use Rattle.scope.specs.Outcome.{outcome_of, result};
 ghost use Rattle.scope.specs.Plan.{timeout_of, message_count};

@@ -1,6 +1,9 @@
 // Words of a line, for the probe: numbers and bytes read from a line, numbers and bytes written into a buffer, and buffers filled and
 // compared with their filling. What each gives is in specs/Words. It leans on `text` for what is read and written, and on `verdict_lines`
 // for numbers behind spaces.
+
+#![tactic(auto)]
+
 ghost use Rattle.std.specs.Prelude.{◌≡◌, ◌+◌, ◌<◌, ◌/◌, ◌%◌, [], ◌∷◌, length, take, drop, replicate};
 ghost use Rattle.scope.specs.Lines.{decimal};
 ghost use Rattle.scope.specs.Lines.{spaced as Lines·spaced};

@@ -2,6 +2,9 @@
 // error. No contract can say which bytes were read or written; that each count lies within its buffer and came from a read that did not
 // fail is proved. It leans on `io`, `os` and `libc`, whose calls of C are assumed. Nothing else here writes, and only `print` writes
 // standard output.
+
+#![tactic(auto)]
+
 ghost use Rattle.std.specs.Prelude.{◌≤◌, ◌<◌, ◌≡◌, length};
 ghost use Rattle.io.specs.Counts.{IsPrefixLen};
 ghost use Rattle.program_io.specs.Came.{Came, named, plan_file, Reads, Prints};

@@ -1,4 +1,7 @@
 // The replay program: reads `plan.bin` and cuts from standard input, and prints document 01's listing, or a refusal.
+
+#![tactic(auto)]
+
 ghost use Rattle.std.specs.Prelude.{◌≡◌, ℕ, List, length};
 ghost use Rattle.scope.specs.Limits.{plan_room, cuts_room};
 ghost use Rattle.scope.specs.Lines.{replay_text};

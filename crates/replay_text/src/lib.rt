@@ -2,6 +2,9 @@
 // whole text into a lent buffer, and refuses a bad plan, bad cuts and a buffer that is too short. It leans on `plan` (the row of a file),
 // `cut_lines` (the cuts of an input), `cut_replay` (the replay) and `listing` (the text). That the first bytes of a long file and a long
 // input print what the whole prints is in proofs/Theorems.
+
+#![tactic(auto)]
+
 ghost use Rattle.listing.specs.Prints.{Says};
 ghost use Rattle.scope.specs.Questions.{replay};
 ghost use Rattle.scope.specs.Limits.{longest_events};

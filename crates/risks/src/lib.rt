@@ -1,6 +1,9 @@
 // What the pairs picked and those to come can lose: whom a list touches and strips, how many of these are away, and which links are worth a
 // cut, as far as lists that leave too few arrivals are sought. Two walks over cut lists lean on it: the search for a failing list and the
 // game for the least arrivals. It leans on `bound` for the weights and on `sets` for sets of messages.
+
+#![tactic(auto)]
+
 ghost use Rattle.std.specs.Prelude.{◌+◌, ◌-◌, ◌*◌, ◌<◌, ◌≤◌, ◌≡◌, length, get_or, ltb};
 ghost use Rattle.scope.specs.Limits.{most_cuts, most_slots, most_links, most_messages, plane_size};
 ghost use Rattle.scope.specs.Lowest.{seek};

@@ -1,4 +1,7 @@
 // The row of the plan file `plan.bin`, as a line of decimals, or its refusal.
+
+#![tactic(auto)]
+
 ghost use Rattle.std.specs.Prelude.{◌≡◌, ℕ, List, length};
 ghost use Rattle.scope.specs.Limits.{plan_room};
 ghost use Rattle.listing.specs.Prints.{Front, Printed};

@@ -1,5 +1,8 @@
 // A plan's row as text: a plan file as a line of decimals, and such a text as a plan file. Each function takes anything and refuses by
 // document 01's numbers. It leans on `plan` for both forms of a plan, and on `text` and `listing` for what is printed.
+
+#![tactic(auto)]
+
 ghost use Rattle.std.specs.Prelude.{◌≡◌, ◌+◌, ◌<◌, ◌^◌, length, drop, true, [], ◌∷◌};
 ghost use Rattle.text.specs.Text.{Puts};
 ghost use Rattle.scope.specs.Limits.{longest_row};

@@ -1,5 +1,8 @@
 // A row's form: its fields held to their widths part by part, fields of one width at once, with refusals 1 to 4. `forms` walks files. It
 // leans on scope's `Row`.
+
+#![tactic(auto)]
+
 ghost use Rattle.std.specs.Prelude.{◌≡◌, ◌≤◌, length, drop};
 ghost use Rattle.scope.specs.Outcome.{outcome_of};
 ghost use Rattle.scope.specs.Row.{walk_row};

@@ -4,6 +4,9 @@
 //
 // A place takes at most 65540 numbers, and there are at most 65536 places and messages, whatever the row: so every index stays far
 // below the largest `usize`, and each contract says how far.
+
+#![tactic(auto)]
+
 ghost use Rattle.std.specs.Prelude.{◌≡◌, ◌++◌, ◌+◌, ◌-◌, ◌*◌, ◌<◌, ◌≤◌, ◌^◌, length, take, drop};
 ghost use Rattle.scope.specs.Outcome.{gives};
 ghost use Rattle.scope.specs.Row.{walk_row};

@@ -3,6 +3,9 @@
 // looks for the lowest link or message that breaks it; in round 7 all first paths are walked, in round 10 all second paths, and of what breaks
 // a rule the earliest rule is kept, with its lowest message, place and step. It leans on `faults` for one link or message, and on `rows`,
 // `paths` and `table`.
+
+#![tactic(auto)]
+
 ghost use Rattle.std.specs.Prelude.{◌≡◌, true, ◌||◌, ◌-◌, ◌<◌, ◌≤◌, ◌^◌, length, eqb};
 ghost use Rattle.scope.specs.Limits.{most_messages};
 ghost use Rattle.scope.specs.Lowest.{lowest};

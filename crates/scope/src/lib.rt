@@ -1,6 +1,9 @@
 // The words of document 01 that code and definitions share: what the next field of a plan is, and what an answer can be, with the
 // one place that makes a refusal. The rules themselves are in specs/, one file for each section of the document; docs/TRACE.md leads
 // from each sentence to its name.
+
+#![tactic(auto)]
+
 ghost use Rattle.std.specs.Prelude.{◌≡◌};
 ghost use Rattle.scope.specs.Outcome.{outcome_of, refusal_at, refusal_on, refuse};
 

@@ -3,6 +3,9 @@
 // no list from here can answer. Of the bound it knows only specs/Bounds of `bound`. It leans on `picks` for the pairs picked and a slot
 // played under them, on `order` for the steps from pair to pair and the first list, on `sets` for sets of messages, on `cycle` for the
 // arrivals and on the theorems of `laws`. What `picks` and `order` say serves two questions: this one, and which list explains a capture.
+
+#![tactic(auto)]
+
 ghost use Rattle.std.specs.Prelude.{◌+◌, ◌-◌, ◌<◌, ◌≡◌, ltb};
 ghost use Rattle.picks.specs.Picks.{with_pair};
 ghost use Rattle.search.specs.Hunt.{no_found, no_hunted};

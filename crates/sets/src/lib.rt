@@ -1,5 +1,8 @@
 // Sets of messages, and of vertices (specs/Sets), each held in one number, and how many messages are in one: a sum (specs/Sums). Whoever
 // uses them knows only who is in a set.
+
+#![tactic(auto)]
+
 ghost use Rattle.std.specs.Prelude.{◌≤◌, ◌<◌, ◌≡◌};
 ghost use Rattle.scope.specs.Limits.{most_messages, most_vertices};
 ghost use Rattle.sets.specs.Sets.{has, size, IsOneIf, IsNamed, IsEither, IsBoth, IsWith};

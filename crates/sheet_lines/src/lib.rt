@@ -3,6 +3,9 @@
 // Each function that lays a text gives the index after it, and asks that this index can be told. How many bytes the lines and the sheet can
 // have is in proofs/Room, and that the order of plans changes no sum in proofs/Order. It leans on specs/Shelf of `scope`, on `text` and on
 // `verdict_lines`.
+
+#![tactic(auto)]
+
 ghost use Rattle.std.specs.Prelude.{◌≡◌, [], cond, ◌-◌, ◌≤◌, eqb};
 ghost use Rattle.scope.specs.Lines.{parted};
 ghost use Rattle.text.specs.Text.{Puts, Told};

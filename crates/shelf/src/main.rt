@@ -1,6 +1,9 @@
 // The program `shelf`: reads the names of plan files from standard input, one a line, and prints the sheet: for each plan its figures, or its
 // refusal, and its name; then for each k how many plans lose nothing, and the sum of losses. The first bad line is refused alone, and no plan
 // is read then. `whole_shelf` composes the text.
+
+#![tactic(auto)]
+
 use program_io::Read;
 use scope::limits;
 

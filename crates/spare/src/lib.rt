@@ -1,6 +1,9 @@
 // Spare slots of a second path: a(e), b(m, e), D and the slack, of `scope`'s Spare. `slack` takes anything, and refuses what is bad by
 // document 01's numbers; proofs/ has that the slack lies between -1,535 and 63, and what 0 or more means for the replay. It leans on
 // `rows` for where things stand, on `plan` for what a good row is, and on `laws` for the replay. Counting is by total reads of the row.
+
+#![tactic(auto)]
+
 ghost use Rattle.std.specs.Prelude.{◌≡◌, ◌+◌, ◌*◌, ◌<◌, ◌≤◌, ◌^◌, cond, eqb};
 ghost use Rattle.std.proofs.Math.IntN.{sub_ℕ};
 ghost use Rattle.scope.specs.Plan.{numbers_at, places_at, message_at, message_count, plan_of};

@@ -1,5 +1,8 @@
 // The slacks that document 01 gives for plans A and B, a place of each refusal 11, and rows that are bad. It prints one line for each
 // question; `stdout` has the answers, written from document 01 by hand.
+
+#![tactic(auto)]
+
 use libc::STDOUT_FILENO;
 use spare::Spare;
 

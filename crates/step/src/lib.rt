@@ -5,6 +5,9 @@
 // A slot is one pass over the messages, in their order: `after` moves them, in records that are lent; `told` moves them and tells what
 // they do; `watched` is that pass too, held against what was seen, and ends at the first message that does something else. `move_all` and
 // `lend` alone hold a slice of records, and their proofs are walks by hand.
+
+#![tactic(auto)]
+
 ghost use Rattle.std.specs.Prelude.{◌+◌, ◌<◌, ◌≤◌, ◌≡◌, true, false, not, length, set, eqb};
 ghost use Rattle.scope.specs.Plan.{at};
 ghost use Rattle.scope.specs.Slot.{on_first};

@@ -3,6 +3,9 @@
 // `table` for tables, on `plan` for what a good row is, and on `spare`'s proofs for counts.
 //
 // D of each second path is a sum over its links: a(e) is counted once, b(m, e) goes up from message to message.
+
+#![tactic(auto)]
+
 ghost use Rattle.std.specs.Prelude.{◌≡◌, ◌*◌, ◌<◌, ◌≤◌, ◌^◌, [], ◌∷◌, length, eqb};
 ghost use Rattle.scope.specs.Limits.{most_messages, seconds_size};
 ghost use Rattle.scope.specs.Plan.{plan_of, numbers_at, place_at, message_at, timeout_of};

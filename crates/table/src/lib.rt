@@ -1,5 +1,8 @@
 // The table of a plan, a byte for each slot and link: which message holds a link in a slot. `fill_table` makes the whole of it, as `table_of` of
 // document 01 says; `enter` puts one message. It leans on `rows` and on specs/ of `scope` (Plan, Good, Cycle).
+
+#![tactic(auto)]
+
 ghost use Rattle.std.specs.Prelude.{◌≡◌, ◌<◌, ◌≤◌, ◌^◌, length};
 ghost use Rattle.scope.specs.Limits.{most_slots, most_links, most_messages, table_size};
 ghost use Rattle.scope.specs.Plan.{plan_of, message_count};

@@ -3,6 +3,9 @@
 // is no room for it; each asks that this index can be told in 64 bits (`Told`). What reads finds a word and a number in decimal at an index.
 // That a number printed is read back, and that what is read was printed so, is in proofs/Read. It leans on specs/Lines of `scope`, and on
 // `bits` for the byte at an index.
+
+#![tactic(auto)]
+
 ghost use Rattle.std.specs.Prelude.{◌≡◌, ◌+◌, ◌≤◌, ◌<◌, ◌^◌, length, [], ◌∷◌, ◌++◌};
 ghost use Rattle.text.specs.Text.{Puts, Told};
 ghost use Rattle.text.specs.Reading.{goes_on, Reads};

@@ -1,5 +1,8 @@
 // The verdict program: reads `plan.bin` and prints for k rising and under each k for l from 0 to M, `k l resistant` or `k l` and the
 // first failing list; then the slack of each second path; or a refusal alone. `whole_verdict` composes the text.
+
+#![tactic(auto)]
+
 ghost use Rattle.std.specs.Prelude.{◌≡◌, ℕ, List, length};
 ghost use Rattle.scope.specs.Lines.{VerdictText};
 ghost use Rattle.scope.specs.Limits.{plan_room};

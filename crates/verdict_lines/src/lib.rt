@@ -1,6 +1,9 @@
 // The lines of the verdict program, laid into lent bytes from an index on: document 01, "one line `k l resistant`, or `k l` and the
 // pairs' numbers", and "`slack`, message, place and slack". Each function gives the index after its line, and asks that this index
 // can be told. It leans on specs/Lines of `scope` and on `text`.
+
+#![tactic(auto)]
+
 ghost use Rattle.std.specs.Prelude.{◌≡◌, nat_abs};
 ghost use Rattle.text.specs.Text.{Puts, Told};
 ghost use Rattle.scope.specs.Lines.{resistant_line, failing_line, slack_line, signed};

@@ -2,6 +2,9 @@
 // under one k and `slack_lines` those of the spare slots; each gives the index after them. They lean on `all_verdicts` and `spare` for what the
 // lines say, and on `verdict_lines` for one line. That the lines under every k and then the slack lines are the whole text, that every text has
 // room in `ROOM` bytes, and that a file has one text, is in proofs/. `whole_verdict` composes them, and tells between two k how far it is.
+
+#![tactic(auto)]
+
 ghost use Rattle.std.specs.Prelude.{◌+◌, ◌*◌, ◌≤◌, ◌<◌, ◌^◌, ◌≡◌, length, get_or};
 ghost use Rattle.scope.specs.Plan.{plan_of, path_of, message_count};
 ghost use Rattle.scope.specs.Lines.{message_slacks, slack_lines};

@@ -1,6 +1,9 @@
 // The verdict: whether every cut list of at most k pairs leaves at least l arrivals, and if not, the first list that does not.
 // `verdict` takes anything and asks nothing; `verdict_good` takes a row that is known to be good. It leans on `plan` for refusals 1 to
 // 10, on `search` for the search, and on `table`, `strips`, `bound` and `cycle` for what the search is lent.
+
+#![tactic(auto)]
+
 ghost use Rattle.search.specs.Hunt.{Hunts};
 ghost use Rattle.plan.specs.Answers.{GoodRow};
 ghost use Rattle.verdicts.specs.Lent.{MayLend, Lent, MayAskOn};

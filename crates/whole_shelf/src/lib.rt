@@ -2,6 +2,9 @@
 // first bad line alone, and then no plan is read. Between two plans, which it reads one after another by their names, it says on standard
 // error how far it is. It leans on `names` for the lines, on `shelf_text` for a plan's line, on `sheet_lines` for the sums, and on
 // `program_io`, which reads.
+
+#![tactic(auto)]
+
 ghost use Rattle.std.specs.Prelude.{◌≡◌, ℕ, List, length};
 ghost use Rattle.scope.specs.Limits.{names_room};
 ghost use Rattle.listing.specs.Prints.{Front};

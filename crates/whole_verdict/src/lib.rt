@@ -1,6 +1,9 @@
 // The whole text of the programs `verdict` and `deep`, into a lent buffer: for k rising the lines under each k, then the slack lines; or a
 // refusal alone. The two differ in how high k goes where E × t is above 64, which is `large`. Between two k it says on standard error, under
 // the program's name, how far it is. That a file has one such text is in proofs/Theorems of `verdict_text`.
+
+#![tactic(auto)]
+
 ghost use Rattle.std.specs.Prelude.{◌≡◌, ℕ, ◌+◌, ◌≤◌, List, length};
 ghost use Rattle.scope.specs.Plan.{plan_of};
 ghost use Rattle.scope.specs.Lines.{VerdictLines};
