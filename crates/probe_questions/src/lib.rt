@@ -225,7 +225,7 @@ fn slack_row(row: &[u16], m: usize, p: usize, out: &mut [u8], at: usize) -> usiz
 }
 
 // What is asked of a message's place.
-#[derive(Drop)]
+#[derive(Clone, Copy)]
 pub enum OfPlace {
     Slack,
     Second,
