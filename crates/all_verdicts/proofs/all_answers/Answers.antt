@@ -5,10 +5,10 @@ use borrow.Author.Rules.{rules}
 use Rattle.all_verdicts.proofs.all_answers.Goals as goal
 
 pub answers_good-requires : goal.answers_good-requires
-answers_good-requires c = good-row _ _ (gave _ c.enum_told-1.given.1 c.judge-judged.ensures)
+answers_good-requires c = good-row _ _ (gave _ c.in-Gives.is c.judge-judged.ensures)
 
 pub returns-in-Refused : goal.returns-in-Refused
 returns-in-Refused c =
     bad-row c.args.row.now c.args.k
     c.args.out.now _
-    (refused_as _ c.judged-1.given.1 c.judge-judged.ensures)
+    (refused_as _ c.in-Refused.is c.judge-judged.ensures)

@@ -13,16 +13,16 @@ pub returns-in-On : goal.returns-in-On
 returns-in-On c =
     let may = c.requires.0 in
     feeds_on _ _ c.args.reading may.size may.fits may.line c.args.b c.if-kept.false _
-    (sym c.after_byte-step.ensures ∙ c.step-1.given.1)
+    (sym c.after_byte-step.ensures ∙ c.in-On.is)
 
 pub returns-in-End : goal.returns-in-End
 returns-in-End c =
     let may = c.requires.0 in
     feeds_end _ _ c.args.reading may.size may.fits may.line c.args.b c.if-kept.false _ _ _
-    (sym c.after_byte-step.ensures ∙ c.enum_told-1.given.1) c.add.ensures c.no_line.ensures
+    (sym c.after_byte-step.ensures ∙ c.in-End.is) c.add.ensures c.no_line.ensures
 
 pub returns-in-Out : goal.returns-in-Out
 returns-in-Out c =
     let may = c.requires.0 in
     feeds_out _ _ c.args.reading may.size may.fits may.line c.args.b c.if-kept.false _ _
-    (sym c.after_byte-step.ensures ∙ c.enum_told-in-Out-1.given.1) c.unfinished.ensures c.no_line-in-Out.ensures
+    (sym c.after_byte-step.ensures ∙ c.in-Out.is) c.unfinished.ensures c.no_line-in-Out.ensures

@@ -40,7 +40,7 @@ loop-i-preserved-in-Nothing c =
     record {
       of = λ p m d s.
           suspects_on _ _ _ _ _ p m _ _ _ _ (inv.of p m d s) c.loop-i-test.true _
-          c.look-seen.ensures c.enum_told-1.given.1;
+          c.look-seen.ensures c.in-Nothing.is;
       few = inv.few;
     }
 
@@ -51,7 +51,7 @@ returns-then-named-n c =
     suspects_given_up _ _ _ _ _ c.given_up.ensures
     (λ j few.
     suspects_none _ _ _ _ _ _ may _ _ _ _ inv c.loop-i-test.true _
-    c.look-seen.ensures _ c.clue-1.given.1 j
+    c.look-seen.ensures _ c.in-Link.is j
     (omega (arith, c.if-named-n.true)))
 
 pub slice_bounds-other-end : goal.slice_bounds-other-end
@@ -65,7 +65,7 @@ bounds-down-x c =
     c.requires in
     let inv = c.loop-i.invariant.of _ may refl refl in
     link-small _ _ _ _ _ _ may _ _ _ _ inv c.loop-i-test.true _
-    c.look-seen.ensures _ c.clue-1.given.1
+    c.look-seen.ensures _ c.in-Link.is
 
 pub bounds-down-other : goal.bounds-down-other
 bounds-down-other c =
@@ -81,7 +81,7 @@ loop-i-preserved c =
       of = λ p m d s.
           suspects_more _ _ _ _ _ p m _ _ _ _ (inv.of p m d s)
           c.loop-i-test.true _
-          c.look-seen.ensures _ c.clue-1.given.1 _
+          c.look-seen.ensures _ c.in-Link.is _
           c.other-other.ensures;
       few = omega (arith, inv.few, c.if-named-n.false);
     }
@@ -93,7 +93,7 @@ returns-in-Dead c =
     suspects_given_up _ _ _ _ _ c.given_up-in-Dead.ensures
     (λ j few.
     suspects_dead _ _ _ _ _ _ may _ _ _ _ inv c.loop-i-test.true _
-    c.look-seen.ensures c.enum_told-in-Dead-1.given.1 j)
+    c.look-seen.ensures c.in-Dead.is j)
 
 pub returns : goal.returns
 returns c =

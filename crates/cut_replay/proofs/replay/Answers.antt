@@ -5,10 +5,10 @@ use borrow.Author.Rules.{rules}
 use Rattle.cut_replay.proofs.replay.Goals as goal
 
 pub replay_good-requires : goal.replay_good-requires
-replay_good-requires c = good-row _ _ (gave _ c.enum_told-1.given.1 c.judge-judged.ensures)
+replay_good-requires c = good-row _ _ (gave _ c.in-Gives.is c.judge-judged.ensures)
 
 pub returns-in-Refused : goal.returns-in-Refused
 returns-in-Refused c =
     let a = c.args in
     replay-bad a.row.now a.cuts.now a.events.now _
-    (refused_as _ c.judged-1.given.1 c.judge-judged.ensures)
+    (refused_as _ c.in-Refused.is c.judge-judged.ensures)

@@ -9,10 +9,10 @@ other_ways-others-requires c = good-lies c.args.row.now c.requires
 
 pub replay_cut-requires : goal.replay_cut-requires
 replay_cut-requires c =
-    let good = gave _ c.enum_told-1.given.1 c.check-checked.ensures in
+    let good = gave _ c.in-Gives.is c.check-checked.ensures in
     (record { judged = c.requires; count = _; good = good }, c.other_ways-others.ensures)
 
 pub returns-in-Refused : goal.returns-in-Refused
 returns-in-Refused c =
     let a = c.args in
-    replay-cuts a.row.now a.cuts.now a.events.now _ c.requires (refused_as _ c.checked-1.given.1 c.check-checked.ensures)
+    replay-cuts a.row.now a.cuts.now a.events.now _ c.requires (refused_as _ c.in-Refused.is c.check-checked.ensures)

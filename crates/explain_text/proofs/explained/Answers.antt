@@ -9,7 +9,7 @@ overflow_add-result c =
     omega (
       arith,
       given_short c.args.row.now c.args.list.now c.requires _ _ _ _ _ _ c.list_line-n.ensures
-          c.least-from.ensures c.played-listed.ensures _ c.listed-1.given.1,
+          c.least-from.ensures c.played-listed.ensures _ c.in-Gives.is,
     )
 
 pub overflow_add-n : goal.overflow_add-n
@@ -17,15 +17,15 @@ overflow_add-n c =
     omega (
       arith,
       refused-short c.args.row.now c.args.list.now c.requires _ _ _ _ _ _ c.list_line-n.ensures
-          c.least-from.ensures c.played-listed.ensures _ c.listed-in-Refused-1.given.1,
+          c.least-from.ensures c.played-listed.ensures _ c.in-Refused.is,
     )
 
 pub returns-in-Gives : goal.returns-in-Gives
 returns-in-Gives c =
     lines_given c.args.row.now c.args.list.now c.requires _ _ _ _ _ _ c.list_line-n.ensures
-    c.least-from.ensures c.played-listed.ensures _ _ _ c.listed-1.given.1 c.list_line.ensures
+    c.least-from.ensures c.played-listed.ensures _ _ _ c.in-Gives.is c.list_line.ensures
 
 pub returns-in-Refused : goal.returns-in-Refused
 returns-in-Refused c =
     lines_refused c.args.row.now c.args.list.now c.requires _ _ _ _ _ _ c.list_line-n.ensures
-    c.least-from.ensures c.played-listed.ensures _ _ c.listed-in-Refused-1.given.1 c.refuse.ensures
+    c.least-from.ensures c.played-listed.ensures _ _ c.in-Refused.is c.refuse.ensures

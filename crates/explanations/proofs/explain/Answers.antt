@@ -6,7 +6,7 @@ use Rattle.explanations.proofs.explain.Goals as goal
 
 pub explain_row-requires : goal.explain_row-requires
 explain_row-requires c =
-    good-row _ _ (gave _ c.enum_told-1.given.1 c.judge-judged.ensures)
+    good-row _ _ (gave _ c.in-Gives.is c.judge-judged.ensures)
 
 pub returns-in-Refused : goal.returns-in-Refused
 returns-in-Refused c =
@@ -14,4 +14,4 @@ returns-in-Refused c =
     c.args.k
     c.args.capture.now
     c.args.list.now _
-    (refused_as _ c.judged-1.given.1 c.judge-judged.ensures)
+    (refused_as _ c.in-Refused.is c.judge-judged.ensures)

@@ -13,7 +13,7 @@ overflow_mul-file c =
     let row = c.args.row.now in
     let fits = c.requires in
     let most = row_bits_most row (row_walks row (length row) fits.complete) in
-    let size : length c.pack_fields-end.new.1.0 ≡ whole_bytes
+    let size : length c.pack_fields-end.new.file.0 ≡ whole_bytes
     (length (row_bits row)) = c.pack_fields-end.auto.1.0 ∙ fits.room ∙ length-file row in
     omega (arith, most, size)
 
@@ -23,7 +23,7 @@ overflow_sub-file c =
     let fits = c.requires in
     let most = row_bits_most row (row_walks row (length row) fits.complete) in
     let end = c.pack_fields-end.ensures.end in
-    let size : length c.pack_fields-end.new.1.0 ≡ whole_bytes
+    let size : length c.pack_fields-end.new.file.0 ≡ whole_bytes
     (length (row_bits row)) = c.pack_fields-end.auto.1.0 ∙ fits.room ∙ length-file row in
     omega (arith, most, end, size)
 
@@ -33,7 +33,7 @@ put-requires c =
     let fits = c.requires in
     let most = row_bits_most row (row_walks row (length row) fits.complete) in
     let end = c.pack_fields-end.ensures.end in
-    let size : length c.pack_fields-end.new.1.0 ≡ whole_bytes
+    let size : length c.pack_fields-end.new.file.0 ≡ whole_bytes
     (length (row_bits row)) = c.pack_fields-end.auto.1.0 ∙ fits.room ∙ length-file row in (
       record {
         narrow = omega (arith, end, size);
@@ -46,7 +46,7 @@ put-requires c =
 pub returns : goal.returns
 returns c =
     let row = c.args.row.now in
-    packs_whole row c.pack_fields-end.new.1.0 _ _
+    packs_whole row c.pack_fields-end.new.file.0 _ _
     c.pack_fields-end.ensures
     (c.pack_fields-end.auto.1.0 ∙
     c.requires.room) c.put.auto.0

@@ -27,7 +27,7 @@ ends-requires c =
     let file = c.args.file.now in
     let some = c.if-file-eq0.false in
     let filled = c.fill-filled.ensures in
-    let inside = end-inside file some _ (sym filled.answer ∙ ap outcome_of c.answer-1.given.1) in
+    let inside = end-inside file some _ (sym filled.answer ∙ ap outcome_of c.in-Gives.is) in
     (inside.0, omega (arith, inside.1))
 
 pub returns-in-Gives : goal.returns-in-Gives
@@ -35,7 +35,7 @@ returns-in-Gives c =
     let file = c.args.file.now in
     let some = c.if-file-eq0.false in
     let filled = c.fill-filled.ensures in
-    let walked = sym filled.answer ∙ ap outcome_of c.answer-1.given.1 in
+    let walked = sym filled.answer ∙ ap outcome_of c.in-Gives.is in
     let opens = file_opens file some
     (sym c.field.ensures.is ∙ c.if-field-ne1.false) in
     with_answer file _ _ _ _ _ _ filled (opens ∙ ap (λ (o : Outcome). and_then o (ends_at (bits file))) walked) c.ends.ensures refl
@@ -45,6 +45,6 @@ returns-in-Refused c =
     let file = c.args.file.now in
     let some = c.if-file-eq0.false in
     let filled = c.fill-filled.ensures in
-    let walked = sym filled.answer ∙ ap outcome_of c.answer-in-Refused-1.given.1 in
+    let walked = sym filled.answer ∙ ap outcome_of c.in-Refused.is in
     let opens = file_opens file some (sym c.field.ensures.is ∙ c.if-field-ne1.false) in
     with_answer file _ _ _ _ _ _ filled (opens ∙ ap (λ (o : Outcome). and_then o (ends_at (bits file))) walked) refl refl

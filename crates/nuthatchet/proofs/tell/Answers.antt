@@ -6,8 +6,8 @@ use Rattle.nuthatchet.proofs.tell.Goals as goal
 
 pub returns-in-Gives : goal.returns-in-Gives
 returns-in-Gives c =
-    rw c.answer-1.given.1 (record { refusal = allows _ c.allow.ensures; result = refl })
+    rw c.in-Gives.is (record { refusal = allows _ c.allow.ensures; result = refl })
 
 pub returns-in-Refused : goal.returns-in-Refused
 returns-in-Refused c =
-    rw c.answer-in-Refused-1.given.1 (record { refusal = c.refuse.ensures; result = refl })
+    rw c.in-Refused.is (record { refusal = c.refuse.ensures; result = refl })

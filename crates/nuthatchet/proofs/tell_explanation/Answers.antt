@@ -5,16 +5,16 @@ use Rattle.nuthatchet.proofs.Ways.{allows}
 use Rattle.nuthatchet.proofs.tell_explanation.Goals as goal
 
 pub one_more-requires : goal.one_more-requires
-one_more-requires c = c.requires _ c.explanation-1.given.1
+one_more-requires c = c.requires _ c.in-Listed.is
 
 pub returns-in-Unexplained : goal.returns-in-Unexplained
 returns-in-Unexplained c =
-    rw c.enum_told-1.given.1 (record { refusal = c.allow.ensures; result = refl })
+    rw c.in-Unexplained.is (record { refusal = c.allow.ensures; result = refl })
 
 pub returns-in-Listed : goal.returns-in-Listed
 returns-in-Listed c =
-    rw c.explanation-1.given.1 (record { refusal = allows _ c.allow-in-Listed.ensures; result = c.one_more.ensures })
+    rw c.in-Listed.is (record { refusal = allows _ c.allow-in-Listed.ensures; result = c.one_more.ensures })
 
 pub returns-in-Refused : goal.returns-in-Refused
 returns-in-Refused c =
-    rw c.explanation-in-Refused-1.given.1 (record { refusal = c.refuse.ensures; result = refl })
+    rw c.in-Refused.is (record { refusal = c.refuse.ensures; result = refl })

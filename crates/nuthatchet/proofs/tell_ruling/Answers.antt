@@ -6,12 +6,12 @@ use Rattle.nuthatchet.proofs.tell_ruling.Goals as goal
 
 pub returns-in-Resistant : goal.returns-in-Resistant
 returns-in-Resistant c =
-    rw c.enum_told-1.given.1 (record { refusal = c.allow.ensures; result = refl })
+    rw c.in-Resistant.is (record { refusal = c.allow.ensures; result = refl })
 
 pub returns-in-Failing : goal.returns-in-Failing
 returns-in-Failing c =
-    rw c.ruling-1.given.1 (record { refusal = allows _ c.allow-in-Failing.ensures; result = refl })
+    rw c.in-Failing.is (record { refusal = allows _ c.allow-in-Failing.ensures; result = refl })
 
 pub returns-in-Refused : goal.returns-in-Refused
 returns-in-Refused c =
-    rw c.ruling-in-Refused-1.given.1 (record { refusal = c.refuse.ensures; result = refl })
+    rw c.in-Refused.is (record { refusal = c.refuse.ensures; result = refl })

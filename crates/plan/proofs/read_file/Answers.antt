@@ -14,13 +14,13 @@ slice_bounds-accept-end c =
 pub accept-requires : goal.accept-requires
 accept-requires c =
     let u = c.unpack-unpacked in
-    law.all-form _ _ _ (law.gave _ c.enum_told-1.given.1 u.ensures.answer) (unpacked_row _ _ _ _ _ u.ensures)
+    law.all-form _ _ _ (law.gave _ c.in-Gives.is u.ensures.answer) (unpacked_row _ _ _ _ _ u.ensures)
 
 pub returns-in-Gives : goal.returns-in-Gives
 returns-in-Gives c =
     let u = c.unpack-unpacked in
-    law.read_on _ _ _ _ _ _ (law.gave _ c.enum_told-1.given.1 u.ensures.answer)
+    law.read_on _ _ _ _ _ _ (law.gave _ c.in-Gives.is u.ensures.answer)
     (unpacked_row _ _ _ _ _ u.ensures) c.accept.ensures
 
 pub returns-in-Refused : goal.returns-in-Refused
-returns-in-Refused c = law.read-form _ _ _ (law.refused_as _ c.answer-1.given.1 c.unpack-unpacked.ensures.answer)
+returns-in-Refused c = law.read-form _ _ _ (law.refused_as _ c.in-Refused.is c.unpack-unpacked.ensures.answer)

@@ -8,7 +8,7 @@ use Rattle.plan.proofs.Ways as law
 use Rattle.plan.proofs.write_file.Goals as goal
 
 pub packed_bytes-n-requires : goal.packed_bytes-n-requires
-packed_bytes-n-requires c = (law.good-row _ _ (law.gave _ c.enum_told-1.given.1 c.judge-judged.ensures)).form
+packed_bytes-n-requires c = (law.good-row _ _ (law.gave _ c.in-Gives.is c.judge-judged.ensures)).form
 
 pub slice_bounds-pack-end-then-n-file : goal.slice_bounds-pack-end-then-n-file
 slice_bounds-pack-end-then-n-file c = sym (length-take-le _ _ (search rules))
@@ -17,7 +17,7 @@ pub pack-requires : goal.pack-requires
 pack-requires c =
     let n = c.packed_bytes-n in
     record {
-      complete = (law.good-row _ _ (law.gave _ c.enum_told-1.given.1
+      complete = (law.good-row _ _ (law.gave _ c.in-Gives.is
           c.judge-judged.ensures)).form;
       room = length-take-le _ _ c.if-n-file.true ∙ n.ensures.is;
     }
@@ -25,15 +25,15 @@ pack-requires c =
 pub returns-then-n-file : goal.returns-then-n-file
 returns-then-n-file c =
     let n = c.packed_bytes-n in
-    law.written _ _ _ _ _ (law.gave _ c.enum_told-1.given.1
+    law.written _ _ _ _ _ (law.gave _ c.in-Gives.is
     c.judge-judged.ensures) n.ensures.is
     c.if-n-file.true
     (ap (λ x. x ++ drop n.result c.args.file.now) c.pack.ensures)
 
 pub returns-else-n-file : goal.returns-else-n-file
-returns-else-n-file c = law.write_no_room _ _ _ _ _ (law.gave _ c.enum_told-1.given.1
+returns-else-n-file c = law.write_no_room _ _ _ _ _ (law.gave _ c.in-Gives.is
     c.judge-judged.ensures) c.packed_bytes-n.ensures.is
     c.if-n-file.false c.refuse.ensures
 
 pub returns-in-Refused : goal.returns-in-Refused
-returns-in-Refused c = law.write_bad _ _ _ (law.refused_as _ c.judged-1.given.1 c.judge-judged.ensures)
+returns-in-Refused c = law.write_bad _ _ _ (law.refused_as _ c.in-Refused.is c.judge-judged.ensures)

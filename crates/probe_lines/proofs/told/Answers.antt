@@ -24,8 +24,8 @@ end-requires c =
 
 pub returns-in-Gives : goal.returns-in-Gives
 returns-in-Gives c =
-    rw c.answer-1.given.1 (then c.ok-next.ensures c.numbers_end.ensures)
+    rw c.in-Gives.is (then c.ok-next.ensures c.numbers_end.ensures)
 
 pub returns-in-Refused : goal.returns-in-Refused
 returns-in-Refused c =
-    rw c.answer-in-Refused-1.given.1 (then c.put_refusal-last.ensures (rw c.kept_16.ensures at c.end.ensures))
+    rw c.in-Refused.is (then c.put_refusal-last.ensures (rw c.kept_16.ensures at c.end.ensures))

@@ -12,19 +12,19 @@ pub returns-in-Slack : goal.returns-in-Slack
 returns-in-Slack c =
     let given = c.args.given.now in
     puts_as
-    (placed _ _ given _ _ _ c.enum_told-1.given.1 (behind given 2) c.number-m.ensures.is c.number-p.ensures.is c.if-given-lt2.false)
+    (placed _ _ given _ _ _ c.in-Slack.is (behind given 2) c.number-m.ensures.is c.number-p.ensures.is c.if-given-lt2.false)
     c.slack_row.ensures
 
 pub returns-in-Second : goal.returns-in-Second
 returns-in-Second c =
     let given = c.args.given.now in
     puts_as
-    (placed _ _ given _ _ _ c.enum_told-in-Second-1.given.1 (behind given 2) c.number-m.ensures.is c.number-p.ensures.is c.if-given-lt2.false)
+    (placed _ _ given _ _ _ c.in-Second.is (behind given 2) c.number-m.ensures.is c.number-p.ensures.is c.if-given-lt2.false)
     c.second_row.ensures
 
 pub returns-in-Where : goal.returns-in-Where
 returns-in-Where c =
     let given = c.args.given.now in
     puts_as
-    (placed _ _ given _ _ _ c.enum_told-in-Where-1.given.1 (behind given 2) c.number-m.ensures.is c.number-p.ensures.is c.if-given-lt2.false)
+    (placed _ _ given _ _ _ c.in-Where.is (behind given 2) c.number-m.ensures.is c.number-p.ensures.is c.if-given-lt2.false)
     c.where_row.ensures

@@ -6,9 +6,9 @@ use Rattle.probe_questions.proofs.slack_row.Goals as goal
 pub returns-in-Slots : goal.returns-in-Slots
 returns-in-Slots c =
     let slack = c.slack-spare.ensures in
-    puts_as (slots_line _ _ _ _ _ slack c.spare-1.given.1) c.told_slack.ensures
+    puts_as (slots_line _ _ _ _ _ slack c.in-Slots.is) c.told_slack.ensures
 
 pub returns-in-Refused : goal.returns-in-Refused
 returns-in-Refused c =
     let slack = c.slack-spare.ensures in
-    puts_as (no_slots_line _ _ _ _ _ slack c.spare-in-Refused-1.given.1) c.told_refusal.ensures
+    puts_as (no_slots_line _ _ _ _ _ slack c.in-Refused.is) c.told_refusal.ensures

@@ -15,4 +15,4 @@ returns-then-index-lent c =
 pub returns-else-index-lent : goal.returns-else-index-lent
 returns-else-index-lent c =
     let index = c.args.index in
-    sym (set_out c.fill.new.0 index 0 c.if-index-lent.false) ∙ ap (λ (s : List ℕ). set s index 0) c.fill.ensures
+    sym (set_out c.fill.new.bytes index 0 c.if-index-lent.false) ∙ ap (λ (s : List ℕ). set s index 0) c.fill.ensures

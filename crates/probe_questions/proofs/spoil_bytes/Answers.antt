@@ -19,12 +19,12 @@ slice_bounds-spoil_byte-end-2 c = sym (length-take-le 16 c.args.lent.now (search
 
 pub slice_bounds-told_bytes-end-2 : goal.slice_bounds-told_bytes-end-2
 slice_bounds-told_bytes-end-2 c =
-    let lent = c.spoil_byte.new.0 ++ drop 16 c.args.lent.now in
+    let lent = c.spoil_byte.new.lent ++ drop 16 c.args.lent.now in
     sym (length-take-le 16 lent (search rules))
 
 pub told_bytes-requires : goal.told_bytes-requires
 told_bytes-requires c =
-    let lent = c.spoil_byte.new.0 ++ drop 16 c.args.lent.now in
+    let lent = c.spoil_byte.new.lent ++ drop 16 c.args.lent.now in
     near _ 16 lent c.requires (search rules)
 
 pub returns : goal.returns

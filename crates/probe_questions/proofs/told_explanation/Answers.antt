@@ -11,12 +11,12 @@ pub told_list-requires : goal.told_list-requires
 told_list-requires c = record { near = c.requires; short = omega arith }
 
 pub returns-in-Unexplained : goal.returns-in-Unexplained
-returns-in-Unexplained c = puts_as (explanation_as _ c.enum_told-1.given.1) c.told_none.ensures
+returns-in-Unexplained c = puts_as (explanation_as _ c.in-Unexplained.is) c.told_none.ensures
 
 pub returns-in-Listed : goal.returns-in-Listed
 returns-in-Listed c =
-    puts_as (explanation_as _ c.explanation-1.given.1)
+    puts_as (explanation_as _ c.in-Listed.is)
     c.told_list.ensures
 
 pub returns-in-Refused : goal.returns-in-Refused
-returns-in-Refused c = puts_as (explanation_as _ c.explanation-in-Refused-1.given.1) c.told.ensures
+returns-in-Refused c = puts_as (explanation_as _ c.in-Refused.is) c.told.ensures

@@ -11,10 +11,10 @@ pub told_list-requires : goal.told_list-requires
 told_list-requires c = record { near = c.requires; short = omega arith }
 
 pub returns-in-Resistant : goal.returns-in-Resistant
-returns-in-Resistant c = puts_as (ruling_as _ c.enum_told-1.given.1) c.told_none.ensures
+returns-in-Resistant c = puts_as (ruling_as _ c.in-Resistant.is) c.told_none.ensures
 
 pub returns-in-Failing : goal.returns-in-Failing
-returns-in-Failing c = puts_as (ruling_as _ c.ruling-1.given.1) c.told_list.ensures
+returns-in-Failing c = puts_as (ruling_as _ c.in-Failing.is) c.told_list.ensures
 
 pub returns-in-Refused : goal.returns-in-Refused
-returns-in-Refused c = puts_as (ruling_as _ c.ruling-in-Refused-1.given.1) c.told.ensures
+returns-in-Refused c = puts_as (ruling_as _ c.in-Refused.is) c.told.ensures

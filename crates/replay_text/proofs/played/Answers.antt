@@ -5,9 +5,9 @@ use Rattle.replay_text.proofs.played.Goals as goal
 
 pub returns-in-Gives : goal.returns-in-Gives
 returns-in-Gives c =
-    played_given _ _ _ _ _ (search rules) c.replay_good-answer.ensures _ c.answer-1.given.1
+    played_given _ _ _ _ _ (search rules) c.replay_good-answer.ensures _ c.in-Gives.is
     c.listing.ensures
 
 pub returns-in-Refused : goal.returns-in-Refused
 returns-in-Refused c = played_refused _ _ _ _ _ (search rules) c.replay_good-answer.ensures _
-    c.answer-in-Refused-1.given.1 _
+    c.in-Refused.is _

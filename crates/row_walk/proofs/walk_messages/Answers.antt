@@ -14,14 +14,14 @@ returns-in-Refused c =
     let at = c.loop-places in
     let some = c.if-places-ne0.true in
     let turn = place-turn _ at.places at.messages at.at _ (omega (arith, some)) c.walk_place-place.ensures in
-    going-bad _ _ _ _ _ at.invariant.0 _ turn _ (ap outcome_of c.place-in-Refused-1.given.1)
+    going-bad _ _ _ _ _ at.invariant.0 _ turn _ (ap outcome_of c.in-Refused.is)
 
 pub loop-places-preserved-then-places-ne0 : goal.loop-places-preserved-then-places-ne0
 loop-places-preserved-then-places-ne0 c =
     let at = c.loop-places in
     let some = c.if-places-ne0.true in
     let passes = c.walk_place-place.ensures in
-    let gave = ap outcome_of c.place-1.given.1 in
+    let gave = ap outcome_of c.in-Gives.is in
     let turn = place-turn _ at.places at.messages at.at _ (omega (arith, some)) passes in
     (going_next _ _ _ _ _ at.invariant.0 _ turn _ gave (passes.inside _ gave), at.invariant.1, omega (arith, at.invariant.2))
 
@@ -31,7 +31,7 @@ returns-in-Refused-count c =
     let some = c.if-messages-eq0.false in
     let turn = message-turn _ at.places at.messages at.at _ c.if-places-ne0.false
     (omega (arith, some)) at.invariant.0.inside c.walk_fields-count.ensures _ refl in
-    going-bad _ _ _ _ _ at.invariant.0 _ turn _ (ap outcome_of c.count-in-Refused-count-1.given.1)
+    going-bad _ _ _ _ _ at.invariant.0 _ turn _ (ap outcome_of c.in-Refused-count.is)
 
 pub loop-places-smaller : goal.loop-places-smaller
 loop-places-smaller c =
@@ -39,7 +39,7 @@ loop-places-smaller c =
     let row = c.args.row.now in
     let some = c.if-messages-eq0.false in
     let small = fields_small row 4 at.at _
-    (sym c.walk_fields-count.ensures ∙ ap outcome_of c.count-1.given.1) in
+    (sym c.walk_fields-count.ensures ∙ ap outcome_of c.in-Gives-count.is) in
     omega (arith, small, some, c.place_count-places.ensures.is)
 
 pub loop-places-preserved : goal.loop-places-preserved
@@ -48,7 +48,7 @@ loop-places-preserved c =
     let row = c.args.row.now in
     let some = c.if-messages-eq0.false in
     let one = c.walk_fields-count.ensures in
-    let gave = ap outcome_of c.count-1.given.1 in
+    let gave = ap outcome_of c.in-Gives-count.is in
     let counted = c.place_count-places.ensures.is in
     let small = fields_small row 4 at.at _ (sym one ∙ gave) in
     let turn = message-turn _ at.places at.messages at.at _ c.if-places-ne0.false

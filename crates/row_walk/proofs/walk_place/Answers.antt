@@ -11,7 +11,7 @@ pub walk_fields-flag-requires : goal.walk_fields-flag-requires
 walk_fields-flag-requires c =
     let a = c.args in
     let end = fields_end a.row.now 6 2 a.i _ c.requires
-    (sym c.walk_fields-held.ensures ∙ ap outcome_of c.held-1.given.1) in
+    (sym c.walk_fields-held.ensures ∙ ap outcome_of c.in-Gives.is) in
     (end.1, omega arith)
 
 pub walk_second-requires : goal.walk_second-requires
@@ -20,23 +20,23 @@ walk_second-requires c =
     let held = fields_end a.row.now 6 2 a.i _
     c.requires
     (sym c.walk_fields-held.ensures ∙ ap outcome_of
-    c.held-1.given.1) in
+    c.in-Gives.is) in
     (fields_end a.row.now 1 1 _ _ held.1
-    (sym c.walk_fields-flag.ensures ∙ ap outcome_of c.flag-1.given.1)).1
+    (sym c.walk_fields-flag.ensures ∙ ap outcome_of c.in-Gives-flag.is)).1
 
 pub returns-then-number-eq1 : goal.returns-then-number-eq1
 returns-then-number-eq1 c =
     let a = c.args in
     let row = a.row.now in
     let two = c.walk_fields-held.ensures in
-    let gave = ap outcome_of c.held-1.given.1 in
+    let gave = ap outcome_of c.in-Gives.is in
     let end = fields_end row 6 2 a.i _
     c.requires (sym two ∙ gave) in
     pass-then row _ _ a.i _ _
     (held_of_place row a.i c.requires _ two) _
     _ gave
     (pass-then row _ _ _ _ _ (flag_of_place row _ end.1 _ c.walk_fields-flag.ensures) _ _
-    (ap outcome_of c.flag-1.given.1)
+    (ap outcome_of c.in-Gives-flag.is)
     (flag-set row _ _ _ (sym c.number.ensures.is ∙ c.if-number-eq1.true) c.walk_second.ensures))
 
 pub returns-else-number-eq1 : goal.returns-else-number-eq1
@@ -44,11 +44,11 @@ returns-else-number-eq1 c =
     let a = c.args in
     let row = a.row.now in
     let two = c.walk_fields-held.ensures in
-    let gave = ap outcome_of c.held-1.given.1 in
+    let gave = ap outcome_of c.in-Gives.is in
     let end = fields_end row 6 2 a.i _ c.requires
     (sym two ∙ gave) in
     let one = c.walk_fields-flag.ensures in
-    let set = ap outcome_of c.flag-1.given.1 in
+    let set = ap outcome_of c.in-Gives-flag.is in
     pass-then row _ _ a.i _ _
     (held_of_place row a.i c.requires _ two) _ _ gave
     (pass-then row _ _ _ _ _ (flag_of_place row _ end.1 _ one) _ _ set
@@ -59,16 +59,16 @@ returns-in-Refused-flag c =
     let a = c.args in
     let row = a.row.now in
     let two = c.walk_fields-held.ensures in
-    let gave = ap outcome_of c.held-1.given.1 in
+    let gave = ap outcome_of c.in-Gives.is in
     let end = fields_end row 6 2 a.i _ c.requires (sym two ∙ gave) in
     pass-then row _ _ a.i _ _
     (held_of_place row a.i c.requires _ two) _ _ gave
     (pass-bad row _ _ _ _ _ (flag_of_place row _ end.1 _ c.walk_fields-flag.ensures) _
-    (ap outcome_of c.flag-in-Refused-1.given.1))
+    (ap outcome_of c.in-Refused-flag.is))
 
 pub returns-in-Refused : goal.returns-in-Refused
 returns-in-Refused c =
     let a = c.args in
     pass-bad a.row.now _ _ a.i _ _
     (held_of_place a.row.now a.i c.requires _ c.walk_fields-held.ensures) _
-    (ap outcome_of c.held-in-Refused-held-1.given.1)
+    (ap outcome_of c.in-Refused.is)

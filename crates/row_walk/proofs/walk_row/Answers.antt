@@ -18,7 +18,7 @@ returns-then-number-ne1 c =
 
 pub walk_messages-requires : goal.walk_messages-requires
 walk_messages-requires c = (
-  c.walk_head-head.ensures.inside _ (ap outcome_of c.head-1.given.1),
+  c.walk_head-head.ensures.inside _ (ap outcome_of c.in-Gives.is),
   c.messages.ensures.small,
 )
 
@@ -29,7 +29,7 @@ returns-in-Gives c =
     row_head row (omega (arith, some))
     (sym c.number.ensures.is ∙
     c.if-number-ne1.false) _ c.walk_head-head.ensures _ _ _
-    (ap outcome_of c.head-1.given.1)
+    (ap outcome_of c.in-Gives.is)
     c.messages.ensures.is c.walk_messages.ensures
 
 pub returns-in-Refused : goal.returns-in-Refused
@@ -38,4 +38,4 @@ returns-in-Refused c =
     let some = c.if-row-eq0.false in
     row-bad row (omega (arith, some))
     (sym c.number.ensures.is ∙ c.if-number-ne1.false) _
-    c.walk_head-head.ensures _ (ap outcome_of c.head-in-Refused-1.given.1)
+    c.walk_head-head.ensures _ (ap outcome_of c.in-Refused.is)

@@ -12,7 +12,7 @@ pub walk_fields-requires : goal.walk_fields-requires
 walk_fields-requires c =
     let a = c.args in
     let end = fields_end a.row.now 4 1 a.i _ c.requires
-    (sym c.walk_fields-count.ensures ∙ ap outcome_of c.count-1.given.1) in
+    (sym c.walk_fields-count.ensures ∙ ap outcome_of c.in-Gives.is) in
     (end.1, omega arith)
 
 pub returns-in-Gives : goal.returns-in-Gives
@@ -20,7 +20,7 @@ returns-in-Gives c =
     let a = c.args in
     let row = a.row.now in
     let one = c.walk_fields-count.ensures in
-    let gave = ap outcome_of c.count-1.given.1 in
+    let gave = ap outcome_of c.in-Gives.is in
     let end = fields_end row 4 1 a.i _ c.requires (sym one ∙ gave) in
     pass-then row _ _ a.i _ _ (count_of_second row a.i c.requires _ one) _ _ gave
     (links_of_second row _ end.1 _ _ _ (ap (λ n. n + 1) c.number.ensures.is) c.walk_fields.ensures)
@@ -30,4 +30,4 @@ returns-in-Refused c =
     let a = c.args in
     pass-bad a.row.now _ _ a.i _ _
     (count_of_second a.row.now a.i c.requires _ c.walk_fields-count.ensures)
-    _ (ap outcome_of c.count-in-Refused-1.given.1)
+    _ (ap outcome_of c.in-Refused.is)

@@ -8,16 +8,16 @@ use Rattle.shelf_text.proofs.plan_line.Goals as goal
 
 pub slice_bounds-row-end : goal.slice_bounds-row-end
 slice_bounds-row-end c =
-    read-fit _ _ _ _ c.read_file-read.ensures _ c.read-1.given.1
+    read-fit _ _ _ _ c.read_file-read.ensures _ c.in-Gives.is
 
 pub slice_bounds-rated-end : goal.slice_bounds-rated-end
 slice_bounds-rated-end c =
-    read-long _ _ _ _ c.read_file-read.ensures _ c.read-1.given.1
+    read-long _ _ _ _ c.read_file-read.ensures _ c.in-Gives.is
 
 pub rated-requires : goal.rated-requires
 rated-requires c =
     (
-      read-good _ _ longest_row _ (read_given _ _ _ _ c.read_file-read.ensures _ _ (search rules) c.read-1.given.1) (read-row _ _ _ _ c.read_file-read.ensures _ c.read-1.given.1),
+      read-good _ _ longest_row _ (read_given _ _ _ _ c.read_file-read.ensures _ _ (search rules) c.in-Gives.is) (read-row _ _ _ _ c.read_file-read.ensures _ c.in-Gives.is),
       c.requires,
     )
 
@@ -27,9 +27,9 @@ refused_line-next-requires c =
 
 pub returns-in-Gives : goal.returns-in-Gives
 returns-in-Gives c =
-    lays_given _ _ _ _ _ _ _ _ _ (read_given _ _ _ _ c.read_file-read.ensures longest_row _ (search rules) c.read-1.given.1)
-    (read-row _ _ _ _ c.read_file-read.ensures _ c.read-1.given.1) c.rated.ensures
+    lays_given _ _ _ _ _ _ _ _ _ (read_given _ _ _ _ c.read_file-read.ensures longest_row _ (search rules) c.in-Gives.is)
+    (read-row _ _ _ _ c.read_file-read.ensures _ c.in-Gives.is) c.rated.ensures
 
 pub returns-in-Refused : goal.returns-in-Refused
 returns-in-Refused c =
-    lays-refused _ _ _ _ _ _ _ _ (read-refused _ _ _ _ c.read_file-read.ensures longest_row _ (search rules) c.read-in-Refused-1.given.1) c.refused_line-next.ensures refl
+    lays-refused _ _ _ _ _ _ _ _ (read-refused _ _ _ _ c.read_file-read.ensures longest_row _ (search rules) c.in-Refused.is) c.refused_line-next.ensures refl

@@ -5,7 +5,7 @@ use Rattle.spare.proofs.Ways as law
 use Rattle.spare.proofs.slack.Goals as goal
 
 pub slack_of_good-requires : goal.slack_of_good-requires
-slack_of_good-requires c = good-row _ _ (gave _ c.enum_told-1.given.1 c.judge-judged.ensures)
+slack_of_good-requires c = good-row _ _ (gave _ c.in-Gives.is c.judge-judged.ensures)
 
 pub returns-in-Refused : goal.returns-in-Refused
-returns-in-Refused c = law.bad-row _ _ _ _ (refused_as _ c.judged-1.given.1 c.judge-judged.ensures)
+returns-in-Refused c = law.bad-row _ _ _ _ (refused_as _ c.in-Refused.is c.judge-judged.ensures)

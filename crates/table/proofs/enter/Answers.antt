@@ -13,7 +13,7 @@ pub loop-k-preserved : goal.loop-k-preserved
 loop-k-preserved c =
     let l = c.loop-k in
     law.entering_next c.args.row.now c.args.i c.args.w c.args.table.now c.place_count-n.result
-    l.at l.k l.table c.mark.new.0 c.place_at-here.result l.invariant c.loop-k-test.true c.requires.2
+    l.at l.k l.table c.mark.new.table c.place_at-here.result l.invariant c.loop-k-test.true c.requires.2
     c.place_at-here.ensures c.mark.ensures
 
 pub returns : goal.returns

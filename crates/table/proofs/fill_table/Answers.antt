@@ -10,14 +10,14 @@ use Rattle.table.proofs.fill_table.Goals as goal
 pub loop-m-init : goal.loop-m-init
 loop-m-init c =
     let row = c.args.row.now in
-    (law.below-first row _ c.clear.new.0 c.message_index-at.ensures c.clear.ensures, omega arith)
+    (law.below-first row _ c.clear.new.table c.message_index-at.ensures c.clear.ensures, omega arith)
 
 pub loop-m-preserved : goal.loop-m-preserved
 loop-m-preserved c =
     let l = c.loop-m in
     let row = c.args.row.now in
     let h : l.m < message_count row = omega (arith, c.messages-n.ensures.is, c.loop-m-test.true) in
-    (law.below_next row l.m l.at _ l.table c.enter-at.new.1.1.1.0 h l.invariant.0 c.enter-at.ensures, omega arith)
+    (law.below_next row l.m l.at _ l.table c.enter-at.new.table.1.1.0 h l.invariant.0 c.enter-at.ensures, omega arith)
 
 pub returns : goal.returns
 returns c =

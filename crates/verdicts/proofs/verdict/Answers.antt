@@ -5,10 +5,10 @@ use borrow.Author.Rules.{rules}
 use Rattle.verdicts.proofs.verdict.Goals as goal
 
 pub verdict_good-requires : goal.verdict_good-requires
-verdict_good-requires c = good-row _ _ (gave _ c.enum_told-1.given.1 c.judge-judged.ensures)
+verdict_good-requires c = good-row _ _ (gave _ c.in-Gives.is c.judge-judged.ensures)
 
 pub returns-in-Refused : goal.returns-in-Refused
 returns-in-Refused c =
     bad-row c.args.row.now c.args.k
     c.args.l c.args.list.now _
-    (refused_as _ c.judged-1.given.1 c.judge-judged.ensures)
+    (refused_as _ c.in-Refused.is c.judge-judged.ensures)
