@@ -12,7 +12,7 @@ returns-then-not-stands c =
     no_end c.args.text.now c.args.i
     (no_word c.args.text.now c.args.i
     (sym (stands-cut c.args.text.now c.args.i) ∙
-    sym c.stands.ensures ∙ not-true _ c.if-not-stands.true))
+    sym c.stands.ensures ∙ c.if-not-stands.true))
 
 pub returns-then-a-eq0 : goal.returns-then-a-eq0
 returns-then-a-eq0 c =
@@ -50,7 +50,7 @@ returns c =
           c.number_size-b.result b.is c.byte-2.result c.byte-2.ensures.is
           (sym (stands-cut c.args.text.now c.args.i) ∙
           sym c.stands.ensures ∙
-          not-false _ c.if-not-stands.false)
+          c.if-not-stands.false)
           c.if-a-eq0.false
           (sym c.byte.ensures.is ∙ c.if-byte-ne32.false)
           c.if-b-eq0.false c.if-byte-ne10.false)

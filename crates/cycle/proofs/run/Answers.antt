@@ -82,4 +82,4 @@ loop-time-preserved c =
     c.time-time.ensures in
     let e : l.standing.time.0 < c.args.timeout = omega (arith, n, c.if-timeout-number.false) in
     running_more _ _ _ _ _ _ _ _ _ _ _ _ l.invariant c.run_slot-next.result
-    c.run_slot-next.new.table.1.1.1.1.1.1.0 _ e (rw t at c.run_slot-next.ensures) refl
+    c.run_slot-next.new.out _ e (rw t at c.run_slot-next.ensures) refl

@@ -50,7 +50,7 @@ returns-then-not-met c =
     let g = c.meets-met.ensures in
     let a = c.args in
     acts-tries _ _ a.slot.0 a.tried.now a.m a.row.now a.p _ g _ _ _ _ c.if-q.true
-    (not-true _ c.if-not-met.true)
+    (c.if-not-met.true)
     c.entry-entry.ensures c.first_trier-first.ensures.0 c.note.ensures (c.acts.ensures _ g.cut)
 
 pub returns : goal.returns

@@ -34,7 +34,7 @@ pub returns-then-not-as_seen : goal.returns-then-not-as_seen
 returns-then-not-as_seen c =
     watching_other c.loop-k.invariant c.loop-k-test.true _ _ c.act_one-moved.ensures _ _
     c.kind-kind.ensures c.number-number.ensures _ (search rules)
-    (sym c.as_seen.ensures ∙ not-true _ c.if-not-as_seen.true) refl refl refl refl
+    (sym c.as_seen.ensures ∙ c.if-not-as_seen.true) refl refl refl refl
 
 pub overflow_mul-k : goal.overflow_mul-k
 overflow_mul-k c =
@@ -63,7 +63,7 @@ loop-k-smaller c =
 pub loop-k-preserved : goal.loop-k-preserved
 loop-k-preserved c =
     watching_more c.loop-k.invariant c.loop-k-test.true _ _ c.act_one-moved.ensures _ _
-    c.kind-kind.ensures c.number-number.ensures _ (sym c.as_seen.ensures ∙ not-false _ c.if-not-as_seen.false)
+    c.kind-kind.ensures c.number-number.ensures _ (sym c.as_seen.ensures ∙ c.if-not-as_seen.false)
     c.put_event.ensures
 
 pub shape_of-out : goal.shape_of-out

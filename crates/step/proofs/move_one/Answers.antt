@@ -48,7 +48,7 @@ returns-then-not-met c =
     let g = c.meets-met.ensures in
     let a = c.args in
     moves_by (acts-tries _ _ a.slot.0 a.tried.now a.m a.row.now a.p _ g _ _ _ _ c.if-here.true
-    (not-true _ c.if-not-met.true)
+    (c.if-not-met.true)
     c.entry-entry.ensures c.first_trier-first.ensures.0 c.note.ensures (c.acts-moved.ensures _ g.cut))
 
 pub returns : goal.returns

@@ -20,7 +20,7 @@ told c = rw (both c) at c.before.before.before.requires
 
 pub returns-then-not-names_link : goal.returns-then-not-names_link
 returns-then-not-names_link c =
-    rw (path_none c.args.refusal (sym c.names_link.ensures ∙ not-true _ c.if-not-names_link.true))
+    rw (path_none c.args.refusal (sym c.names_link.ensures ∙ c.if-not-names_link.true))
     (puts_none _ c.args.at)
 
 pub put_byte-place-requires : goal.put_byte-place-requires
