@@ -1,10 +1,7 @@
 -- `text::stands` meets its contract: what is left to compare decides the whole.
-use Prim.Native.Nat.{◌+◌, ◌-◌, ◌≤◌}
-use mathlib.Core.Path.{◌≡◌, sym, ◌∙◌}
+use mathlib.Core.Path.{sym, ◌∙◌}
 use borrow.Author.Rules.{rules}
 use native.Mathlib.Omega.{arith}
-use lib.ListN.{length, drop}
-use Rattle.text.specs.Reading.{stands}
 use Rattle.text.proofs.Word.{stands-first, stands-not, stands-next, stands-done}
 use Rattle.text.proofs.stands.Goals as goal
 
