@@ -37,7 +37,7 @@ loop-h-preserved c =
     descend_on _ _ _ _ _ _ _ _ _
     c.requires
     _ _ _ c.loop-h.invariant _ _ c.loop-h-test.true
-    c.put_failing.auto.0 c.put_failing.ensures c.ask-next.ensures
+    c.put_failing.auto.out c.put_failing.ensures c.ask-next.ensures
 
 pub overflow_add-l : goal.overflow_add-l
 overflow_add-l c =
@@ -53,7 +53,7 @@ put_answers-requires c =
     c.loop-h.invariant
 
 pub shape_of-out : goal.shape_of-out
-shape_of-out c = c.put_answers.auto.0 ∙ c.loop-h.invariant.same
+shape_of-out c = c.put_answers.auto.out ∙ c.loop-h.invariant.same
 
 pub returns : goal.returns
 returns c =

@@ -5,6 +5,7 @@ use borrow.Author.Rules.{rules}
 use Rattle.scope.specs.Limits.{most_links}
 use Rattle.cables.proofs.Bytes.{Marking, marking_first, marking_put, marking_next, marking_done}
 use Rattle.cables.proofs.higher.Goals as goal
+use Rattle.cables.proofs.higher.Goals.{then-is_higher, else-is_higher}
 
 pub loop-e-init : goal.loop-e-init
 loop-e-init c = marking_first c.args.others.now
@@ -17,8 +18,10 @@ loop-e-preserved c =
     let l = c.loop-e in
     let others = c.args.others.now in
     let is = c.is_higher.ensures in
-    ⊎_elim (λ w. rw w.1 (marking_put others l.e l.those c.loop-e-test.true l.invariant (sym is ∙ w.0.taken)))
-    (λ w. rw w.1 (marking_next others l.e l.those c.loop-e-test.true l.invariant (sym is ∙ w.0.left))) c.if-is_higher.branch
+    elim c.if-is_higher.branch [
+      then-is_higher w ↦ rw w.those-is (marking_put others l.e l.those c.loop-e-test.true l.invariant (sym is ∙ w.if-is_higher.true))
+    | else-is_higher w ↦ rw w.those-is (marking_next others l.e l.those c.loop-e-test.true l.invariant (sym is ∙ w.if-is_higher.false))
+    ]
 
 pub returns : goal.returns
 returns c =

@@ -1,8 +1,6 @@
 -- `cut_lines::line_end` meets its contract: one law for each test that fails, and one where all hold.
 use Prim.Native.Nat.{◌+◌}
 use mathlib.Core.Path.{sym, ◌∙◌, ap}
-use borrow.Author.Rules.{rules}
-use borrow.Author.Tests.{not-true, not-false}
 use native.Mathlib.Omega.{arith}
 use Rattle.cut_lines.proofs.Forms.{stands-cut, no_word, no_slot, no_space, no_link_lem, no_feed, is-line, feed_is, is-end, no_end}
 use Rattle.cut_lines.proofs.line_end.Goals as goal
@@ -12,7 +10,7 @@ returns-then-not-stands c =
     no_end c.args.text.now c.args.i
     (no_word c.args.text.now c.args.i
     (sym (stands-cut c.args.text.now c.args.i) ∙
-    sym c.stands.ensures ∙ not-true _ c.if-not-stands.true))
+    sym c.stands.ensures ∙ c.if-not-stands.true))
 
 pub returns-then-a-eq0 : goal.returns-then-a-eq0
 returns-then-a-eq0 c =
@@ -50,7 +48,7 @@ returns c =
           c.number_size-b.result b.is c.byte-2.result c.byte-2.ensures.is
           (sym (stands-cut c.args.text.now c.args.i) ∙
           sym c.stands.ensures ∙
-          not-false _ c.if-not-stands.false)
+          c.if-not-stands.false)
           c.if-a-eq0.false
           (sym c.byte.ensures.is ∙ c.if-byte-ne32.false)
           c.if-b-eq0.false c.if-byte-ne10.false)

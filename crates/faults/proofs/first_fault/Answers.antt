@@ -11,8 +11,8 @@ use Rattle.faults.proofs.first_fault.Goals as goal
 pub slice_bounds-path_fault-end : goal.slice_bounds-path_fault-end
 slice_bounds-path_fault-end c =
     let f = c.first_links-n in
-    law.count-is c.args.row.now (plan_of c.args.row.now) c.args.i f.result _ f.new.1.1.0 f.ensures
-    (omega (arith, f.ensures.count, f.auto.1.1.0, c.requires.2))
+    law.count-is c.args.row.now (plan_of c.args.row.now) c.args.i f.result _ f.new.path f.ensures
+    (omega (arith, f.ensures.count, f.auto.path, c.requires.2))
 
 pub path_fault-found-requires : goal.path_fault-found-requires
 path_fault-found-requires c =
@@ -22,6 +22,6 @@ pub returns : goal.returns
 returns c =
     let f = c.first_links-n in
     let row = c.args.row.now in
-    law.first_path row (plan_of row) c.args.i f.result _ f.new.1.1.0 f.ensures _
+    law.first_path row (plan_of row) c.args.i f.result _ f.new.path f.ensures _
     (c.link_from-v.ensures ∙ ap (λ e. (link_of (plan_of row) e).from) c.number.ensures.is)
     c.path_fault-found.result c.path_fault-found.ensures

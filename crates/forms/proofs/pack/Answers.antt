@@ -13,8 +13,8 @@ overflow_mul-file c =
     let row = c.args.row.now in
     let fits = c.requires in
     let most = row_bits_most row (row_walks row (length row) fits.complete) in
-    let size : length c.pack_fields-end.new.file.0 ≡ whole_bytes
-    (length (row_bits row)) = c.pack_fields-end.auto.1.0 ∙ fits.room ∙ length-file row in
+    let size : length c.pack_fields-end.new.file ≡ whole_bytes
+    (length (row_bits row)) = c.pack_fields-end.auto.file ∙ fits.room ∙ length-file row in
     omega (arith, most, size)
 
 pub overflow_sub-file : goal.overflow_sub-file
@@ -23,8 +23,8 @@ overflow_sub-file c =
     let fits = c.requires in
     let most = row_bits_most row (row_walks row (length row) fits.complete) in
     let end = c.pack_fields-end.ensures.end in
-    let size : length c.pack_fields-end.new.file.0 ≡ whole_bytes
-    (length (row_bits row)) = c.pack_fields-end.auto.1.0 ∙ fits.room ∙ length-file row in
+    let size : length c.pack_fields-end.new.file ≡ whole_bytes
+    (length (row_bits row)) = c.pack_fields-end.auto.file ∙ fits.room ∙ length-file row in
     omega (arith, most, end, size)
 
 pub put-requires : goal.put-requires
@@ -33,8 +33,8 @@ put-requires c =
     let fits = c.requires in
     let most = row_bits_most row (row_walks row (length row) fits.complete) in
     let end = c.pack_fields-end.ensures.end in
-    let size : length c.pack_fields-end.new.file.0 ≡ whole_bytes
-    (length (row_bits row)) = c.pack_fields-end.auto.1.0 ∙ fits.room ∙ length-file row in (
+    let size : length c.pack_fields-end.new.file ≡ whole_bytes
+    (length (row_bits row)) = c.pack_fields-end.auto.file ∙ fits.room ∙ length-file row in (
       record {
         narrow = omega (arith, end, size);
         near = omega (arith, most, end);
@@ -46,8 +46,8 @@ put-requires c =
 pub returns : goal.returns
 returns c =
     let row = c.args.row.now in
-    packs_whole row c.pack_fields-end.new.file.0 _ _
+    packs_whole row c.pack_fields-end.new.file _ _
     c.pack_fields-end.ensures
-    (c.pack_fields-end.auto.1.0 ∙
-    c.requires.room) c.put.auto.0
+    (c.pack_fields-end.auto.file ∙
+    c.requires.room) c.put.auto.bytes
     (λ i. (c.slice_known-3-1.given i).fits) c.put.ensures

@@ -19,7 +19,7 @@ pub loop-i-init : goal.loop-i-init
 loop-i-init c =
     pack_first c.args.row.now
     c.args.file.now _ _
-    c.requires c.put.auto.0
+    c.requires c.put.auto.bytes
     c.put.ensures c.opening-s.ensures
 
 pub put-requires-in-loop-i : goal.put-requires-in-loop-i
@@ -67,12 +67,12 @@ loop-i-preserved c =
     let on = at.invariant in
     let lt = c.loop-i-test.true in
     packs_on row _ at.file at.s at.p at.i on _ _ _ _ lt c.width-w.ensures
-    c.number-v.ensures.is c.put-in-loop-i.auto.0
+    c.number-v.ensures.is c.put-in-loop-i.auto.bytes
     c.put-in-loop-i.ensures
     c.step-s.ensures
 
 pub shape_of-file : goal.shape_of-file
-shape_of-file c = c.loop-i.invariant.long ∙ c.put.auto.0
+shape_of-file c = c.loop-i.invariant.long ∙ c.put.auto.bytes
 
 pub returns : goal.returns
 returns c =

@@ -12,8 +12,8 @@ pub slice_bounds-asked-end-2 : goal.slice_bounds-asked-end-2
 slice_bounds-asked-end-2 c =
     let numbers = c.numbers-n in
     let few = numbers.ensures.few in
-    let same = numbers.auto.1.1.0 in
-    sym (length-take-le numbers.result numbers.new.1.1.0 (omega arith))
+    let same = numbers.auto.into in
+    sym (length-take-le numbers.result numbers.new.into (omega arith))
 
 pub returns : goal.returns
 returns c =
@@ -22,6 +22,6 @@ returns c =
     let size = length a.given.now in
     let numbers = c.numbers-n in
     answered c.which-question.result line _ size (length a.lent.now) (length a.file.now) c.which-question.ensures
-    (numbers-are line _ a.given.now numbers.new.1.1.0 numbers.result numbers.ensures
+    (numbers-are line _ a.given.now numbers.new.into numbers.result numbers.ensures
     ∙ ap (numbers_in size line) c.size.ensures)
     c.asked.ensures

@@ -20,8 +20,8 @@ pub slice_bounds-read-end-then-given : goal.slice_bounds-read-end-then-given
 slice_bounds-read-end-then-given c =
     let bytes = c.bytes-given in
     let few = bytes.ensures.few in
-    let same = bytes.auto.1.0 in
-    sym (length-take-le bytes.result.n bytes.new.1.0 (omega arith))
+    let same = bytes.auto.into in
+    sym (length-take-le bytes.result.n bytes.new.into (omega arith))
 
 pub returns-then-given : goal.returns-then-given
 returns-then-given c =
@@ -30,7 +30,7 @@ returns-then-given c =
     let bytes = c.bytes-given in
     puts_as
     (read-good (length a.lent.now) a.line.now room.result room.ensures c.if-room-eq4.false _ c.last_word-word.ensures
-    a.file.now bytes.new.1.0 bytes.result bytes.ensures c.if-given.true)
+    a.file.now bytes.new.into bytes.result bytes.ensures c.if-given.true)
     c.read.ensures
 
 pub returns : goal.returns
@@ -40,5 +40,5 @@ returns c =
     let bytes = c.bytes-given in
     puts_as
     (read-bad (length a.lent.now) a.line.now room.result room.ensures c.if-room-eq4.false _ c.last_word-word.ensures
-    a.file.now bytes.new.1.0 bytes.result bytes.ensures c.if-given.false)
+    a.file.now bytes.new.into bytes.result bytes.ensures c.if-given.false)
     c.unknown-2.ensures

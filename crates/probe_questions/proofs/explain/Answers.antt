@@ -38,5 +38,5 @@ returns c =
     lays
     (asks _ _ _ _ _ c.args.given.now _ split c.number-room.ensures.is _ c.if-given-split.false fits
     (explained-of c.args.given.now _ _ _ c.number-k.ensures.is c.number-room.ensures.is c.number-split.ensures.is _
-    (explained _ _ _ fits c.fill_16.ensures asked.new.1.1.1.0 asked.auto.1.1.1.0 _ _ _ asked.result asked.ensures)))
+    (explained _ _ _ fits c.fill_16.ensures asked.new.list asked.auto.list _ _ _ asked.result asked.ensures)))
     c.told_explanation.ensures

@@ -36,7 +36,7 @@ returns c =
     let asked = c.figures-answer in
     let room = c.number-room.ensures.is in
     puts_as
-    (told-result _ _ _ _ fits c.fill_16.ensures _ asked.auto.1.1.0 (figures_of _ _) _ _ asked.ensures _ c.count.ensures
+    (told-result _ _ _ _ fits c.fill_16.ensures _ asked.auto.out (figures_of _ _) _ _ asked.ensures _ c.count.ensures
     ∙ figured c.args.given.now _ _ c.number-k.ensures.is room
     ∙ all-fits _ _ _ _ _ _ _ refl room c.if-given-lt2.false fits)
     c.told.ensures

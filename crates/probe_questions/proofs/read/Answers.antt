@@ -29,6 +29,6 @@ returns c =
     let fits = c.if-lent-all.false in
     let asked = c.read_file-answer in
     puts_as
-    (told-result _ _ _ _ fits c.fill_16.ensures _ asked.auto.1.0 (read_file _) _ _ asked.ensures _ c.count.ensures
+    (told-result _ _ _ _ fits c.fill_16.ensures _ asked.auto.row (read_file _) _ _ asked.ensures _ c.count.ensures
     ∙ enough _ _ _ _ refl fits)
     c.told.ensures

@@ -41,7 +41,7 @@ returns c =
     let cuts = c.number-split.ensures.is in
     let room = c.number-room.ensures.is in
     puts_as
-    (told-numbers _ _ _ _ fits c.fill_16.ensures _ asked.auto.1.1.0 (replay _ _) _ _ asked.ensures _ _
+    (told-numbers _ _ _ _ fits c.fill_16.ensures _ asked.auto.events (replay _ _) _ _ asked.ensures _ _
     c.events.ensures
     ∙ replayed c.args.given.now _ _ cuts room
     ∙ all-fits _ _ _ _ _ _ _ (ap (λ (k : ℕ). k + 2) cuts) room c.if-given-split.false fits)

@@ -33,6 +33,6 @@ returns c =
     let spoil = c.spoil_number in
     let a = c.args in
     puts_as
-    (ap (told (gives 0) 0) (spoilt filler16 a.index a.lent.now spoil.new.0 fits spoil.auto.0 spoil.ensures)
+    (ap (told (gives 0) 0) (spoilt filler16 a.index a.lent.now spoil.new.lent fits spoil.auto.lent spoil.ensures)
     ∙ enough _ _ _ _ refl fits)
     c.told.ensures

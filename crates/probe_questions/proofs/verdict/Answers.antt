@@ -37,5 +37,5 @@ returns c =
     (asks _ _ _ _ _ c.args.given.now _ refl c.number-room.ensures.is _ c.if-given-lt3.false fits
     (ruled-of c.args.given.now _ _ _ c.number-k.ensures.is c.number-l.ensures.is c.number-room.ensures.is _ _
     (behind c.args.given.now 3)
-    (ruled _ _ _ fits c.fill_16.ensures asked.new.1.1.1.0 asked.auto.1.1.1.0 _ _ _ asked.result asked.ensures)))
+    (ruled _ _ _ fits c.fill_16.ensures asked.new.list asked.auto.list _ _ _ asked.result asked.ensures)))
     c.told_ruling.ensures

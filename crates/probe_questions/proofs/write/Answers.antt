@@ -37,7 +37,7 @@ returns c =
     let asked = c.write_file-answer in
     let room = c.number-room.ensures.is in
     puts_as
-    (lent-told _ _ _ _ fits c.fill.ensures _ asked.auto.1.0 (write_file _) _ _ asked.ensures told_bytes
+    (lent-told _ _ _ _ fits c.fill.ensures _ asked.auto.file (write_file _) _ _ asked.ensures told_bytes
     ∙ ap₂ write_line (behind c.args.given.now 1) room
     ∙ all-fits _ _ _ _ _ _ _ refl room c.if-given-lt1.false fits)
     c.told_bytes.ensures

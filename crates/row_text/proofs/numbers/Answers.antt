@@ -46,7 +46,7 @@ shape_of-out-then-not-ends c =
     c.if-next-i.false
     c.if-text-next.false _
     c.byte.ensures.is
-    (sym c.ends.ensures ∙ not-true _ c.if-not-ends.true))
+    (sym c.ends.ensures ∙ c.if-not-ends.true))
     c.loop-i.invariant.3)
     c.put-then-not-ends.ensures)
 
@@ -59,7 +59,7 @@ returns-then-not-ends c =
     c.if-next-i.false
     c.if-text-next.false _
     c.byte.ensures.is
-    (sym c.ends.ensures ∙ not-true _ c.if-not-ends.true))
+    (sym c.ends.ensures ∙ c.if-not-ends.true))
     c.loop-i.invariant.3)
     c.put-then-not-ends.ensures)
 

@@ -1,12 +1,13 @@
 -- `step::act_one` meets its contract: it is at its target, it waits, it tries the link before it, or it tries nothing. Assumes nothing.
 use mathlib.Core.Path.{◌≡◌, sym, ◌∙◌}
-use mathlib.Core.Logic.{⊎_elim}
 use native.Mathlib.Omega.{arith}
+use mathlib.Core.Bool.{not}
+use lib.Dec.{eqb}
 use borrow.Author.Tests.{eqb-true, eqb-false, not-true, not-false}
-use borrow.Author.Rules.{rules}
 use Rattle.table.specs.Table.{entry_at}
 use Rattle.step.proofs.Acting.{home-does, home_tried, waits_acts, acts-first, acts-cut, acts-tries}
 use Rattle.step.proofs.act_one.Goals as goal
+use Rattle.step.proofs.act_one.Goals.{else-q-via-then-q+else-not-met, else-q-via-else-q}
 
 pub returns-then-is_home : goal.returns-then-is_home
 returns-then-is_home c =
@@ -58,6 +59,10 @@ returns c =
     let g = c.meets-met.ensures in
     let a = c.args in
     let e = entry_at a.table.now a.slot.0 in
+    let alone = not (eqb a.m a.m) in
     let does = c.acts-2.ensures _ g.cut in
-    ⊎_elim (λ w. acts-cut _ e a.slot.0 a.tried.now a.m a.row.now a.p _ g _ _ _ _ (not-false _ w.2.left) does)
-    (λ w. acts-first _ e a.slot.0 a.tried.now a.m a.row.now a.p _ g _ _ _ _ w.left does) c.else-q.branch
+    elim c.else-q.branch [
+      | else-q-via-then-q+else-not-met w ↦
+          acts-cut _ e a.slot.0 a.tried.now a.m a.row.now a.p _ g 0 alone a.m _ (not-false _ w.if-not-met.false) does
+      | else-q-via-else-q w ↦ acts-first _ e a.slot.0 a.tried.now a.m a.row.now a.p _ g 0 alone a.m _ w.if-q.false does
+    ]

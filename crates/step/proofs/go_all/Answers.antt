@@ -1,13 +1,9 @@
-use Prim.Native.Nat.{◌-◌}
 use mathlib.Core.Path.{◌≡◌, refl, sym, ◌∙◌}
 use native.Mathlib.Omega.{arith}
 use lib.ListN.{length}
-use borrow.Author.Tests.{not-true, not-false}
-use Rattle.step.specs.Slot.{down_now}
-use Rattle.table.specs.Table.{entry_at}
 use Rattle.step.proofs.Moving.{moving_may}
 use Rattle.step.proofs.Telling.{telling_length, telling_room}
-use Rattle.step.proofs.Seen.{Watching, watching_none, watching_more, watching_other, watching_done}
+use Rattle.step.proofs.Seen.{watching_none, watching_more, watching_other, watching_done}
 use borrow.Author.Rules.{rules}
 use Rattle.step.proofs.go_all.Goals as goal
 
@@ -34,7 +30,7 @@ pub returns-then-not-as_seen : goal.returns-then-not-as_seen
 returns-then-not-as_seen c =
     watching_other c.loop-k.invariant c.loop-k-test.true _ _ c.act_one-moved.ensures _ _
     c.kind-kind.ensures c.number-number.ensures _ (search rules)
-    (sym c.as_seen.ensures ∙ not-true _ c.if-not-as_seen.true) refl refl refl refl
+    (sym c.as_seen.ensures ∙ c.if-not-as_seen.true) refl refl refl refl
 
 pub overflow_mul-k : goal.overflow_mul-k
 overflow_mul-k c =
@@ -63,7 +59,7 @@ loop-k-smaller c =
 pub loop-k-preserved : goal.loop-k-preserved
 loop-k-preserved c =
     watching_more c.loop-k.invariant c.loop-k-test.true _ _ c.act_one-moved.ensures _ _
-    c.kind-kind.ensures c.number-number.ensures _ (sym c.as_seen.ensures ∙ not-false _ c.if-not-as_seen.false)
+    c.kind-kind.ensures c.number-number.ensures _ (sym c.as_seen.ensures ∙ c.if-not-as_seen.false)
     c.put_event.ensures
 
 pub shape_of-out : goal.shape_of-out

@@ -1,12 +1,13 @@
 -- `step::move_one` meets its contract: what `act_one` does, and of it the next position. Assumes nothing.
 use mathlib.Core.Path.{◌≡◌, refl, sym, ◌∙◌, ap}
-use mathlib.Core.Logic.{⊎_elim}
 use native.Mathlib.Omega.{arith}
+use mathlib.Core.Bool.{not}
+use lib.Dec.{eqb}
 use borrow.Author.Tests.{eqb-true, eqb-false, not-true, not-false}
-use borrow.Author.Rules.{rules}
 use Rattle.table.specs.Table.{entry_at}
 use Rattle.step.proofs.Acting.{home-does, home_tried, waits_acts, acts-first, acts-cut, acts-tries, moves_by}
 use Rattle.step.proofs.move_one.Goals as goal
+use Rattle.step.proofs.move_one.Goals.{else-here-via-then-here+else-not-met, else-here-via-else-here}
 
 pub returns-then-is_home : goal.returns-then-is_home
 returns-then-is_home c =
@@ -56,6 +57,11 @@ returns c =
     let g = c.meets-met.ensures in
     let a = c.args in
     let e = entry_at a.table.now a.slot.0 in
+    let alone = not (eqb a.m a.m) in
     let does = c.acts-moved-2.ensures _ g.cut in
-    moves_by (⊎_elim (λ w. acts-cut _ e a.slot.0 a.tried.now a.m a.row.now a.p _ g _ _ _ _ (not-false _ w.2.left) does)
-    (λ w. acts-first _ e a.slot.0 a.tried.now a.m a.row.now a.p _ g _ _ _ _ w.left does) c.else-here.branch)
+    elim c.else-here.branch [
+      | else-here-via-then-here+else-not-met w ↦
+          moves_by (acts-cut _ e a.slot.0 a.tried.now a.m a.row.now a.p _ g 0 alone a.m _ (not-false _ w.if-not-met.false) does)
+      | else-here-via-else-here w ↦
+          moves_by (acts-first _ e a.slot.0 a.tried.now a.m a.row.now a.p _ g 0 alone a.m _ w.if-here.false does)
+    ]

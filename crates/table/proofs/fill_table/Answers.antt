@@ -17,7 +17,7 @@ loop-m-preserved c =
     let l = c.loop-m in
     let row = c.args.row.now in
     let h : l.m < message_count row = omega (arith, c.messages-n.ensures.is, c.loop-m-test.true) in
-    (law.below_next row l.m l.at _ l.table c.enter-at.new.table.1.1.0 h l.invariant.0 c.enter-at.ensures, omega arith)
+    (law.below_next row l.m l.at _ l.table c.enter-at.new.table h l.invariant.0 c.enter-at.ensures, omega arith)
 
 pub returns : goal.returns
 returns c =
