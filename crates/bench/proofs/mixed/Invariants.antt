@@ -1,7 +1,5 @@
 -- `bench::mixed` is safe and ends. Assumes nothing.
-use Prim.Native.Nat.{◌-◌, ◌≤◌, ◌<◌}
-use lib.ListN.{length}
-use borrow.Author.Rules.{rules}
+use Rattle.std.proofs.Common.{length, ◌-◌, ◌≤◌, ◌<◌}
 use Rattle.bench.proofs.mixed.Given as goal
 
 abbrev pub invariant-loop-i : goal.invariant-loop-i
