@@ -1,13 +1,13 @@
 -- `step::act_one` meets its contract: it is at its target, it waits, it tries the link before it, or it tries nothing. Assumes nothing.
 use mathlib.Core.Path.{◌≡◌, sym, ◌∙◌}
 use native.Mathlib.Omega.{arith}
-use mathlib.Core.Bool.{not}
+use mathlib.Core.Bool.{true, false, not, ◌&&◌}
 use lib.Dec.{eqb}
-use borrow.Author.Tests.{eqb-true, eqb-false, not-true, not-false}
+use borrow.Author.Tests.{eqb-true, eqb-false, not-true}
+use borrow.Author.Rules.{rules}
 use Rattle.table.specs.Table.{entry_at}
-use Rattle.step.proofs.Acting.{home-does, home_tried, waits_acts, acts-first, acts-cut, acts-tries}
+use Rattle.step.proofs.Acting.{home-does, home_tried, waits_acts, acts-idle, acts-tries}
 use Rattle.step.proofs.act_one.Goals as goal
-use Rattle.step.proofs.act_one.Goals.{else-q-via-then-q+else-not-met, else-q-via-else-q}
 
 pub returns-then-is_home : goal.returns-then-is_home
 returns-then-is_home c =
@@ -50,7 +50,8 @@ pub returns-then-not-met : goal.returns-then-not-met
 returns-then-not-met c =
     let g = c.meets-met.ensures in
     let a = c.args in
-    acts-tries _ _ a.slot.0 a.tried.now a.m a.row.now a.p _ g _ _ _ _ c.if-q.true
+    let turned : c.meets-met.result.position.turned ≡ true = search rules in
+    acts-tries _ _ a.slot.0 a.tried.now a.m a.row.now a.p _ g _ _ _ _ turned
     (not-true _ c.if-not-met.true)
     c.entry-entry.ensures c.first_trier-first.ensures.0 c.note.ensures (c.acts.ensures _ g.cut)
 
@@ -58,11 +59,6 @@ pub returns : goal.returns
 returns c =
     let g = c.meets-met.ensures in
     let a = c.args in
-    let e = entry_at a.table.now a.slot.0 in
-    let alone = not (eqb a.m a.m) in
-    let does = c.acts-2.ensures _ g.cut in
-    elim c.else-q.branch [
-      | else-q-via-then-q+else-not-met w ↦
-          acts-cut _ e a.slot.0 a.tried.now a.m a.row.now a.p _ g 0 alone a.m _ (not-false _ w.if-not-met.false) does
-      | else-q-via-else-q w ↦ acts-first _ e a.slot.0 a.tried.now a.m a.row.now a.p _ g 0 alone a.m _ w.if-q.false does
-    ]
+    let met = c.meets-met.result in
+    let idle : (met.position.turned && not met.down) ≡ false = search rules in
+    acts-idle _ _ a.slot.0 a.tried.now a.m a.row.now a.p _ g 0 (not (eqb a.m a.m)) a.m _ idle (c.acts-2.ensures _ g.cut)
