@@ -10,7 +10,10 @@ ghost use Rattle.std.specs.Prelude.{◌≤◌, ◌<◌, length};
 ghost use Rattle.scope.specs.Limits.{longest_row};
 
 use explanations::Explanation;
+use program_io::Read;
 use scope::{Answer, Refusal};
+use std::io;
+use std::rt::Env;
 use verdicts::Ruling;
 
 // The numbers of as many crossings as a cycle can have.
@@ -162,16 +165,16 @@ fn ask_all(
 }
 
 // The number that an argument says, behind a space.
-fn number(i: usize) -> usize {
+fn number(rt: &impl Env, i: usize) -> usize {
     let mut word = [0u8; 8];
-    let n = os::arg(i, &mut word);
+    let n = rt.arg(i, &mut word).unwrap_or(0);
     probe_words::number(&word[..n], 0).value
 }
 
 // What the first argument asks; its last letter is k. The third one is l.
-fn asked() -> Question {
+fn asked(rt: &impl Env) -> Question {
     let mut name = [0u8; 8];
-    let n = os::arg(1, &mut name);
+    let n = rt.arg(1, &mut name).unwrap_or(0);
     if n == 0 {
         return Question {
             what: 0,
@@ -183,20 +186,22 @@ fn asked() -> Question {
     Question {
         what: name[2],
         k: (name[n - 1] % 16) as usize,
-        l: number(3),
+        l: number(rt, 3),
         given: 0,
     }
 }
 
 // The capture on standard input, a byte a number, where it is asked about: how many numbers it has.
-fn read_capture(q: Question, capture: &mut [u16]) -> usize
+fn read_capture(rt: &HostRuntime, q: Question, capture: &mut [u16]) -> usize
     ensures { result ≤ length capture.new }
 {
     if q.what != b'f' {
         return 0;
     }
     let mut bytes = [0u8; CAPTURE];
-    let n = io::read_full(libc::STDIN_FILENO, &mut bytes);
+    let Read::Bytes(n) = program_io::read_input(rt, b"bench", &mut bytes) else {
+        return 0;
+    };
     if capture.len() < n {
         return 0;
     }
@@ -208,21 +213,27 @@ fn read_capture(q: Question, capture: &mut [u16]) -> usize
     n
 }
 
-fn main() {
+fn main(rt: HostRuntime) -> io::Result<()> {
     let mut file = [0u8; scope::limits::PLAN_ROOM];
     let mut row = [0u16; scope::limits::ROW];
     let mut out = [0u16; scope::limits::EVENTS];
-    let n = program_io::read_plan(b"bench", &mut file);
-    let q = asked();
+    let n = program_io::read_plan(&rt, b"bench", &mut file);
+    let q = asked(&rt);
     let mut capture = [0u16; CAPTURE];
-    let given = read_capture(q, &mut capture);
+    let given = read_capture(&rt, q, &mut capture);
     let all = Question {
         what: q.what,
         k: q.k,
         l: q.l,
         given,
     };
-    let sum = ask_all(all, number(2), &file[..n], &mut row, &capture, &mut out);
-    io::print_decimal(libc::STDOUT_FILENO, sum as u64);
-    io::write_all(libc::STDOUT_FILENO, b"\n");
+    let sum = ask_all(
+        all,
+        number(&rt, 2),
+        &file[..n],
+        &mut row,
+        &capture,
+        &mut out,
+    );
+    println!(rt; "{sum}")
 }

@@ -15,7 +15,7 @@ use scope::limits::MESSAGES;
 
 // How many triples were kept and the last of them, zeros where there is none; whether some message was seen on two links in one slot;
 // and whether the next triple is bad, after which no more is kept.
-#[derive(Drop)]
+#[derive(Clone, Copy)]
 pub struct Kept {
     pub count: usize,
     pub slot: usize,

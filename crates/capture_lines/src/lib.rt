@@ -16,7 +16,7 @@ use capture::Kept;
 use text::goes_on;
 
 // A line that is being read: how many of its numbers are, whether a digit of the next is and what its digits say, and the last two numbers.
-#[derive(Drop)]
+#[derive(Clone, Copy)]
 pub struct Line {
     pub numbers: usize,
     pub begun: bool,
@@ -26,14 +26,14 @@ pub struct Line {
 }
 
 // What is read: what is kept of the triples of whole lines, and the line in whose midst the text is.
-#[derive(Drop)]
+#[derive(Clone, Copy)]
 pub struct Reading {
     pub kept: Kept,
     pub line: Line,
 }
 
 // What a byte does to a line: it goes on, it ends, or it is out of form.
-#[derive(Drop)]
+#[derive(Clone, Copy)]
 pub enum Step {
     On(Line),
     End,

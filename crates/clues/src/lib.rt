@@ -15,7 +15,7 @@ use scope::limits::{LINKS, MESSAGES};
 use step::Standing;
 
 // What a slot says of the cuts: nothing, where its crossings are those of the table; a link that is cut; or that there is no list.
-#[derive(Drop)]
+#[derive(Clone, Copy)]
 pub enum Clue {
     Nothing,
     Link(usize),
@@ -23,7 +23,7 @@ pub enum Clue {
 }
 
 // What a slot says, and where the messages stand after it, where it says nothing.
-#[derive(Drop)]
+#[derive(Clone, Copy)]
 pub struct Seen {
     pub clue: Clue,
     pub next: Standing,
@@ -31,7 +31,7 @@ pub struct Seen {
 
 // What the table says of the lists that go on from here: that none has its crossings; else how many links are named, and what is down with
 // all that are.
-#[derive(Drop)]
+#[derive(Clone, Copy)]
 pub struct Suspicion {
     pub hopeless: bool,
     pub named: usize,

@@ -13,18 +13,18 @@ ghost use Rattle.program_io.specs.Came.{Came, plan_file};
 use scope::{Answer, limits};
 
 // What is printed for what was read, the first p bytes of a buffer: the text of the whole plan file, however long it is.
-fn text(plan: &[u8], p: usize, out: &mut [u8]) -> Answer
+fn text(rt: &HostRuntime, plan: &[u8], p: usize, out: &mut [u8]) -> Answer
     requires { Came plan_file p plan.now × (length plan.now ≡ plan_room) × (length out.old ≡ verdict_room) }
     ensures { (file : List ℕ) → Front plan.now p file → PrintedOne (DeepText file) out.old
         out.new result }
 {
-    whole_verdict::text(b"deep", 3, plan, p, out)
+    whole_verdict::text(rt, b"deep", 3, plan, p, out)
 }
 
-fn main() {
+fn main(rt: HostRuntime) {
     let mut plan = [0u8; limits::PLAN_ROOM];
     let mut out = [0u8; verdict_text::ROOM];
-    let p = program_io::read_plan(b"deep", &mut plan);
-    let answer = text(&plan, p, &mut out);
-    program_io::print(b"deep", answer, &out);
+    let p = program_io::read_plan(&rt, b"deep", &mut plan);
+    let answer = text(&rt, &plan, p, &mut out);
+    program_io::print(&rt, b"deep", answer, &out);
 }

@@ -34,7 +34,7 @@ enum Told {
 }
 
 // Reads standard input to its end. A loop that is proved must end: it takes at most 2^64 - 1 turns, and says so where that is not enough.
-fn read_capture(row: &[u16], crossed: &mut [u8]) -> Input
+fn read_capture(rt: &HostRuntime, row: &[u16], crossed: &mut [u8]) -> Input
     requires { MayStart row.now crossed.old }
     ensures { Captured (plan_of row.now) crossed.new result }
 {
@@ -42,7 +42,7 @@ fn read_capture(row: &[u16], crossed: &mut [u8]) -> Input
     let mut reading = capture_lines::begin();
     let mut turn: u64 = 0;
     while turn < u64::MAX {
-        let read = program_io::read_piece(b"explain", turn, &mut piece);
+        let read = program_io::read_piece(rt, b"explain", turn, &mut piece);
         match read {
             Read::Failed => return Input::Failed,
             Read::Bytes(n) => {
@@ -55,6 +55,7 @@ fn read_capture(row: &[u16], crossed: &mut [u8]) -> Input
         }
     }
     program_io::say(
+        rt,
         b"explain",
         b": standard input did not end in ",
         turn,
@@ -77,12 +78,12 @@ fn printed(row: &[u16], kept: Kept, crossed: &[u8], out: &mut [u8]) -> Answer
 }
 
 // What is printed of a good row, for the input that comes.
-fn of_row(row: &[u16], out: &mut [u8]) -> Told
+fn of_row(rt: &HostRuntime, row: &[u16], out: &mut [u8]) -> Told
     requires { GoodRow row.now × (length out.old ≡ explain_room) }
     ensures { ShowsRow row.now out.old out.new result }
 {
     let mut crossed = [0u8; limits::CROSSED];
-    let input = read_capture(row, &mut crossed);
+    let input = read_capture(rt, row, &mut crossed);
     match input {
         Input::Whole(kept) => Told::Text(printed(row, kept, &crossed, out)),
         Input::Failed => Told::Nothing,
@@ -91,24 +92,24 @@ fn of_row(row: &[u16], out: &mut [u8]) -> Told
 
 // What is printed for what was read, the first p bytes of a buffer and all of standard input: the text of the whole plan file, however long
 // it is.
-fn text(plan: &[u8], p: usize, out: &mut [u8]) -> Told
+fn text(rt: &HostRuntime, plan: &[u8], p: usize, out: &mut [u8]) -> Told
     requires { Came plan_file p plan.now × (length plan.now ≡ plan_room) × (length out.old ≡ explain_room) }
     ensures { Shows plan.now p out.old out.new result }
 {
     let mut row = [0u16; limits::ROW];
     let read = plan::read_file(&plan[..p], &mut row);
     match read {
-        Answer::Gives(n) => of_row(&row[..n], out),
+        Answer::Gives(n) => of_row(rt, &row[..n], out),
         Answer::Refused(refusal) => Told::Text(listing::refusal_text(refusal, out)),
     }
 }
 
-fn main() {
+fn main(rt: HostRuntime) {
     let mut plan = [0u8; limits::PLAN_ROOM];
     let mut out = [0u8; explain_text::ROOM];
-    let p = program_io::read_plan(b"explain", &mut plan);
-    let shown = text(&plan, p, &mut out);
+    let p = program_io::read_plan(&rt, b"explain", &mut plan);
+    let shown = text(&rt, &plan, p, &mut out);
     if let Told::Text(answer) = shown {
-        program_io::print(b"explain", answer, &out);
+        program_io::print(&rt, b"explain", answer, &out);
     }
 }

@@ -21,14 +21,14 @@ use scope::limits::{CUT_NUMBERS, LINKS, MESSAGES};
 use step::Standing;
 
 // A list that matches; or none.
-#[derive(Drop)]
+#[derive(Clone, Copy)]
 pub struct Found {
     pub found: bool,
     pub numbers: [u16; CUT_NUMBERS],
 }
 
 // The first list that matches, with its pairs; or none.
-#[derive(Drop)]
+#[derive(Clone, Copy)]
 pub struct Hunted {
     pub found: bool,
     pub pairs: usize,

@@ -15,7 +15,7 @@ use picks::Sizes;
 use scope::limits::{CROSSED, CUTS, TABLE};
 use scope::{Answer, Refusal, refusal_at};
 
-#[derive(Drop)]
+#[derive(Clone, Copy)]
 pub enum Explanation {
     Unexplained,
     Listed(usize),

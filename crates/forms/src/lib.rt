@@ -16,7 +16,7 @@ use grammar::{opening, step, width};
 use scope::{Answer, refuse};
 
 // What is found in a file: the answer of its walk, and how many numbers its row has.
-#[derive(Drop)]
+#[derive(Clone, Copy)]
 pub struct Unpacked {
     pub answer: Answer,
     pub count: usize,

@@ -74,7 +74,8 @@ slot-from rank down owner i e k ps h =
 -- counting
 module _ (rank : ℕ → ℕ) (m e : ℕ) where
   one : (b x y : Bool) → (y ≡ true → x ≡ true) → cond (b && y) 1 0 ≤ cond (b && x) 1 0
-  one true true y h = elim y [ true ↦ omega arith | false ↦ omega arith ]
+  one true true true h = omega arith
+  one true true false h = omega arith
   one true false true h = absurd (true≢false (sym (h refl)))
   one true false false h = omega arith
   one false x y h = omega arith

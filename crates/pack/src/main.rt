@@ -20,21 +20,21 @@ fn packed(text: &[u8], n: usize, plan: &mut [u8]) -> Answer
 }
 
 // The line of a refusal.
-fn refuse(refusal: Refusal) {
+fn refuse(rt: &HostRuntime, refusal: Refusal) {
     let mut out = [0u8; listing::REFUSAL_ROOM];
     let said = listing::refusal_text(refusal, &mut out);
-    program_io::print(b"pack", said, &out);
+    program_io::print(rt, b"pack", said, &out);
 }
 
-fn main() {
+fn main(rt: HostRuntime) {
     let mut text = [0u8; row_text::TEXT_ROOM];
     let mut plan = [0u8; limits::FILE];
-    let read = program_io::read_input(b"pack", &mut text);
+    let read = program_io::read_input(&rt, b"pack", &mut text);
     if let Read::Bytes(n) = read {
         let answer = packed(&text, n, &mut plan);
         match answer {
-            Answer::Gives(bytes) => program_io::save(b"pack", &plan[..bytes]),
-            Answer::Refused(refusal) => refuse(refusal),
+            Answer::Gives(bytes) => program_io::save(&rt, b"pack", &plan[..bytes]),
+            Answer::Refused(refusal) => refuse(&rt, refusal),
         }
     }
 }

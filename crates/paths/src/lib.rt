@@ -12,7 +12,7 @@ ghost use Rattle.rows.specs.Lies.{PlanLies};
 ghost use Rattle.paths.specs.Path.{EndsOf, FirstLinks, Earliest, path_rule, link_rule};
 
 // Both ends of a link.
-#[derive(Drop)]
+#[derive(Clone, Copy)]
 pub struct Ends {
     pub from: usize,
     pub to: usize,
@@ -59,7 +59,7 @@ pub fn ends_of(row: &[u16], e: usize) -> Ends
 }
 
 // A fault of a path: the rule that is broken, by its number in the order in which rules are asked, and where: message, place and step.
-#[derive(Drop)]
+#[derive(Clone, Copy)]
 pub struct Fault {
     pub rule: usize,
     pub message: usize,

@@ -13,7 +13,7 @@ use scope::limits::{CUT_NUMBERS, LINKS};
 use step::Standing;
 
 // The sizes of a plan, its timeout, links and messages; and the other way of each link.
-#[derive(Drop)]
+#[derive(Clone, Copy)]
 pub struct Sizes {
     pub timeout: usize,
     pub links: usize,
@@ -23,7 +23,7 @@ pub struct Sizes {
 
 // The pairs picked so far: how many, the place from which the next one is to be picked, their numbers, what is down from the last one's slot
 // on, and which links no later pair may name: those that are named already, and those that are the higher ones of their cables.
-#[derive(Drop)]
+#[derive(Clone, Copy)]
 pub struct Picked {
     pub count: usize,
     pub slot: usize,

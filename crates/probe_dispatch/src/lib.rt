@@ -14,7 +14,7 @@ use probe_questions::{OfPlace, of_place};
 use text::stands;
 
 // The questions.
-#[derive(Drop)]
+#[derive(Clone, Copy)]
 pub enum Question {
     Read,
     Write,

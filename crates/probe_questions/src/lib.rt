@@ -5,7 +5,7 @@
 #![tactic(auto)]
 
 ghost use Rattle.std.specs.Prelude.{◌+◌, ◌≤◌, ◌<◌, ◌*◌, ◌^◌, ◌≡◌, length, set, replicate};
-ghost use Rattle.scope.specs.Outcome.{outcome_of, result};
+ghost use Rattle.scope.specs.Outcome.{outcome_of, result as result_of};
 ghost use Rattle.scope.specs.Plan.{timeout_of, message_count};
 ghost use Rattle.text.specs.Text.{Puts};
 ghost use Rattle.probe_words.specs.Words.{filler, filler16};
@@ -23,7 +23,7 @@ use verdicts::Ruling;
 const MARGIN: usize = 16;
 
 fn count(answer: Answer) -> usize
-    ensures* { λ r. ⌜ r ≡ result (outcome_of answer) ⌝ }
+    ensures { result ≡ result_of (outcome_of answer) }
 {
     match answer {
         Answer::Gives(n) => n,
@@ -34,7 +34,7 @@ fn count(answer: Answer) -> usize
 // The numbers of a file, into a lent row of so much room.
 pub fn read(file: &[u8], room: usize, lent: &mut [u16], out: &mut [u8], at: usize) -> usize
     requires { (room < 65536) × (at ≤ 2 ^ 63) }
-    ensures* { λ r. ⌜ Puts (read_answer (length lent.old) file.now room) out.old out.new at r ⌝ }
+    ensures { Puts (read_answer (length lent.old) file.now room) out.old out.new at result }
 {
     let all = room + MARGIN;
     if lent.len() < all {
@@ -48,7 +48,7 @@ pub fn read(file: &[u8], room: usize, lent: &mut [u16], out: &mut [u8], at: usiz
 // ROOM ROW...
 pub fn write(given: &[u16], lent: &mut [u8], out: &mut [u8], at: usize) -> usize
     requires { at ≤ 2 ^ 63 }
-    ensures* { λ r. ⌜ Puts (write_answer (length lent.old) given.now) out.old out.new at r ⌝ }
+    ensures { Puts (write_answer (length lent.old) given.now) out.old out.new at result }
 {
     let room = rows::number(given, 0);
     let all = room + MARGIN;
@@ -65,7 +65,7 @@ pub fn write(given: &[u16], lent: &mut [u8], out: &mut [u8], at: usize) -> usize
 
 // How many numbers the events of a row's cycle are.
 fn events(row: &[u16]) -> usize
-    ensures* { λ r. ⌜ r ≡ timeout_of row.now * (2 * message_count row.now) ⌝ }
+    ensures { result ≡ timeout_of row.now * (2 * message_count row.now) }
 {
     rows::timeout(row) * (2 * rows::messages(row))
 }
@@ -73,7 +73,7 @@ fn events(row: &[u16]) -> usize
 // ROOM C c... ROW..., where C says how many numbers of cuts follow
 pub fn replay(given: &[u16], lent: &mut [u16], out: &mut [u8], at: usize) -> usize
     requires { at ≤ 2 ^ 63 }
-    ensures* { λ r. ⌜ Puts (replay_answer (length lent.old) given.now) out.old out.new at r ⌝ }
+    ensures { Puts (replay_answer (length lent.old) given.now) out.old out.new at result }
 {
     let room = rows::number(given, 0);
     let split = rows::number(given, 1) + 2;
@@ -92,7 +92,7 @@ pub fn replay(given: &[u16], lent: &mut [u16], out: &mut [u8], at: usize) -> usi
 // A verdict: resistant, or how many pairs with their numbers.
 fn told_ruling(ruling: Ruling, lent: &[u16], out: &mut [u8], at: usize) -> usize
     requires { Near at lent.now }
-    ensures* { λ r. ⌜ Puts (ruling_line ruling lent.now) out.old out.new at r ⌝ }
+    ensures { Puts (ruling_line ruling lent.now) out.old out.new at result }
 {
     match ruling {
         Ruling::Resistant => told_none(b"ok resistant", lent, out, at),
@@ -104,7 +104,7 @@ fn told_ruling(ruling: Ruling, lent: &[u16], out: &mut [u8], at: usize) -> usize
 // K L ROOM ROW...
 pub fn verdict(given: &[u16], lent: &mut [u16], out: &mut [u8], at: usize) -> usize
     requires { at ≤ 2 ^ 63 }
-    ensures* { λ r. ⌜ Lays (Judges (length lent.old) given.now) out.old out.new at r ⌝ }
+    ensures { Lays (Judges (length lent.old) given.now) out.old out.new at result }
 {
     let k = rows::number(given, 0);
     let l = rows::number(given, 1);
@@ -124,7 +124,7 @@ pub fn verdict(given: &[u16], lent: &mut [u16], out: &mut [u8], at: usize) -> us
 // An explanation: that there is none, or how many pairs with their numbers.
 fn told_explanation(explanation: Explanation, lent: &[u16], out: &mut [u8], at: usize) -> usize
     requires { Near at lent.now }
-    ensures* { λ r. ⌜ Puts (explanation_line explanation lent.now) out.old out.new at r ⌝ }
+    ensures { Puts (explanation_line explanation lent.now) out.old out.new at result }
 {
     match explanation {
         Explanation::Unexplained => told_none(b"ok unexplained", lent, out, at),
@@ -136,7 +136,7 @@ fn told_explanation(explanation: Explanation, lent: &[u16], out: &mut [u8], at: 
 // K ROOM COUNT n... ROW..., where COUNT says how many numbers of the capture follow
 pub fn explain(given: &[u16], lent: &mut [u16], out: &mut [u8], at: usize) -> usize
     requires { at ≤ 2 ^ 63 }
-    ensures* { λ r. ⌜ Lays (Explains (length lent.old) given.now) out.old out.new at r ⌝ }
+    ensures { Lays (Explains (length lent.old) given.now) out.old out.new at result }
 {
     let k = rows::number(given, 0);
     let room = rows::number(given, 1);
@@ -161,7 +161,7 @@ pub fn explain(given: &[u16], lent: &mut [u16], out: &mut [u8], at: usize) -> us
 // K ROW...
 pub fn figure(given: &[u16], out: &mut [u8], at: usize) -> usize
     requires { at ≤ 2 ^ 63 }
-    ensures* { λ r. ⌜ Puts (figure_answer given.now) out.old out.new at r ⌝ }
+    ensures { Puts (figure_answer given.now) out.old out.new at result }
 {
     let k = rows::number(given, 0);
     if given.len() < 1 {
@@ -174,7 +174,7 @@ pub fn figure(given: &[u16], out: &mut [u8], at: usize) -> usize
 // K ROOM ROW...
 pub fn figures(given: &[u16], lent: &mut [u16], out: &mut [u8], at: usize) -> usize
     requires { at ≤ 2 ^ 63 }
-    ensures* { λ r. ⌜ Puts (figures_answer (length lent.old) given.now) out.old out.new at r ⌝ }
+    ensures { Puts (figures_answer (length lent.old) given.now) out.old out.new at result }
 {
     let k = rows::number(given, 0);
     let room = rows::number(given, 1);
@@ -193,7 +193,7 @@ pub fn figures(given: &[u16], lent: &mut [u16], out: &mut [u8], at: usize) -> us
 // A second path, which has at most 16 links.
 fn second_row(row: &[u16], m: usize, p: usize, out: &mut [u8], at: usize) -> usize
     requires { at ≤ 2 ^ 63 }
-    ensures* { λ r. ⌜ Puts (second_line row.now m p) out.old out.new at r ⌝ }
+    ensures { Puts (second_line row.now m p) out.old out.new at result }
 {
     let links = plan::second_path(row, m, p);
     if 65536 < links.len() {
@@ -205,7 +205,7 @@ fn second_row(row: &[u16], m: usize, p: usize, out: &mut [u8], at: usize) -> usi
 // Where in the row the second path's links begin, 0 where there is none, and how many there are.
 fn where_row(row: &[u16], m: usize, p: usize, out: &mut [u8], at: usize) -> usize
     requires { at ≤ 2 ^ 63 }
-    ensures* { λ r. ⌜ Puts (where_line row.now m p) out.old out.new at r ⌝ }
+    ensures { Puts (where_line row.now m p) out.old out.new at result }
 {
     let links = plan::second_path(row, m, p);
     let index = plan::second_index(row, m, p);
@@ -215,7 +215,7 @@ fn where_row(row: &[u16], m: usize, p: usize, out: &mut [u8], at: usize) -> usiz
 // The slack, or the refusal.
 fn slack_row(row: &[u16], m: usize, p: usize, out: &mut [u8], at: usize) -> usize
     requires { at ≤ 2 ^ 63 }
-    ensures* { λ r. ⌜ Puts (spare_line row.now m p) out.old out.new at r ⌝ }
+    ensures { Puts (spare_line row.now m p) out.old out.new at result }
 {
     let spare = spare::slack(row, m, p);
     match spare {
@@ -225,7 +225,7 @@ fn slack_row(row: &[u16], m: usize, p: usize, out: &mut [u8], at: usize) -> usiz
 }
 
 // What is asked of a message's place.
-#[derive(Drop)]
+#[derive(Clone, Copy)]
 pub enum OfPlace {
     Slack,
     Second,
@@ -235,7 +235,7 @@ pub enum OfPlace {
 // MESSAGE PLACE ROW...
 pub fn of_place(asks: OfPlace, given: &[u16], out: &mut [u8], at: usize) -> usize
     requires { at ≤ 2 ^ 63 }
-    ensures* { λ r. ⌜ Puts (place_answer asks given.now) out.old out.new at r ⌝ }
+    ensures { Puts (place_answer asks given.now) out.old out.new at result }
 {
     let m = rows::number(given, 0);
     let p = rows::number(given, 1);
@@ -251,7 +251,7 @@ pub fn of_place(asks: OfPlace, given: &[u16], out: &mut [u8], at: usize) -> usiz
 
 // A lent row that is filled, but for the number at an index; and the same with bytes.
 fn spoil_number(lent: &mut [u16], index: usize)
-    ensures* { λ r. ⌜ lent.new ≡ set (replicate (length lent.old) filler16) index 0 ⌝ }
+    ensures { lent.new ≡ set (replicate (length lent.old) filler16) index 0 }
 {
     probe_words::fill_16(lent);
     if index < lent.len() {
@@ -260,7 +260,7 @@ fn spoil_number(lent: &mut [u16], index: usize)
 }
 
 fn spoil_byte(lent: &mut [u8], index: usize)
-    ensures* { λ r. ⌜ lent.new ≡ set (replicate (length lent.old) filler) index 0 ⌝ }
+    ensures { lent.new ≡ set (replicate (length lent.old) filler) index 0 }
 {
     probe_words::fill(lent);
     if index < lent.len() {
@@ -271,7 +271,7 @@ fn spoil_byte(lent: &mut [u8], index: usize)
 // What is told of it by a call that is taken to have written nothing.
 fn spoil_row(index: usize, lent: &mut [u16], out: &mut [u8], at: usize) -> usize
     requires { at ≤ 2 ^ 63 }
-    ensures* { λ r. ⌜ Puts (spoilt_row (length lent.old) index) out.old out.new at r ⌝ }
+    ensures { Puts (spoilt_row (length lent.old) index) out.old out.new at result }
 {
     if lent.len() < MARGIN {
         return unknown(out, at);
@@ -282,7 +282,7 @@ fn spoil_row(index: usize, lent: &mut [u16], out: &mut [u8], at: usize) -> usize
 
 fn spoil_bytes(index: usize, lent: &mut [u8], out: &mut [u8], at: usize) -> usize
     requires { at ≤ 2 ^ 63 }
-    ensures* { λ r. ⌜ Puts (spoilt_bytes (length lent.old) index) out.old out.new at r ⌝ }
+    ensures { Puts (spoilt_bytes (length lent.old) index) out.old out.new at result }
 {
     if lent.len() < MARGIN {
         return unknown(out, at);
@@ -294,8 +294,8 @@ fn spoil_bytes(index: usize, lent: &mut [u8], out: &mut [u8], at: usize) -> usiz
 // BITS INDEX, which shows that a spoilt buffer is told: 16 for a row, and else bytes.
 pub fn spoil(given: &[u16], lent: &mut [u16], file: &mut [u8], out: &mut [u8], at: usize) -> usize
     requires { at ≤ 2 ^ 63 }
-    ensures* { λ r. ⌜ Puts (spoil_answer (length lent.old) (length file.old) given.now)
-        out.old out.new at r ⌝ }
+    ensures { Puts (spoil_answer (length lent.old) (length file.old) given.now)
+        out.old out.new at result }
 {
     let bits = rows::number(given, 0);
     let index = rows::number(given, 1);

@@ -15,7 +15,7 @@ use bits::byte;
 use text::{Number, number_at, put_decimal, put_word};
 
 // How many things were read from a line, and whether it has nothing else.
-#[derive(Drop)]
+#[derive(Clone, Copy)]
 pub struct Count {
     pub n: usize,
     pub good: bool,

@@ -1,9 +1,6 @@
 -- What came lies within its buffer.
-use Prim.Native.Nat.{ℕ, ◌≤◌}
-use mathlib.Core.Path.{◌≡◌, sym}
-use mathlib.Core.List.{List}
-use lib.ListN.{length, take}
-use lib.Seq.{length-take-le}
+use Rattle.std.proofs.Common.{ℕ, ◌≤◌, ◌≡◌, sym, List, length, take}
+use Rattle.std.proofs.lemmas.List.{length-take-le}
 use Rattle.program_io.specs.declared.Read.{Read}
 use Rattle.program_io.specs.declared.Read.TheVariants.{Bytes}
 use Rattle.program_io.specs.Came.{Source, standard_input, Came, Reads}

@@ -1,7 +1,7 @@
 -- What reading gives. Which bytes an operating system hands over no definition can say; that they were asked for, and that asking did not
 -- fail, can be kept apart from a number that was made up.
 use Rattle.std.specs.Prelude.{ℕ, ◌≤◌, ◌≡◌, Bool, true, List, [], ◌∷◌, length}
-use Rattle.io.specs.Counts.{IsPrefixLen}
+use Rattle.program_io.specs.Counts.{IsPrefixLen}
 use Rattle.scope.specs.declared.Answer.{Answer}
 use Rattle.scope.specs.Outcome.{outcome_of, gives}
 use Rattle.program_io.specs.declared.Read.{Read}

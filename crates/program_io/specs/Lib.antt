@@ -1,3 +1,4 @@
 pub mod Came
+pub mod Counts
 pub mod More
 pub mod Pieces

@@ -1,7 +1,7 @@
 -- What comes from standard input piece by piece. As with `Came`, only the functions of this crate say so, and no proof of another crate unfolds
 -- it: a program that leaves out a piece, invents one, or takes a failed read for the end, is refused.
 use Rattle.std.specs.Prelude.{ℕ, ◌+◌, ◌≡◌, List, ◌++◌, take}
-use Rattle.io.specs.Counts.{IsPrefixLen}
+use Rattle.program_io.specs.Counts.{IsPrefixLen}
 use Rattle.program_io.specs.declared.Read.{Read}
 use Rattle.program_io.specs.declared.Read.TheVariants.{Bytes, Failed}
 

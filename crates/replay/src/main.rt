@@ -27,14 +27,14 @@ fn text(plan: &[u8], p: usize, input: &[u8], i: usize, out: &mut [u8]) -> Answer
     }
 }
 
-fn main() {
+fn main(rt: HostRuntime) {
     let mut plan = [0u8; limits::PLAN_ROOM];
     let mut input = [0u8; limits::CUTS_ROOM];
     let mut out = [0u8; listing::ROOM];
-    let p = program_io::read_plan(b"replay", &mut plan);
-    let read = program_io::read_input(b"replay", &mut input);
+    let p = program_io::read_plan(&rt, b"replay", &mut plan);
+    let read = program_io::read_input(&rt, b"replay", &mut input);
     if let Read::Bytes(i) = read {
         let answer = text(&plan, p, &input, i, &mut out);
-        program_io::print(b"replay", answer, &out);
+        program_io::print(&rt, b"replay", answer, &out);
     }
 }

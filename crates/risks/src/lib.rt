@@ -15,14 +15,14 @@ use scope::limits::{MESSAGES, PLANE, SLOTS};
 use step::{Position, Standing};
 
 // The sets of messages that the pairs picked touch and strip.
-#[derive(Drop)]
+#[derive(Clone, Copy)]
 pub struct Hits {
     pub touched: u32,
     pub stripped: u32,
 }
 
 // How many messages, of those that are not at their targets, the pairs picked touch, strip, and both touch and strip.
-#[derive(Drop)]
+#[derive(Clone, Copy)]
 pub struct Risk {
     pub touched: usize,
     pub stripped: usize,
@@ -30,7 +30,7 @@ pub struct Risk {
 }
 
 // How many messages can be touched and stripped, and how many of both together, where some pairs are still to come.
-#[derive(Drop)]
+#[derive(Clone, Copy)]
 pub struct Loss {
     pub touches: usize,
     pub strips: usize,
@@ -38,7 +38,7 @@ pub struct Loss {
 }
 
 // The same without the next pair, after which so many pairs are still to come; and how many messages the pairs picked touch and strip.
-#[derive(Drop)]
+#[derive(Clone, Copy)]
 pub struct Rest {
     pub touched: usize,
     pub stripped: usize,

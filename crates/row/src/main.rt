@@ -22,10 +22,10 @@ fn text(plan: &[u8], p: usize, out: &mut [u8]) -> Answer
     }
 }
 
-fn main() {
+fn main(rt: HostRuntime) {
     let mut plan = [0u8; limits::PLAN_ROOM];
     let mut out = [0u8; row_text::ROOM];
-    let p = program_io::read_plan(b"row", &mut plan);
+    let p = program_io::read_plan(&rt, b"row", &mut plan);
     let answer = text(&plan, p, &mut out);
-    program_io::print(b"row", answer, &out);
+    program_io::print(&rt, b"row", answer, &out);
 }

@@ -63,7 +63,7 @@ pub fn place_slot(row: &[u16], i: usize) -> usize
 
 // A place as the row has it: its link and slot, where its second path begins and how many links that has, 0 where there is none, and
 // where the next place stands. What a place's numbers are is known to these two alone.
-#[derive(Drop)]
+#[derive(Clone, Copy)]
 pub struct RowPlace {
     pub link: usize,
     pub slot: usize,
@@ -144,7 +144,7 @@ pub fn place_index(row: &[u16], m: usize, p: usize) -> usize
 }
 
 // Where the second path of message m from place p stands in a row: from one index to another, both 0 where there is none.
-#[derive(Drop)]
+#[derive(Clone, Copy)]
 pub struct Span {
     pub from: usize,
     pub to: usize,

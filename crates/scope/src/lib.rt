@@ -11,7 +11,7 @@ pub mod limits;
 
 // A refusal: its number, and its place; of a rule of paths the place is the message, and with it come the place on its first path and
 // the step, zero in every other refusal. One struct in every answer.
-#[derive(Drop)]
+#[derive(Clone, Copy)]
 pub struct Refusal {
     pub no: usize,
     pub place: usize,
@@ -20,7 +20,7 @@ pub struct Refusal {
 }
 
 // An answer that is one number: a count of numbers or bytes, or the number of arrivals.
-#[derive(Drop)]
+#[derive(Clone, Copy)]
 pub enum Answer {
     Gives(usize),
     Refused(Refusal),
@@ -54,7 +54,7 @@ pub fn refuse(no: usize, place: usize) -> Answer
 
 // The next field of a plan after its edition, with how many of each kind follow. The counts are those of the file, "less one":
 // how many come after this one.
-#[derive(Drop)]
+#[derive(Clone, Copy)]
 pub enum Field {
     Vertices,
     Links,
@@ -101,7 +101,7 @@ pub enum Field {
 }
 
 // Where a reader or writer of fields stands: the width of a slot in this edition, and the field that comes next.
-#[derive(Drop)]
+#[derive(Clone, Copy)]
 pub struct Fields {
     pub slot: usize,
     pub next: Field,

@@ -17,7 +17,7 @@ use scope::limits::CUT_NUMBERS;
 use step::Standing;
 
 // What is asked of a plan: its sizes, the least number of arrivals, and what a list must weigh to leave fewer.
-#[derive(Drop)]
+#[derive(Clone, Copy)]
 pub struct Asked {
     pub sizes: Sizes,
     pub least: usize,
@@ -25,7 +25,7 @@ pub struct Asked {
 }
 
 // A list that answers, with its arrivals; or none.
-#[derive(Drop)]
+#[derive(Clone, Copy)]
 pub struct Found {
     pub found: bool,
     pub arrivals: usize,
@@ -33,7 +33,7 @@ pub struct Found {
 }
 
 // The first list that answers, with its pairs and arrivals; or none.
-#[derive(Drop)]
+#[derive(Clone, Copy)]
 pub struct Hunted {
     pub found: bool,
     pub pairs: usize,

@@ -21,7 +21,7 @@ use verdict_lines::spaced;
 pub const SUMS: usize = 1 + CUTS;
 
 // For each k how many plans with a figure for it lose nothing, and the sum of losses.
-#[derive(Drop)]
+#[derive(Clone, Copy)]
 pub struct Tally {
     pub unharmed: [usize; SUMS],
     pub lost: [usize; SUMS],

@@ -7,12 +7,12 @@
 use program_io::Read;
 use scope::limits;
 
-fn main() {
+fn main(rt: HostRuntime) {
     let mut input = [0u8; limits::NAMES_ROOM];
     let mut out = [0u8; shelf_text::ROOM];
-    let read = program_io::read_input(b"shelf", &mut input);
+    let read = program_io::read_input(&rt, b"shelf", &mut input);
     if let Read::Bytes(n) = read {
-        let answer = whole_shelf::text(&input, n, &mut out);
-        program_io::print(b"shelf", answer, &out);
+        let answer = whole_shelf::text(&rt, &input, n, &mut out);
+        program_io::print(&rt, b"shelf", answer, &out);
     }
 }

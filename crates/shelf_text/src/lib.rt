@@ -15,7 +15,7 @@ use sheet_lines::Tally;
 pub const ROOM: usize = 88752;
 
 // The index after a plan's line, and the sums with that plan.
-#[derive(Drop)]
+#[derive(Clone, Copy)]
 pub struct Laid {
     pub next: usize,
     pub tally: Tally,

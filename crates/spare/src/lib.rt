@@ -17,7 +17,7 @@ ghost use Rattle.spare.specs.Slack.{Slacks};
 use scope::{Answer, Refusal, refusal_at};
 
 // An answer that is a slack, below, at or above zero.
-#[derive(Drop)]
+#[derive(Clone, Copy)]
 pub enum Spare {
     Slots(i32),
     Refused(Refusal),

@@ -26,10 +26,10 @@ use scope::limits::{MESSAGES, SLOT_EVENTS, TRIES};
 
 // "Slot numbers run from 0 to t − 1; times run from 0 to t. What happens in slot i leads from time i to time i + 1." A time is made
 // as the first one and by the slot step (`Standing::after` and `told`) alone, and a slot is made from a time before the timeout alone.
-#[derive(Drop)]
+#[derive(Clone, Copy)]
 pub struct Slot(usize);
 
-#[derive(Drop)]
+#[derive(Clone, Copy)]
 pub struct Time(usize);
 
 impl Time {
@@ -73,7 +73,7 @@ impl Slot {
 }
 
 // What a message does in a slot, one case for each kind, with the link or message that it names.
-#[derive(Drop)]
+#[derive(Clone, Copy)]
 pub enum Event {
     Arrived,
     Waits(u16),
@@ -119,7 +119,7 @@ impl Event {
 
 // Where a message stands: the index in the row of the next place of its first path, or of the next link of the second path that it
 // has turned to, and how many of them are left. Small, since it is copied often.
-#[derive(Drop)]
+#[derive(Clone, Copy)]
 pub struct Position {
     pub at: u16,
     pub left: u16,
@@ -127,14 +127,14 @@ pub struct Position {
 }
 
 // A position with the link before it, and whether that link is down.
-#[derive(Drop)]
+#[derive(Clone, Copy)]
 pub struct Met {
     pub position: Position,
     pub link: u16,
     pub down: bool,
 }
 
-#[derive(Drop)]
+#[derive(Clone, Copy)]
 pub struct Moved {
     pub next: Position,
     pub event: Event,
@@ -461,7 +461,7 @@ fn put_event(out: &mut [u16], k: usize, kind: u16, number: u16)
 }
 
 // How many messages do what was seen of them, the event of the next one, and all records where that is nobody.
-#[derive(Drop)]
+#[derive(Clone, Copy)]
 struct Gone {
     alike: usize,
     kind: u16,
@@ -516,7 +516,7 @@ fn go_all(
 }
 
 // Where all messages stand at a time, one record a message.
-#[derive(Drop)]
+#[derive(Clone, Copy)]
 pub struct Standing {
     time: Time,
     positions: [Position; MESSAGES],
@@ -524,7 +524,7 @@ pub struct Standing {
 
 // How many messages do in a slot what was seen of them, from the first on; the event of the next one, zeros where that is nobody; and where
 // all stand after the slot, if nobody does anything else.
-#[derive(Drop)]
+#[derive(Clone, Copy)]
 pub struct Watched {
     pub alike: usize,
     pub kind: u16,

@@ -112,7 +112,7 @@ pub fn stands(text: &[u8], i: usize, word: &[u8]) -> bool
 }
 
 // A number that was read, and the index behind it.
-#[derive(Drop)]
+#[derive(Clone, Copy)]
 pub struct Number {
     pub value: usize,
     pub next: usize,

@@ -15,7 +15,7 @@ use scope::{Answer, Refusal, refusal_at};
 use search::{Asked, Hunted};
 use step::Standing;
 
-#[derive(Drop)]
+#[derive(Clone, Copy)]
 pub enum Ruling {
     Resistant,
     Failing(usize),
@@ -23,7 +23,7 @@ pub enum Ruling {
 }
 
 // The sizes of a good row's plan, and where its messages stand at the start.
-#[derive(Drop)]
+#[derive(Clone, Copy)]
 pub struct Opening {
     pub sizes: Sizes,
     pub standing: Standing,

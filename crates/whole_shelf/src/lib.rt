@@ -18,28 +18,28 @@ use sheet_lines::Tally;
 use shelf_text::Laid;
 
 // One plan: its file is read by its name, and its line is laid.
-fn shelve(name: &[u8], t: Tally, out: &mut [u8], at: usize) -> Laid
+fn shelve(rt: &HostRuntime, name: &[u8], t: Tally, out: &mut [u8], at: usize) -> Laid
     requires { MayLay name.now t at }
     ensures { ReadAndLaid name.now t out.old out.new at result }
 {
     let mut file = [0u8; limits::PLAN_ROOM];
-    let n = program_io::read_named(b"shelf", name, &mut file);
+    let n = program_io::read_named(rt, b"shelf", name, &mut file);
     shelf_text::plan_line(&file[..n], name, t, out, at)
 }
 
 // On standard error, how many plans are done, once in each second that the clock shows; the second when it was last said.
-fn progress(done: usize, count: usize, last: i64) -> i64 {
-    let now = program_io::seconds();
+fn progress(rt: &HostRuntime, done: usize, count: usize, last: i64) -> i64 {
+    let now = program_io::seconds(rt);
     if now == last {
         return last;
     }
-    program_io::say(b"shelf", b": ", done as u64, b" of ");
-    program_io::say(b"", b"", count as u64, b" plans are done\n");
+    program_io::say(rt, b"shelf", b": ", done as u64, b" of ");
+    program_io::say(rt, b"", b"", count as u64, b" plans are done\n");
     now
 }
 
 // The sheet of the plans that the lines of a text name: how many bytes it has.
-fn sheet(input: &[u8], count: usize, out: &mut [u8]) -> usize
+fn sheet(rt: &HostRuntime, input: &[u8], count: usize, out: &mut [u8]) -> usize
     requires { MayRead input.now count × (length out.old ≡ sheet_room) }
     ensures { Sheets input.now out.old out.new result }
 {
@@ -47,29 +47,29 @@ fn sheet(input: &[u8], count: usize, out: &mut [u8]) -> usize
     let mut next = 0;
     let mut from = 0;
     let mut done = 0;
-    let mut last = program_io::seconds();
+    let mut last = program_io::seconds(rt);
     while from < input.len() {
         let end = names::name_end(input, from);
-        let laid = shelve(&input[from..end], tally, out, next);
+        let laid = shelve(rt, &input[from..end], tally, out, next);
         let sums = laid.tally;
         tally = sums;
         next = laid.next;
         from = end + 1;
         done += 1;
-        last = progress(done, count, last);
+        last = progress(rt, done, count, last);
     }
     sheet_lines::sum_lines(out, next, tally)
 }
 
 // What is printed for what was read, the first n bytes of a buffer: the text for all of standard input, however long it is, and for the plan
 // files that it names.
-pub fn text(input: &[u8], n: usize, out: &mut [u8]) -> Answer
+pub fn text(rt: &HostRuntime, input: &[u8], n: usize, out: &mut [u8]) -> Answer
     requires { Came standard_input n input.now × (length input.now ≡ names_room) × (length out.old ≡ sheet_room) }
     ensures { (whole : List ℕ) → Front input.now n whole → Shown whole out.old out.new result }
 {
     let checked = names::check_names(&input[..n]);
     match checked {
-        Answer::Gives(count) => Answer::Gives(sheet(&input[..n], count, out)),
+        Answer::Gives(count) => Answer::Gives(sheet(rt, &input[..n], count, out)),
         Answer::Refused(refusal) => listing::refusal_text(refusal, out),
     }
 }

@@ -18,22 +18,22 @@ use scope::{Answer, limits};
 
 // On standard error, how far it is, once the clock shows another second than at the start; and always before what may take minutes, which is
 // k 3 where E × t is above 64.
-fn progress(name: &[u8], row: &[u16], k: usize, start: i64) {
+fn progress(rt: &HostRuntime, name: &[u8], row: &[u16], k: usize, start: i64) {
     let large = k == 3 && verdict_text::highest(row, 1) == 1;
-    if large || program_io::seconds() != start {
-        program_io::say(name, b": trying lists of up to ", k as u64, b" cuts\n");
+    if large || program_io::seconds(rt) != start {
+        program_io::say(rt, name, b": trying lists of up to ", k as u64, b" cuts\n");
     }
 }
 
 // The lines under each k below n.
-fn table(name: &[u8], row: &[u16], n: usize, start: i64, out: &mut [u8]) -> usize
+fn table(rt: &HostRuntime, name: &[u8], row: &[u16], n: usize, start: i64, out: &mut [u8]) -> usize
     requires { GoodRow row.now × (n ≤ 4) }
     ensures { LaidUntil (plan_of row.now) n n out.old out.new result }
 {
     let mut next = 0;
     let mut k = 0;
     while k < n {
-        progress(name, row, k, start);
+        progress(rt, name, row, k, start);
         next = verdict_text::lines_under(row, k, out, next);
         k += 1;
     }
@@ -41,34 +41,48 @@ fn table(name: &[u8], row: &[u16], n: usize, start: i64, out: &mut [u8]) -> usiz
 }
 
 // All lines of a good row.
-fn all_lines(name: &[u8], large: usize, row: &[u16], out: &mut [u8]) -> usize
+fn all_lines(rt: &HostRuntime, name: &[u8], large: usize, row: &[u16], out: &mut [u8]) -> usize
     requires { GoodRow row.now × (large ≤ 3) }
     ensures { Lays (VerdictLines (plan_of row.now) 0 (1 + highest_or large (plan_of row.now))) verdict_room
         out.old out.new 0 result }
 {
-    let start = program_io::seconds();
-    let next = table(name, row, 1 + verdict_text::highest(row, large), start, out);
+    let start = program_io::seconds(rt);
+    let next = table(
+        rt,
+        name,
+        row,
+        1 + verdict_text::highest(row, large),
+        start,
+        out,
+    );
     verdict_text::slack_lines(row, out, next)
 }
 
 // What is printed for a plan file, into as many bytes as every text has room in: how many there are.
-fn whole_text(name: &[u8], large: usize, file: &[u8], out: &mut [u8]) -> Answer
+fn whole_text(rt: &HostRuntime, name: &[u8], large: usize, file: &[u8], out: &mut [u8]) -> Answer
     requires { (large ≤ 3) × (verdict_room ≤ length out.old) }
     ensures { PrintsOne (TextUpTo large file.now) out.old out.new result }
 {
     let mut row = [0u16; limits::ROW];
     let read = plan::read_file(file, &mut row);
     match read {
-        Answer::Gives(n) => Answer::Gives(all_lines(name, large, &row[..n], out)),
+        Answer::Gives(n) => Answer::Gives(all_lines(rt, name, large, &row[..n], out)),
         Answer::Refused(refusal) => listing::refusal_text(refusal, out),
     }
 }
 
 // What is printed for what was read, the first p bytes of a buffer: the text of the whole plan file, however long it is.
-pub fn text(name: &[u8], large: usize, plan: &[u8], p: usize, out: &mut [u8]) -> Answer
+pub fn text(
+    rt: &HostRuntime,
+    name: &[u8],
+    large: usize,
+    plan: &[u8],
+    p: usize,
+    out: &mut [u8],
+) -> Answer
     requires { (large ≤ 3) × Came plan_file p plan.now × (length plan.now ≡ plan_room) × (length out.old ≡ verdict_room) }
     ensures { (file : List ℕ) → Front plan.now p file → PrintedOne (TextUpTo large file) out.old
         out.new result }
 {
-    whole_text(name, large, &plan[..p], out)
+    whole_text(rt, name, large, &plan[..p], out)
 }

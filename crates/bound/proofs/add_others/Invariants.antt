@@ -1,0 +1,12 @@
+use Prim.Native.Nat.{◌-◌}
+use mathlib.Core.Logic.{⊎_elim}
+use borrow.Author.Rules.{rules}
+use Rattle.scope.specs.Limits.{most_links}
+use Rattle.bound.proofs.Others.{AddingOthers, others-none, others-may, others_add, others_skip, others-done}
+use Rattle.bound.proofs.add_others.Given as goal
+
+abbrev pub invariant-loop-e : goal.invariant-loop-e
+invariant-loop-e l = AddingOthers l.others l.slots l.initial.plane l.plane l.e
+
+abbrev pub decreases-loop-e : goal.decreases-loop-e
+decreases-loop-e l = most_links - l.e

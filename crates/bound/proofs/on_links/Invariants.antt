@@ -1,0 +1,12 @@
+use Prim.Native.Nat.{◌-◌}
+use native.Mathlib.Omega.{arith}
+use borrow.Author.Rules.{rules}
+use Rattle.scope.specs.Limits.{most_links}
+use Rattle.bound.proofs.Planes.{Counting, counting_none, counting_more, counting_done}
+use Rattle.bound.proofs.on_links.Given as goal
+
+abbrev pub invariant-loop-e : goal.invariant-loop-e
+invariant-loop-e l = Counting l.seconds l.links l.e
+
+abbrev pub decreases-loop-e : goal.decreases-loop-e
+decreases-loop-e l = most_links - l.e

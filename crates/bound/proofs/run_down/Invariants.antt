@@ -1,0 +1,9 @@
+use borrow.Author.Rules.{rules}
+use Rattle.bound.proofs.Fronting.{Running, running_none, running_more, running_done}
+use Rattle.bound.proofs.run_down.Given as goal
+
+abbrev pub invariant-loop-x : goal.invariant-loop-x
+invariant-loop-x l = Running l.initial.row l.row l.top l.x
+
+abbrev pub decreases-loop-x : goal.decreases-loop-x
+decreases-loop-x l = l.x

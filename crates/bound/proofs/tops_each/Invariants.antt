@@ -1,0 +1,12 @@
+use Prim.Native.Nat.{◌+◌, ◌-◌, ◌*◌}
+use native.Mathlib.Omega.{arith}
+use borrow.Author.Rules.{rules}
+use Rattle.scope.specs.Limits.{most_slots, plane_size}
+use Rattle.bound.proofs.Planes.{Topped, topped_none, topped_more, topped_done}
+use Rattle.bound.proofs.tops_each.Given as goal
+
+abbrev pub invariant-loop-j : goal.invariant-loop-j
+invariant-loop-j l = Topped l.weights l.slots l.most l.j
+
+abbrev pub decreases-loop-j : goal.decreases-loop-j
+decreases-loop-j l = 3 - l.j

@@ -1,0 +1,13 @@
+use Prim.Native.Nat.{◌-◌}
+use native.Mathlib.Omega.{arith}
+use mathlib.Core.Path.{refl}
+use borrow.Author.Rules.{rules}
+use Rattle.bound.proofs.Planes.{Adding, adding_none, adding_small, adding_more, adding_done}
+use borrow.Author.Rules.{rules}
+use Rattle.bound.proofs.weigh_both.Given as goal
+
+abbrev pub invariant-loop-k : goal.invariant-loop-k
+invariant-loop-k l = Adding l.slots l.initial.weights l.weights l.k
+
+abbrev pub decreases-loop-k : goal.decreases-loop-k
+decreases-loop-k l = l.end - l.k

@@ -1,0 +1,19 @@
+-- `faults::bad_slots` meets its contract. The invariant: the places left, from the least slot allowed on, decide. Assumes nothing.
+use Prim.Native.Nat.{◌-◌}
+use mathlib.Core.Path.{◌≡◌, ◌∙◌, sym, ap}
+use mathlib.Core.Bool.{not}
+use native.Mathlib.Omega.{arith}
+use borrow.Author.Rules.{rules}
+use Rattle.scope.specs.Plan.{plan_of, places_at, message_at}
+use Rattle.scope.specs.Good.{slots_rise}
+use Rattle.rows.proofs.Parts.{timeout-is}
+use Rattle.faults.proofs.Laws as law
+use Rattle.faults.proofs.Laws.{Passing}
+use Rattle.faults.proofs.bad_slots.Given as goal
+
+abbrev pub invariant-loop-k : goal.invariant-loop-k
+invariant-loop-k l = Passing l.row l.i l.n l.at l.k ×
+    (slots_rise l.t l.least (places_at l.row l.at (l.n - l.k)) ≡ slots_rise (plan_of l.row).timeout 0 (message_at l.row l.i))
+
+abbrev pub decreases-loop-k : goal.decreases-loop-k
+decreases-loop-k l = l.n - l.k

@@ -1,0 +1,17 @@
+-- `faults::held_below` meets its contract. The invariant: the places left decide. Assumes nothing.
+use Prim.Native.Nat.{◌-◌}
+use mathlib.Core.Path.{◌≡◌, ◌∙◌, sym}
+use native.Mathlib.Omega.{arith}
+use borrow.Author.Rules.{rules}
+use Rattle.scope.specs.Plan.{places_at, message_at}
+use Rattle.faults.specs.Broken.{held_below}
+use Rattle.faults.proofs.Laws as law
+use Rattle.faults.proofs.Laws.{Passing}
+use Rattle.faults.proofs.held_below.Given as goal
+
+abbrev pub invariant-loop-k : goal.invariant-loop-k
+invariant-loop-k l = Passing l.row l.i l.n l.at l.k ×
+    (held_below l.table l.m (places_at l.row l.at (l.n - l.k)) ≡ held_below l.table l.m (message_at l.row l.i))
+
+abbrev pub decreases-loop-k : goal.decreases-loop-k
+decreases-loop-k l = l.n - l.k

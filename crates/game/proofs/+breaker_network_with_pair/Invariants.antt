@@ -1,0 +1,28 @@
+use Prim.Native.Nat.{ℕ, ◌+◌, ◌-◌, ◌*◌, ◌<◌}
+use native.Mathlib.Omega.{arith}
+use borrow.Author.Rules.{rules}
+use mathlib.Core.Path.{sym}
+use Rattle.risks.proofs.Light.{goes_up}
+use Rattle.risks.proofs.Risks.{may-weigh}
+use Rattle.game.proofs.Turns.{room, may-hit, may-cut, picked_in_vain}
+use Rattle.game.proofs.Turns.{Breaking, may_weigh_rest, may_try, over_turned, from-within, breaks-first, may_pick}
+use Rattle.game.proofs.Turns.{still_low, breaks_on, may-pass, passed_on, may_move, ends, may_break}
+use Rattle.game.proofs.+breaker_network_with_pair.Given as goal
+
+abbrev pub invariant-breaker-loop-i : goal.invariant-breaker-loop-i
+invariant-breaker-loop-i l =
+    Breaking l.row l.z l.p l.n l.s l.e l.least l.best l.i
+
+abbrev pub decreases-breaker-loop-i : goal.decreases-breaker-loop-i
+decreases-breaker-loop-i l =
+    l.links - l.i
+
+-- the slots left, then the links unchosen, then whether one is being picked
+abbrev pub decreases-breaker : goal.decreases-breaker
+decreases-breaker l = (l.z.timeout - l.s) * 132 + 2 * (l.z.links - l.e) + 1
+
+abbrev pub decreases-with_pair : goal.decreases-with_pair
+decreases-with_pair l = (l.z.timeout - l.s) * 132 + 2 * (l.z.links - l.e)
+
+abbrev pub decreases-network : goal.decreases-network
+decreases-network l = (l.z.timeout - l.s) * 132

@@ -1,0 +1,6 @@
+-- `grammar::step` meets its contract: the slot stays, and `following` says what comes next. Assumes nothing.
+use borrow.Author.Rules.{rules}
+use Rattle.grammar.proofs.step.Goals as goal
+
+pub returns : goal.returns
+returns c = rw c.following.ensures

@@ -1,0 +1,13 @@
+use Prim.Native.Nat.{◌≤◌, ◌-◌}
+use borrow.Author.Rules.{rules}
+use Rattle.scope.specs.Lines.{event_lines}
+use Rattle.text.proofs.Laid.{Left, left-first, left_is, left-told, left-more, left-done, left-same}
+use Rattle.listing.proofs.Lines.{lines_more, lines_done, lines_first}
+use Rattle.listing.proofs.event_lines.Given as goal
+
+abbrev pub invariant-loop-j : goal.invariant-loop-j
+invariant-loop-j l =
+    (l.j ≤ l.lines) × Left (event_lines l.messages l.events 0 l.lines) l.initial.out l.at (event_lines l.messages l.events l.j (l.lines - l.j)) l.out l.next
+
+abbrev pub decreases-loop-j : goal.decreases-loop-j
+decreases-loop-j l = l.lines - l.j

@@ -1,0 +1,52 @@
+use Prim.Native.Nat.{◌-◌}
+use native.Mathlib.Omega.{arith}
+use mathlib.Core.Path.{◌∙◌, ap}
+use borrow.Author.Rules.{rules}
+use lib.ListN.{length}
+use Rattle.scope.specs.Plan.{plan_of}
+use Rattle.rows.proofs.Parts.{link-count}
+use Rattle.paths.proofs.Walk as law
+use Rattle.paths.proofs.Walk.{Walking, OnLink}
+use Rattle.paths.proofs.path_fault.Goals as goal
+
+pub loop-k-init : goal.loop-k-init
+loop-k-init c = law.walking_first _ _ _ _ c.with-met.ensures _ (ap (λ f. f.rule) c.fault_in-found.ensures)
+
+pub returns-then-links-e : goal.returns-then-links-e
+returns-then-links-e c =
+    let row = c.args.row.now in
+    rw c.fault_in.ensures
+    (law.walking_no_link _ _ _ _ _ _ _ c.loop-k.invariant _ c.loop-k-test.true
+    c.number-e.ensures.is
+    (omega (arith, c.if-links-e.true, c.links-links.ensures.is, link-count row)))
+
+pub holds-requires : goal.holds-requires
+holds-requires c = c.ends_of-ends.ensures.to-small
+
+pub with-met-requires-in-loop-k : goal.with-met-requires-in-loop-k
+with-met-requires-in-loop-k c = c.ends_of-ends.ensures.to-small
+
+pub loop-k-preserved : goal.loop-k-preserved
+loop-k-preserved c =
+    let row = c.args.row.now in
+    let w = c.loop-k.invariant in
+    let ends = c.ends_of-ends.ensures in
+    let on : OnLink (plan_of row) _ c.loop-k.k _ =
+    record {
+      here = c.loop-k-test.true;
+      is = c.number-e.ensures.is;
+      there = omega (
+        arith,
+        c.if-links-e.false,
+        c.links-links.ensures.is,
+        link-count row,
+      );
+    } in
+    law.walking_next _ _ _ _ _ _ _ w _ on _ ends _ _ (ap (λ f. f.step) c.fault_in-in-loop-k.ensures)
+    (ap (λ f. f.rule) c.fault_in-in-loop-k.ensures ∙
+    law.link-breaks _ _ _ _ _ _ _ w _ on _ ends _ _ c.holds.ensures
+    c.link_rule-rule.ensures)
+    c.earlier-found.ensures _ c.with-met-in-loop-k.ensures
+
+pub returns : goal.returns
+returns c = law.walking_done _ _ _ _ _ _ _ c.loop-k.invariant c.loop-k-test.false

@@ -1,0 +1,20 @@
+-- `probe_words::fill_16` meets its contract: what the loop has left is still to be filled.
+use Prim.Native.Nat.{◌-◌}
+use mathlib.Core.Path.{◌≡◌, refl}
+use borrow.Author.Rules.{rules}
+use lib.ListN.{length, length-set}
+use Rattle.probe_words.specs.Words.{filler16}
+use Rattle.probe_words.proofs.Filling.{Filling, filling_first, filling_more, filling_done}
+use Rattle.probe_words.proofs.fill_16.Goals as goal
+
+pub loop-i-init : goal.loop-i-init
+loop-i-init c = (refl, filling_first _ _)
+
+pub loop-i-preserved : goal.loop-i-preserved
+loop-i-preserved c = (simp length-set c.loop-i.invariant.0, filling_more _ _ _ _ c.loop-i-test.true c.loop-i.invariant.1)
+
+pub shape_of-row : goal.shape_of-row
+shape_of-row c = c.loop-i.invariant.0
+
+pub returns : goal.returns
+returns c = filling_done _ _ _ _ c.loop-i-test.false c.loop-i.invariant.1

@@ -1,0 +1,20 @@
+-- `probe_words::kept` meets its contract: what is left to compare decides the whole.
+use Prim.Native.Nat.{◌-◌}
+use mathlib.Core.Path.{◌≡◌, refl, sym, ◌∙◌}
+use borrow.Author.Rules.{rules}
+use lib.ListN.{length, drop}
+use Rattle.probe_words.specs.Words.{filler, all_are}
+use Rattle.probe_words.proofs.Filling.{all_more, all-not, all_done}
+use Rattle.probe_words.proofs.kept.Goals as goal
+
+pub loop-i-init : goal.loop-i-init
+loop-i-init c = refl
+
+pub returns-then-bytes-i : goal.returns-then-bytes-i
+returns-then-bytes-i c = sym (all-not _ _ _ c.loop-i-test.true c.if-bytes-i.true) ∙ c.loop-i.invariant
+
+pub loop-i-preserved : goal.loop-i-preserved
+loop-i-preserved c = sym (all_more _ _ _ c.loop-i-test.true c.if-bytes-i.false) ∙ c.loop-i.invariant
+
+pub returns : goal.returns
+returns c = sym (all_done _ _ _ c.loop-i-test.false) ∙ c.loop-i.invariant

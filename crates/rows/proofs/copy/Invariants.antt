@@ -1,0 +1,15 @@
+-- `rows::copy` meets its contract. The invariant: what is passed is copied, and what is left is as it was. Assumes nothing.
+use Prim.Native.Nat.{◌-◌, ◌≤◌}
+use mathlib.Core.Path.{◌≡◌, refl, ◌∙◌, ap}
+use mathlib.Core.List.{◌++◌}
+use lib.ListN.{length, get_or, set, take, drop, length-set}
+use borrow.Author.Rules.{rules}
+use native.Mathlib.Omega.{arith}
+use Rattle.rows.proofs.Copied as law
+use Rattle.rows.proofs.copy.Given as goal
+
+abbrev pub invariant-loop-i : goal.invariant-loop-i
+invariant-loop-i l = (l.to ≡ take l.i l.from ++ drop l.i l.initial.to) × (l.i ≤ length l.from) × (length l.to ≡ length l.initial.to)
+
+abbrev pub decreases-loop-i : goal.decreases-loop-i
+decreases-loop-i l = length l.from - l.i

@@ -1,0 +1,32 @@
+use Prim.Native.Nat.{ℕ, ◌+◌, ◌-◌, ◌*◌, ◌<◌}
+use mathlib.Core.Path.{sym}
+use native.Mathlib.Omega.{arith}
+use borrow.Author.Rules.{rules}
+use Rattle.risks.proofs.Light.{goes_up}
+use Rattle.risks.proofs.Risks.{may-weigh}
+use Rattle.search.proofs.Levels.{may-hit, may_go_on, goes_nowhere}
+use Rattle.search.proofs.Levels.{Looking, Climbing, may_try, may_pick, looks_first, looks_some, looks_on, look_done}
+use Rattle.search.proofs.Levels.{may_play_out, climbs_first, may_weigh_rest, may_try_all, may_look, climbs_may}
+use Rattle.search.proofs.Levels.{climbs_stop, climbs_over, climbs_some, climbs_on}
+use Rattle.search.proofs.+in_slot_level_with_pair.Given as goal
+
+abbrev pub invariant-in_slot-loop-i : goal.invariant-in_slot-loop-i
+invariant-in_slot-loop-i l = Looking l.row l.weights l.most l.a l.p l.n l.s l.e l.i l.rest
+
+abbrev pub decreases-in_slot-loop-i : goal.decreases-in_slot-loop-i
+decreases-in_slot-loop-i l = l.links - l.i
+
+abbrev pub invariant-level-loop-s : goal.invariant-level-loop-s
+invariant-level-loop-s l = Climbing l.row l.a l.p l.n l.s l.e l.qs l.still
+
+abbrev pub decreases-level-loop-s : goal.decreases-level-loop-s
+decreases-level-loop-s l = l.a.sizes.timeout - l.s
+
+abbrev pub decreases-in_slot : goal.decreases-in_slot
+decreases-in_slot l = 3 * l.n + 1
+
+abbrev pub decreases-level : goal.decreases-level
+decreases-level l = 3 * l.n + 2
+
+abbrev pub decreases-with_pair : goal.decreases-with_pair
+decreases-with_pair l = 3 * l.n

@@ -1,0 +1,12 @@
+use Prim.Native.Nat.{◌-◌}
+use native.Mathlib.Omega.{arith}
+use mathlib.Core.Path.{refl}
+use Rattle.search.proofs.Playing.{settled_none, settled_some, Ending, ends-first, ends-may, ends_more, ends_light, ends_over}
+use borrow.Author.Rules.{rules}
+use Rattle.search.proofs.play_out.Given as goal
+
+abbrev pub invariant-loop-i : goal.invariant-loop-i
+invariant-loop-i l = Ending l.row l.a l.p l.i l.qs l.still
+
+abbrev pub decreases-loop-i : goal.decreases-loop-i
+decreases-loop-i l = l.a.sizes.timeout - l.i

@@ -1,0 +1,16 @@
+-- `spare::entries_of` meets its contract. The invariant: what is counted and what is left to count make the whole. Assumes nothing.
+use Prim.Native.Nat.{◌+◌, ◌-◌, ◌*◌, ◌≤◌}
+use mathlib.Core.Path.{◌≡◌}
+use Rattle.scope.specs.Plan.{places_at}
+use Rattle.scope.specs.Spare.{entries_of}
+use borrow.Author.Rules.{rules}
+use native.Mathlib.Omega.{arith}
+use Rattle.spare.proofs.Loops as law
+use Rattle.spare.proofs.entries_of.Given as goal
+
+abbrev pub invariant-loop-k : goal.invariant-loop-k
+invariant-loop-k l =
+    (l.sum + entries_of l.e (places_at l.row l.at (l.n - l.k)) ≡ entries_of l.e (places_at l.row l.i l.n)) × (l.at ≤ l.i + l.k * 65540) × (l.k ≤ l.n) × (l.sum ≤ l.k)
+
+abbrev pub decreases-loop-k : goal.decreases-loop-k
+decreases-loop-k l = l.n - l.k

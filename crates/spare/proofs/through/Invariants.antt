@@ -1,0 +1,16 @@
+-- `spare::through` meets its contract. The invariant: the places left have such a second path exactly if all have one. Assumes nothing.
+use Prim.Native.Nat.{◌+◌, ◌-◌, ◌*◌, ◌≤◌}
+use mathlib.Core.Path.{◌≡◌, sym, ◌∙◌}
+use Rattle.scope.specs.Plan.{places_at}
+use Rattle.scope.specs.Spare.{has_second_through}
+use borrow.Author.Rules.{rules}
+use native.Mathlib.Omega.{arith}
+use Rattle.spare.proofs.Loops as law
+use Rattle.spare.proofs.through.Given as goal
+
+abbrev pub invariant-loop-k : goal.invariant-loop-k
+invariant-loop-k l =
+    (has_second_through l.e (places_at l.row l.at (l.n - l.k)) ≡ has_second_through l.e (places_at l.row l.i l.n)) × (l.at ≤ l.i + l.k * 65540) × (l.k ≤ l.n)
+
+abbrev pub decreases-loop-k : goal.decreases-loop-k
+decreases-loop-k l = l.n - l.k

@@ -1,0 +1,63 @@
+-- `step::act_one` meets its contract: it is at its target, it waits, it tries the link before it, or it tries nothing. Assumes nothing.
+use mathlib.Core.Path.{◌≡◌, sym, ◌∙◌}
+use mathlib.Core.Logic.{⊎_elim}
+use native.Mathlib.Omega.{arith}
+use borrow.Author.Tests.{eqb-true, eqb-false, not-true, not-false}
+use borrow.Author.Rules.{rules}
+use Rattle.table.specs.Table.{entry_at}
+use Rattle.step.proofs.Acting.{home-does, home_tried, waits_acts, acts-first, acts-cut, acts-tries}
+use Rattle.step.proofs.act_one.Goals as goal
+
+pub returns-then-is_home : goal.returns-then-is_home
+returns-then-is_home c =
+    let a = c.args in
+    let q = a.p in
+    let h : q.left ≡ 0 = eqb-true _ _ (sym c.is_home.ensures ∙ c.if-is_home.true) in
+    record {
+      acts = record {
+        is = home-does _ _ a.slot.0 a.tried.now a.m a.row.now q.turned q.at q.left h;
+        within = omega arith;
+      };
+      noted = home_tried _ (entry_at a.table.now a.slot.0) a.slot.0 a.tried.now a.m a.row.now q.turned q.at
+          q.left h;
+    }
+
+pub returns-then-waits : goal.returns-then-waits
+returns-then-waits c =
+    let a = c.args in
+    let h : a.p.left ≡ 0 → ⊥ = eqb-false _ _ (sym c.is_home.ensures ∙ c.if-is_home.false) in
+    waits_acts _ (entry_at a.table.now a.slot.0) a.slot.0 a.tried.now a.m a.row.now a.p _ (omega (arith, h))
+    (sym c.waits.ensures ∙ c.if-waits.true) c.number.ensures.is
+
+pub meets-met-requires : goal.meets-met-requires
+meets-met-requires c =
+    let h : c.args.p.left ≡ 0 → ⊥ = eqb-false _ _ (sym c.is_home.ensures ∙ c.if-is_home.false) in
+    (omega (arith, h), c.requires.fit)
+
+pub overflow_cast-first : goal.overflow_cast-first
+overflow_cast-first c = omega (arith, c.first_trier-first.ensures.1, c.requires.noting.low)
+
+pub overflow_cast-m : goal.overflow_cast-m
+overflow_cast-m c = omega (arith, c.requires.noting.low)
+
+pub acts-requires : goal.acts-requires
+acts-requires c =
+    let g = c.meets-met.ensures in
+    (g.left, omega (arith, g.turned.within, c.requires.fit), g.link)
+
+pub returns-then-not-met : goal.returns-then-not-met
+returns-then-not-met c =
+    let g = c.meets-met.ensures in
+    let a = c.args in
+    acts-tries _ _ a.slot.0 a.tried.now a.m a.row.now a.p _ g _ _ _ _ c.if-q.true
+    (c.if-not-met.true)
+    c.entry-entry.ensures c.first_trier-first.ensures.0 c.note.ensures (c.acts.ensures _ g.cut)
+
+pub returns : goal.returns
+returns c =
+    let g = c.meets-met.ensures in
+    let a = c.args in
+    let e = entry_at a.table.now a.slot.0 in
+    let does = c.acts-2.ensures _ g.cut in
+    ⊎_elim (λ w. acts-cut _ e a.slot.0 a.tried.now a.m a.row.now a.p _ g _ _ _ _ (not-false _ w.2.left) does)
+    (λ w. acts-first _ e a.slot.0 a.tried.now a.m a.row.now a.p _ g _ _ _ _ w.left does) c.else-q.branch

@@ -1,0 +1,10 @@
+use Prim.Native.Nat.{◌-◌}
+use borrow.Author.Rules.{rules}
+use Rattle.strips.proofs.Paths.{CountingAll, counting_all_none, may-count, counting_all_more, counting_all_done}
+use Rattle.strips.proofs.count_all.Given as goal
+
+abbrev pub invariant-loop-m : goal.invariant-loop-m
+invariant-loop-m l = CountingAll l.row l.n l.at l.m l.counts l.ways
+
+abbrev pub decreases-loop-m : goal.decreases-loop-m
+decreases-loop-m l = l.n - l.m

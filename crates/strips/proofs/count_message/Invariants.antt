@@ -1,0 +1,11 @@
+use Prim.Native.Nat.{◌-◌}
+use native.Mathlib.Omega.{arith}
+use borrow.Author.Rules.{rules}
+use Rattle.strips.proofs.Paths.{second-few, Counting, counting_none, counting_may, counting_more, counting_done}
+use Rattle.strips.proofs.count_message.Given as goal
+
+abbrev pub invariant-loop-k : goal.invariant-loop-k
+invariant-loop-k l = Counting l.row l.i l.m l.initial.counts l.initial.ways l.n l.at l.k l.counts l.ways
+
+abbrev pub decreases-loop-k : goal.decreases-loop-k
+decreases-loop-k l = l.n - l.k
