@@ -155,7 +155,7 @@ def counting(words):
         sys.exit('instructions are counted by QEMU, with a plugin that cc compiles (Debian, Ubuntu: apt-get install qemu-user gcc)')
     plugin = os.path.join(made, 'instructions.so')
     subprocess.run([compiler, '-O2', '-shared', '-fPIC', os.path.join(here, 'instructions.c'), '-o', plugin], check=True)
-    return [emulator, '-plugin', plugin] + words[os.path.basename(words[0]) == 'qemu-x86_64' :]
+    return [emulator, '-plugin', plugin] + words
 
 
 def instructions():

@@ -1,4 +1,4 @@
-/* Nuthatchet for C: every public question. Link target/staticlib/libnuthatchet.a (`rt staticlib nuthatchet`), on x86-64 Linux.
+/* Nuthatchet for C: every public question. Link target/staticlib/libnuthatchet.a (`./nuthatchet library`), on x86-64 Linux.
 
    Each function takes any numbers, and asks nothing but that its pointers tell the truth:
      - a buffer has as many elements as the length behind it says, and is aligned; where the length is 0 it may be NULL;

@@ -1,4 +1,4 @@
-// Every public question for programs in other languages: `rt staticlib nuthatchet`, include/nuthatchet.h, docs/FACE.md. Numbers and slices
+// Every public question for programs in other languages, as the crate `nuthatchet_c` exports it: include/nuthatchet.h, docs/FACE.md. Numbers and slices
 // only. Each function takes anything and asks nothing, returns the number of the refusal, 0 where there is none, and writes its place,
 // the place and the step on a path, and the result, zero where documents 01 and 02 say zero. It leans on the crate that answers the
 // question, and adds only how it is said.
@@ -127,8 +127,7 @@ fn tell_explanation(
 }
 
 // Refusals 1 to 10 and 14 to 19 of a row, or how many numbers it has.
-#[unsafe(no_mangle)]
-pub extern "C" fn nuthatchet_judge(
+pub fn nuthatchet_judge(
     row: &[u16],
     place: &mut usize,
     at: &mut usize,
@@ -142,8 +141,7 @@ pub extern "C" fn nuthatchet_judge(
 }
 
 // A file read into a lent row: how many numbers, or refusal 1, 2, 4 to 10, 14 to 19, 13.
-#[unsafe(no_mangle)]
-pub extern "C" fn nuthatchet_read_file(
+pub fn nuthatchet_read_file(
     file: &[u8],
     row: &mut [u16],
     place: &mut usize,
@@ -159,8 +157,7 @@ pub extern "C" fn nuthatchet_read_file(
 }
 
 // A row written into lent bytes: how many, or refusal 1 to 10, 14 to 19, 13.
-#[unsafe(no_mangle)]
-pub extern "C" fn nuthatchet_write_file(
+pub fn nuthatchet_write_file(
     row: &[u16],
     file: &mut [u8],
     place: &mut usize,
@@ -177,13 +174,7 @@ pub extern "C" fn nuthatchet_write_file(
 
 // The second path of message m from place p: how many links it has, and the index in the row where they begin; 0 and 0 where there is
 // none or the row is bad.
-#[unsafe(no_mangle)]
-pub extern "C" fn nuthatchet_second_path(
-    row: &[u16],
-    m: usize,
-    p: usize,
-    index: &mut usize,
-) -> usize
+pub fn nuthatchet_second_path(row: &[u16], m: usize, p: usize, index: &mut usize) -> usize
     ensures { TellsPart row.now m p result index.new }
 {
     let part = plan::second_path(row, m, p);
@@ -197,8 +188,7 @@ pub extern "C" fn nuthatchet_second_path(
 }
 
 // The replay of a row under a cut list: the arrivals, with the row of events, or refusal 1 to 10, 14 to 19, 12, 13.
-#[unsafe(no_mangle)]
-pub extern "C" fn nuthatchet_replay(
+pub fn nuthatchet_replay(
     row: &[u16],
     cuts: &[u16],
     events: &mut [u16],
@@ -216,8 +206,7 @@ pub extern "C" fn nuthatchet_replay(
 
 // The verdict on a row for k and l: 0 pairs if it is resistant, or how many pairs the first failing list has, with that list; or refusal
 // 1 to 10, 14 to 19, 11, 13.
-#[unsafe(no_mangle)]
-pub extern "C" fn nuthatchet_verdict(
+pub fn nuthatchet_verdict(
     row: &[u16],
     k: usize,
     l: usize,
@@ -236,8 +225,7 @@ pub extern "C" fn nuthatchet_verdict(
 
 // Which cuts explain a capture: 0 if no list of at most k pairs does, or one more than the pairs of the first list that does, with that
 // list; or refusal 1 to 10, 14 to 19, 11, 23, 13.
-#[unsafe(no_mangle)]
-pub extern "C" fn nuthatchet_explain(
+pub fn nuthatchet_explain(
     row: &[u16],
     k: usize,
     capture: &[u16],
@@ -255,8 +243,7 @@ pub extern "C" fn nuthatchet_explain(
 }
 
 // All answers of a row for k, seven numbers for each l from 0 to M: how many numbers, or refusal 1 to 10, 14 to 19, 11, 13.
-#[unsafe(no_mangle)]
-pub extern "C" fn nuthatchet_all_answers(
+pub fn nuthatchet_all_answers(
     row: &[u16],
     k: usize,
     out: &mut [u16],
@@ -273,8 +260,7 @@ pub extern "C" fn nuthatchet_all_answers(
 }
 
 // The figure of a row for k, the least number of arrivals over all cut lists of at most k pairs; or refusal 1 to 10, 14 to 19, 11.
-#[unsafe(no_mangle)]
-pub extern "C" fn nuthatchet_figure(
+pub fn nuthatchet_figure(
     row: &[u16],
     k: usize,
     place: &mut usize,
@@ -290,8 +276,7 @@ pub extern "C" fn nuthatchet_figure(
 }
 
 // The figures of a row for 0 to k: how many there are, or refusal 1 to 10, 14 to 19, 11, 13.
-#[unsafe(no_mangle)]
-pub extern "C" fn nuthatchet_figures(
+pub fn nuthatchet_figures(
     row: &[u16],
     k: usize,
     out: &mut [u16],
@@ -308,8 +293,7 @@ pub extern "C" fn nuthatchet_figures(
 }
 
 // The slack of the second path of message m from place p, or refusal 1 to 10, 14 to 19, 11.
-#[unsafe(no_mangle)]
-pub extern "C" fn nuthatchet_slack(
+pub fn nuthatchet_slack(
     row: &[u16],
     m: usize,
     p: usize,
@@ -334,8 +318,7 @@ pub extern "C" fn nuthatchet_slack(
 }
 
 // The listing of the replay of a plan file under the cuts of an input: how many bytes, or refusal 1, 2, 4 to 10, 14 to 19, 12, 13.
-#[unsafe(no_mangle)]
-pub extern "C" fn nuthatchet_replay_text(
+pub fn nuthatchet_replay_text(
     file: &[u8],
     input: &[u8],
     out: &mut [u8],
@@ -352,8 +335,7 @@ pub extern "C" fn nuthatchet_replay_text(
 }
 
 // A plan file's row as a line of decimals: how many bytes, or refusal 1, 2, 4 to 10, 14 to 19, 13.
-#[unsafe(no_mangle)]
-pub extern "C" fn nuthatchet_row_text(
+pub fn nuthatchet_row_text(
     file: &[u8],
     out: &mut [u8],
     place: &mut usize,
@@ -369,8 +351,7 @@ pub extern "C" fn nuthatchet_row_text(
 }
 
 // The line that a program prints for a refusal, by its number n, place p, at q and step s: how many bytes, or refusal 13.
-#[unsafe(no_mangle)]
-pub extern "C" fn nuthatchet_refusal_text(
+pub fn nuthatchet_refusal_text(
     n: usize,
     p: usize,
     q: usize,
@@ -389,8 +370,7 @@ pub extern "C" fn nuthatchet_refusal_text(
 }
 
 // The plan file of the row that a text says: how many bytes, or refusal 1 to 10, 14 to 19, 13.
-#[unsafe(no_mangle)]
-pub extern "C" fn nuthatchet_pack_text(
+pub fn nuthatchet_pack_text(
     text: &[u8],
     file: &mut [u8],
     place: &mut usize,
