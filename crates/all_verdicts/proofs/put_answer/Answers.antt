@@ -4,7 +4,6 @@ use native.Mathlib.Omega.{arith}
 use lib.ListN.{length, set, length-set}
 use borrow.Author.Rules.{rules}
 use Rattle.all_verdicts.proofs.Putting.{puts-seven, seven-length, room-left}
-use borrow.Author.Rules.{rules}
 use Rattle.all_verdicts.proofs.put_answer.Goals as goal
 
 pub slice_bounds-copy-count : goal.slice_bounds-copy-count
