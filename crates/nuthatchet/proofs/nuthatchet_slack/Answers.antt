@@ -6,7 +6,7 @@ use Rattle.nuthatchet.proofs.nuthatchet_slack.Goals as goal
 pub returns-in-Slots : goal.returns-in-Slots
 returns-in-Slots c =
     slots _ _ _ _ c.slack-spare.ensures _ c.in-Slots.is
-    (record { sfits = c.known_told-1.given.0.1 }) c.allow.ensures
+    (search rules) c.allow.ensures
 
 pub returns-in-Refused : goal.returns-in-Refused
 returns-in-Refused c =
