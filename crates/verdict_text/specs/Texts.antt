@@ -20,8 +20,7 @@ abbrev pub highest_or : ℕ → Plan → ℕ
 highest_or large plan = cond (leb (length plan.links * plan.timeout) 64) 3 large
 
 -- the text of a program that goes up to k `large` where E × t is above 64: of `verdict` for 1, of `deep` for 3 (proofs/Theorems,
--- `verdict_text_lem`,
--- `deep_text_lem`)
+-- `verdict_text_lem`, `deep_text_lem`)
 unfoldable pub TextUpTo : ℕ → List ℕ → List ℕ → Type 0
 TextUpTo large file text = Said (read_file file longest_row)
   where

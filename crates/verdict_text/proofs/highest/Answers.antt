@@ -1,6 +1,5 @@
 -- `verdict_text::highest` meets its contract: the product of two counts of 16 bits fits, and decides.
 use Prim.Native.Nat.{◌*◌, ◌≤◌}
-use borrow.Author.Rules.{rules}
 use native.Mathlib.Omega.{arith}
 use native.Mathlib.Nat.{mul-le-mul}
 use Rattle.verdict_text.proofs.Room.{goes_three, goes_large}

@@ -1,5 +1,4 @@
 -- `verdict_text::line` meets its contract: by the first of the seven numbers.
-use borrow.Author.Rules.{rules}
 use Rattle.verdict_text.proofs.Verdicts.{line-resists, line-fails}
 use Rattle.verdict_text.proofs.line.Goals as goal
 

@@ -1,9 +1,7 @@
 -- `verdict_text::lines` meets its contract: what the loop has left are the lines from l on.
-use Prim.Native.Nat.{◌≤◌, ◌-◌}
 use borrow.Author.Rules.{rules}
 use native.Mathlib.Omega.{arith}
-use Rattle.text.proofs.Laid.{Left, left-first, left_is, left-told, left-more, left-done, left-same}
-use Rattle.verdict_text.specs.Layout.{lines_of}
+use Rattle.text.proofs.Laid.{left-first, left_is, left-told, left-more, left-done, left-same}
 use Rattle.verdict_text.proofs.Verdicts.{lines_first, lines_more, lines_done, part-told, part-puts}
 use Rattle.verdict_text.proofs.lines.Goals as goal
 
@@ -29,12 +27,11 @@ line-next-requires c =
     c.loop-l.invariant.1))
 
 pub loop-l-preserved : goal.loop-l-preserved
-loop-l-preserved c =
-    (
-      search rules,
-      left-more (left_is (lines_more _ _ _ _ c.loop-l-test.true) c.loop-l.invariant.1)
-          (part-puts _ _ _ c.line-next.ensures),
-    )
+loop-l-preserved c = (
+  search rules,
+  left-more (left_is (lines_more _ _ _ _ c.loop-l-test.true) c.loop-l.invariant.1)
+      (part-puts _ _ _ c.line-next.ensures),
+)
 
 pub shape_of-out : goal.shape_of-out
 shape_of-out c = left-same c.loop-l.invariant.1

@@ -1,9 +1,6 @@
 use Prim.Native.Nat.{◌≤◌, ◌-◌}
-use borrow.Author.Rules.{rules}
-use native.Mathlib.Omega.{arith}
-use Rattle.text.proofs.Laid.{Left, left-first, left_is, left-told, left-more, left-done, left-same}
+use Rattle.text.proofs.Laid.{Left}
 use Rattle.verdict_text.specs.Layout.{lines_of}
-use Rattle.verdict_text.proofs.Verdicts.{lines_first, lines_more, lines_done, part-told, part-puts}
 use Rattle.verdict_text.proofs.lines.Given as goal
 
 abbrev pub invariant-loop-l : goal.invariant-loop-l

@@ -1,12 +1,8 @@
 -- `verdict_text::message_slacks` meets its contract: what the loop has left are the lines of the places from p on.
-use Prim.Native.Nat.{◌≤◌, ◌-◌}
 use borrow.Author.Rules.{rules}
 use native.Mathlib.Omega.{arith}
-use lib.ListN.{drop}
-use Rattle.scope.specs.Plan.{plan_of, path_of}
-use Rattle.scope.specs.Lines.{message_slacks}
 use Rattle.rows.proofs.Walked.{walked}
-use Rattle.text.proofs.Laid.{Left, left-first, left_is, left-told, left-more, left-done, left-same}
+use Rattle.text.proofs.Laid.{left-first, left_is, left-told, left-more, left-done, left-same}
 use Rattle.verdict_text.proofs.Slacks.{places_more, places_done, counted, counted-all}
 use Rattle.verdict_text.proofs.message_slacks.Goals as goal
 
@@ -17,23 +13,21 @@ pub loop-p-init : goal.loop-p-init
 loop-p-init c = (search rules, left-first _ _ _)
 
 pub place_slack-next-requires : goal.place_slack-next-requires
-place_slack-next-requires c =
-    (
-      c.requires.0,
-      left-told _ _ c.requires.2 (left_is (places_more _ _ _
-          (counted _ _ _ _ _ c.requires.1 c.message_index.ensures.is
-          c.place_count-count.ensures.is c.loop-p-test.true)) c.loop-p.invariant.1),
-    )
+place_slack-next-requires c = (
+  c.requires.0,
+  left-told _ _ c.requires.2 (left_is (places_more _ _ _
+      (counted _ _ _ _ _ c.requires.1 c.message_index.ensures.is
+      c.place_count-count.ensures.is c.loop-p-test.true)) c.loop-p.invariant.1),
+)
 
 pub loop-p-preserved : goal.loop-p-preserved
-loop-p-preserved c =
-    (
-      search rules,
-      left-more (left_is (places_more _ _ _ (counted _ _ _ _ _ c.requires.1
-          c.message_index.ensures.is
-          c.place_count-count.ensures.is c.loop-p-test.true))
-          c.loop-p.invariant.1) c.place_slack-next.ensures,
-    )
+loop-p-preserved c = (
+  search rules,
+  left-more (left_is (places_more _ _ _ (counted _ _ _ _ _ c.requires.1
+      c.message_index.ensures.is
+      c.place_count-count.ensures.is c.loop-p-test.true))
+      c.loop-p.invariant.1) c.place_slack-next.ensures,
+)
 
 pub shape_of-out : goal.shape_of-out
 shape_of-out c = left-same c.loop-p.invariant.1

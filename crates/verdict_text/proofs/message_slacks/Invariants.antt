@@ -1,12 +1,8 @@
 use Prim.Native.Nat.{◌≤◌, ◌-◌}
-use borrow.Author.Rules.{rules}
-use native.Mathlib.Omega.{arith}
 use lib.ListN.{drop}
 use Rattle.scope.specs.Plan.{plan_of, path_of}
 use Rattle.scope.specs.Lines.{message_slacks}
-use Rattle.rows.proofs.Walked.{walked}
-use Rattle.text.proofs.Laid.{Left, left-first, left_is, left-told, left-more, left-done, left-same}
-use Rattle.verdict_text.proofs.Slacks.{places_more, places_done, counted, counted-all}
+use Rattle.text.proofs.Laid.{Left}
 use Rattle.verdict_text.proofs.message_slacks.Given as goal
 
 abbrev pub invariant-loop-p : goal.invariant-loop-p

@@ -1,5 +1,4 @@
 -- `verdict_text::place_slack` meets its contract: by what `spare` answers, a line or nothing.
-use borrow.Author.Rules.{rules}
 use Rattle.verdict_text.proofs.Slacks.{answered-line, no_line, nothing_put}
 use Rattle.verdict_text.proofs.place_slack.Goals as goal
 

@@ -1,11 +1,7 @@
 -- `verdict_text::slack_lines` meets its contract: what the loop has left are the lines of the messages from m on.
-use Prim.Native.Nat.{◌≤◌, ◌-◌}
 use borrow.Author.Rules.{rules}
 use native.Mathlib.Omega.{arith}
-use lib.ListN.{drop}
-use Rattle.scope.specs.Plan.{plan_of}
-use Rattle.scope.specs.Lines.{slack_lines}
-use Rattle.text.proofs.Laid.{Left, left-first, left_is, left-told, left-more, left-done, left-same}
+use Rattle.text.proofs.Laid.{left-first, left_is, left-told, left-more, left-done, left-same}
 use Rattle.verdict_text.proofs.Slacks.{messages-more, messages-done, below, below_all}
 use Rattle.verdict_text.proofs.Room.{slacks_told}
 use Rattle.verdict_text.proofs.slack_lines.Goals as goal
@@ -14,23 +10,21 @@ pub loop-m-init : goal.loop-m-init
 loop-m-init c = (search rules, left-first _ _ _)
 
 pub message_slacks-next-requires : goal.message_slacks-next-requires
-message_slacks-next-requires c =
-    (
-      c.requires.0,
-      omega (arith, c.messages-count.ensures.is, c.loop-m-test.true),
-      left-told _ _ (slacks_told _ c.requires.0 _ c.requires.1)
-          (left_is (messages-more _ _ (below _ _ _ c.messages-count.ensures.is c.loop-m-test.true))
-          c.loop-m.invariant.1),
-    )
+message_slacks-next-requires c = (
+  c.requires.0,
+  omega (arith, c.messages-count.ensures.is, c.loop-m-test.true),
+  left-told _ _ (slacks_told _ c.requires.0 _ c.requires.1)
+      (left_is (messages-more _ _ (below _ _ _ c.messages-count.ensures.is c.loop-m-test.true))
+      c.loop-m.invariant.1),
+)
 
 pub loop-m-preserved : goal.loop-m-preserved
-loop-m-preserved c =
-    (
-      search rules,
-      left-more (left_is (messages-more _ _ (below _ _ _ c.messages-count.ensures.is
-          c.loop-m-test.true)) c.loop-m.invariant.1)
-          c.message_slacks-next.ensures,
-    )
+loop-m-preserved c = (
+  search rules,
+  left-more (left_is (messages-more _ _ (below _ _ _ c.messages-count.ensures.is
+      c.loop-m-test.true)) c.loop-m.invariant.1)
+      c.message_slacks-next.ensures,
+)
 
 pub shape_of-out : goal.shape_of-out
 shape_of-out c = left-same c.loop-m.invariant.1

@@ -1,12 +1,8 @@
 use Prim.Native.Nat.{◌≤◌, ◌-◌}
-use borrow.Author.Rules.{rules}
-use native.Mathlib.Omega.{arith}
 use lib.ListN.{drop}
 use Rattle.scope.specs.Plan.{plan_of}
 use Rattle.scope.specs.Lines.{slack_lines}
-use Rattle.text.proofs.Laid.{Left, left-first, left_is, left-told, left-more, left-done, left-same}
-use Rattle.verdict_text.proofs.Slacks.{messages-more, messages-done, below, below_all}
-use Rattle.verdict_text.proofs.Room.{slacks_told}
+use Rattle.text.proofs.Laid.{Left}
 use Rattle.verdict_text.proofs.slack_lines.Given as goal
 
 abbrev pub invariant-loop-m : goal.invariant-loop-m

@@ -1,5 +1,4 @@
 -- `whole_verdict::all_lines` meets its contract: the lines under each k up to the highest, and then the slack lines.
-use borrow.Author.Rules.{rules}
 use native.Mathlib.Omega.{arith}
 use Rattle.scope.specs.Plan.{plan_of}
 use Rattle.verdict_text.proofs.Room.{slacks_size}

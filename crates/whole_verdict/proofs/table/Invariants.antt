@@ -1,9 +1,6 @@
 use Prim.Native.Nat.{◌≤◌, ◌-◌}
-use borrow.Author.Rules.{rules}
-use native.Mathlib.Omega.{arith}
 use Rattle.scope.specs.Plan.{plan_of}
 use Rattle.verdict_text.specs.Layout.{LaidUntil}
-use Rattle.verdict_text.proofs.Composing.{laid-first, laid_more, laid_done, laid-small, lays-same}
 use Rattle.whole_verdict.proofs.table.Given as goal
 
 abbrev pub invariant-loop-k : goal.invariant-loop-k

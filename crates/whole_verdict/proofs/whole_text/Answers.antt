@@ -13,12 +13,11 @@ slice_bounds-all_lines-end c = read-long _ _ _ _ c.read_file-read.ensures _
     c.in-Gives.is
 
 pub all_lines-requires : goal.all_lines-requires
-all_lines-requires c =
-    (
-      read-good _ _ longest_row _ (read_given _ _ _ _ c.read_file-read.ensures _ _ (search rules) c.in-Gives.is)
-          (read-row _ _ _ _ c.read_file-read.ensures _ c.in-Gives.is),
-      search rules,
-    )
+all_lines-requires c = (
+  read-good _ _ longest_row _ (read_given _ _ _ _ c.read_file-read.ensures _ _ (search rules) c.in-Gives.is)
+      (read-row _ _ _ _ c.read_file-read.ensures _ c.in-Gives.is),
+  search rules,
+)
 
 pub returns-in-Gives : goal.returns-in-Gives
 returns-in-Gives c =
