@@ -1,6 +1,5 @@
 -- `explain::of_row` meets its contract: what is printed is the text of the input that came.
 use mathlib.Core.Path.{refl}
-use borrow.Author.Rules.{rules}
 use Rattle.scope.specs.Lines.{capture_of}
 use Rattle.explain_text.proofs.Captures.{good-small}
 use Rattle.explain.proofs.Program.{whole_of}

@@ -1,5 +1,4 @@
 -- `explain::printed` meets its contract: the text, or the line of its refusal.
-use borrow.Author.Rules.{rules}
 use Rattle.explain_text.proofs.Theorems.{prints_given, prints-refused}
 use Rattle.explain.proofs.printed.Goals as goal
 

@@ -1,11 +1,8 @@
 -- `explain::read_capture` meets its contract: what came in all turns is read, and the measure is the number of turns that are left.
-use Prim.Native.Nat.{◌-◌, ◌^◌}
-use mathlib.Core.Path.{◌≡◌, sym, ◌∙◌, ap}
+use mathlib.Core.Path.{sym, ◌∙◌, ap}
 use borrow.Author.Rules.{rules}
 use lib.ListN.{length}
-use Rattle.scope.specs.Plan.{plan_of}
 use Rattle.program_io.proofs.Pieces.{piece_of}
-use Rattle.explain.specs.Shown.{Going}
 use Rattle.explain.proofs.Program.{going-first, going_more, going-whole}
 use Rattle.explain.proofs.read_capture.Goals as goal
 
@@ -40,12 +37,11 @@ feed-reading-requires c =
     record { small = c.requires.small; size = g.size; fits = g.fits; line = g.line }
 
 pub loop-turn-preserved : goal.loop-turn-preserved
-loop-turn-preserved c =
-    (
-      search rules,
-      going_more _ _ _ _ _ _ c.loop-turn.invariant.1 (piece_of _ _ _ _ c.in-Bytes.is c.read_piece-read.ensures) _ _
-          c.feed-reading.ensures,
-    )
+loop-turn-preserved c = (
+  search rules,
+  going_more _ _ _ _ _ _ c.loop-turn.invariant.1 (piece_of _ _ _ _ c.in-Bytes.is c.read_piece-read.ensures) _ _
+      c.feed-reading.ensures,
+)
 
 pub shape_of-crossed : goal.shape_of-crossed
 shape_of-crossed c =

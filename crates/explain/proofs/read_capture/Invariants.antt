@@ -1,11 +1,8 @@
 use Prim.Native.Nat.{◌-◌, ◌^◌}
-use mathlib.Core.Path.{◌≡◌, sym, ◌∙◌, ap}
-use borrow.Author.Rules.{rules}
+use mathlib.Core.Path.{◌≡◌}
 use lib.ListN.{length}
 use Rattle.scope.specs.Plan.{plan_of}
-use Rattle.program_io.proofs.Pieces.{piece_of}
 use Rattle.explain.specs.Shown.{Going}
-use Rattle.explain.proofs.Program.{going-first, going_more, going-whole}
 use Rattle.explain.proofs.read_capture.Given as goal
 
 abbrev pub invariant-loop-turn : goal.invariant-loop-turn

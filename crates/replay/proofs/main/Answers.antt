@@ -5,7 +5,7 @@ use Rattle.replay.proofs.main.Goals as goal
 
 pub text-answer-requires : goal.text-answer-requires
 text-answer-requires c =
-    (
-      (search rules, bytes-came _ _ _ c.in-Bytes.is c.read_input-read.ensures),
-      (search rules, search rules, search rules),
-    )
+    record {
+      came = (search rules, bytes-came _ _ _ c.in-Bytes.is c.read_input-read.ensures);
+      plan_len = (search rules, search rules, search rules);
+    }

@@ -15,11 +15,10 @@ slice_bounds-rated-end c =
     read-long _ _ _ _ c.read_file-read.ensures _ c.in-Gives.is
 
 pub rated-requires : goal.rated-requires
-rated-requires c =
-    (
-      read-good _ _ longest_row _ (read_given _ _ _ _ c.read_file-read.ensures _ _ (search rules) c.in-Gives.is) (read-row _ _ _ _ c.read_file-read.ensures _ c.in-Gives.is),
-      c.requires,
-    )
+rated-requires c = (
+  read-good _ _ longest_row _ (read_given _ _ _ _ c.read_file-read.ensures _ _ (search rules) c.in-Gives.is) (read-row _ _ _ _ c.read_file-read.ensures _ c.in-Gives.is),
+  c.requires,
+)
 
 pub refused_line-next-requires : goal.refused_line-next-requires
 refused_line-next-requires c =

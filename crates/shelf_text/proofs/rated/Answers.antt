@@ -5,7 +5,6 @@ use lib.ListN.{replicate}
 use lib.Seq.{length-take-le}
 use Rattle.figures.proofs.Ways.{good-told}
 use Rattle.shelf_text.proofs.Lines.{highest_few, fits, may_tell_lem, may_add, rates}
-use borrow.Author.Rules.{rules}
 use Rattle.shelf_text.proofs.rated.Goals as goal
 
 pub overflow_add-n : goal.overflow_add-n
