@@ -21,7 +21,7 @@ const CAPTURE: usize = 3 * scope::limits::CROSSED;
 
 // What is asked: the third letter of its word, which tells questions apart (reAd, juDge, rePlay, onLy, veRdict,
 // fiGures, inFer), k and l, and how many numbers the capture has.
-#[derive(Drop)]
+#[derive(Clone, Copy)]
 struct Question {
     what: u8,
     k: usize,

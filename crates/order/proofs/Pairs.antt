@@ -11,7 +11,7 @@ use Rattle.scope.specs.Limits.{most_links}
 use Rattle.scope.specs.Plan.{Plan}
 use Rattle.scope.specs.Cables.{is_higher}
 use Rattle.scope.specs.Cuts.{pairs, cut_slot, cut_link, pair_before, falls, bad_pair, is_cut_list}
-use Rattle.scope.proofs.Cuts.{slot-below, link-below, rising, once, not_higher, even}
+use Rattle.scope.proofs.Cuts.{slot-below, link-below, rising, once, not_higher}
 use Rattle.order.specs.Search.{code, code_at, NotBefore}
 use Rattle.scope.proofs.Some.{none, none_below}
 use Rattle.order.proofs.Parts.{slot-left, link_left, slot_right, link_right, pairs-both}

@@ -12,7 +12,7 @@ use std::io;
 // Where the program stands: the input that is left lies from `from` to `to`, without a line feed before `seen`; so many bytes of
 // answers wait to be written. `skips`: what comes up to the next line feed is the rest of a line that was too long. `more`: the
 // input has not ended.
-#[derive(Drop)]
+#[derive(Clone, Copy)]
 struct Place {
     from: usize,
     seen: usize,

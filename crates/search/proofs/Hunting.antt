@@ -7,8 +7,6 @@ use mathlib.Core.List.{List, []}
 use lib.ListN.{length, take}
 use Rattle.scope.specs.Verdict.{Fails}
 use Rattle.scope.specs.Plan.{plan_of}
-use Rattle.scope.specs.Cuts.{pairs}
-use Rattle.scope.specs.Cycle.{arrivals}
 use Rattle.step.specs.declared.Standing.{Standing}
 use Rattle.picks.specs.Picks.{no_pair}
 use Rattle.search.specs.declared.Asked.{Asked}

@@ -3,7 +3,7 @@ use Rattle.std.specs.Prelude.{ℕ, ◌+◌, ◌-◌, ◌*◌, ◌≤◌, ◌<◌
 use Rattle.scope.specs.Limits.{most_cuts, weights_size, tops_size}
 use Rattle.scope.specs.Plan.{plan_of}
 use Rattle.scope.specs.Verdict.{Fails, FirstFailing}
-use Rattle.scope.specs.Cycle.{positions, arrivals}
+use Rattle.scope.specs.Cycle.{arrivals}
 use Rattle.cuts.specs.Down.{is_down}
 use Rattle.step.specs.declared.Standing.{Standing}
 use Rattle.picks.specs.Picks.{cuts_of, Playable, Holding, StandAt}

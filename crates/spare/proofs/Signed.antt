@@ -34,4 +34,4 @@ module _ (a b : ℕ) (h : a < 2 ^ 30) (k : b < 2 ^ 30) where
 
   -- and it comes back from 32 bits
   pub sub_back : (z : ℤ) → z ≡ sub_ℕ a b → to_z w32 (of_z w32 z) ≡ sub_ℕ a b
-  sub_back z e = ap (λ (y : ℤ). to_z w32 (of_z w32 y)) e ∙ to_z-of_z (record { sfits = sub_small a b h k })
+  sub_back z e = ap (λ (y : ℤ). to_z w32 (of_z w32 y)) e ∙ to_z-of_z {w = w32} {z = sub_ℕ a b} (record { sfits = sub_small a b h k })

@@ -83,6 +83,16 @@ module _ (down : ℕ → Bool) (owner : ℕ → ℕ) (i : ℕ) (tried : List ℕ
         ActsIn row down owner i p m tried tried r
     acts-cut entry held first r d = idle entry held first r (cut-tries row down p t h d)
 
+    -- so it tries nothing unless it has turned and its link is whole
+    pub acts-idle : (entry : ℕ) (held : Bool) (first : ℕ) (r : Moved) → (t.position.turned && not t.down) ≡ false → Does entry held first r →
+        ActsIn row down owner i p m tried tried r
+    acts-idle entry held first r h a = by t.position.turned refl t.down refl h
+      where
+        by : (x : Bool) → t.position.turned ≡ x → (y : Bool) → t.down ≡ y → (x && not y) ≡ false → ActsIn row down owner i p m tried tried r
+        by false f y d h = acts-first entry held first r f a
+        by true f true d h = acts-cut entry held first r d a
+        by true f false d h = absurd cc
+
     -- it tries the link before it
     pub acts-tries : (entry first : ℕ) (tried' : List ℕ) (r : Moved) → t.position.turned ≡ true → t.down ≡ false →
         entry ≡ owner t.link → first ≡ first_trier tried t.link m → tried' ≡ noted tried t.link m →

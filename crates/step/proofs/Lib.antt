@@ -10,6 +10,4 @@ pub mod Acting
 pub mod Passing
 pub mod Moving
 pub mod Telling
-pub mod Again
-pub mod Walking
 pub mod Seen

@@ -1,5 +1,5 @@
 -- Laws of what is tried: the lowest message that tries a link, and the list that notes who tries what.
-use Prim.Native.Nat.{ℕ, zero, suc, ◌+◌, ◌*◌, ◌≤◌, ◌<◌}
+use Prim.Native.Nat.{ℕ, zero, suc, ◌+◌, ◌-◌, ◌*◌, ◌≤◌, ◌<◌}
 use mathlib.Core.Path.{◌≡◌, refl, sym, ◌∙◌, ap}
 use mathlib.Core.Bool.{Bool, true, false, cond, ◌&&◌, and-false}
 use mathlib.Core.List.{List, [], ◌∷◌, ◌++◌, map}
@@ -9,6 +9,7 @@ use lib.ListN.{length, get_or, take, drop, set, length-set}
 use lib.Seq.{take-suc, drop-cons, get_or-set_same, get_or-set_other}
 use lib.Dec.{ltb, eqb}
 use borrow.Author.Tests.{lt-ltb, le-ltb, ltb-true, ltb-false, eq-eqb, ne_eqb, eqb-true, eqb-false}
+use Rattle.scope.specs.Limits.{most_messages}
 use Rattle.scope.specs.Lowest.{seek, lowest}
 use Rattle.scope.proofs.Lowest.{seek-most}
 use Rattle.scope.specs.Cycle.{by_number, foremost}
@@ -105,6 +106,19 @@ module _ (tried : List ℕ) (e : ℕ) where
 
   pub trier_past : (m j : ℕ) → triers tried ≤ j → j ≡ found_at tried e → m ≡ first_trier tried e m
   trier_past m j h g = sym (trier_none m (omega arith))
+
+-- a search for the first of them: the entries from j on are still to be looked at
+pub record Looking (tried : List ℕ) (link m n j : ℕ) : Type 0 where
+  pub noting : Noting tried m
+  pub all : n ≡ triers tried
+  pub few : j ≤ n
+  pub left : seek (λ k. eqb (tried_link tried k) link) (n - j) j ≡ found_at tried link
+
+-- so entry j stands within the list
+pub in_list : {tried : List ℕ} {link m n j : ℕ} → Looking tried link m n j → j < n → (j < most_messages) × (2 * j + 2 < length tried)
+in_list v h =
+    let n = v.noting in
+    (omega (arith, v.all, n.few, n.low), omega (arith, v.all, n.few, n.low, n.room))
 
 pub noted-is : (tried : List ℕ) (e m : ℕ) →
     set (set (set tried (2 * triers tried + 1) e) (2 * triers tried + 2) m) 0 (triers tried + 1) ≡ noted tried e m

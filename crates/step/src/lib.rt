@@ -4,7 +4,7 @@
 //
 // A slot is one pass over the messages, in their order: `after` moves them, in records that are lent; `told` moves them and tells what
 // they do; `watched` is that pass too, held against what was seen, and ends at the first message that does something else. `move_all` and
-// `lend` alone hold a slice of records, and their proofs are walks by hand.
+// `lend` alone hold a slice of records.
 
 #![tactic(auto)]
 

@@ -82,26 +82,21 @@ module _ (row counts : List ℕ) (t i : ℕ) (r : RowPlace) (p : IsPlace row i r
 pub lower_next : (m e : ℕ) (paths : List (List Place)) → m < length paths →
     lower_through by_number (m + 1) e 0 paths ≡ lower_through by_number m e 0 paths + one_if (has_second_through e (get_or paths m []))
 unfolding lower_through
-lower_next m e paths h = rw (zero_left m) at (from 0 m paths h)
+lower_next m e paths h = from 0 m m (omega arith) paths h
   where
-    zero_left : (n : ℕ) → 0 + n ≡ n
-    zero_left n = omega arith
-
     -- messages from j on are not lower than j
     none : (k j : ℕ) → k ≤ j → (qs : List (List Place)) → lower_through by_number k e j qs ≡ 0
     none k j l [] = refl
     none k j l (q ∷ qs) = rw (le-ltb j k l, none k (j + 1) (omega arith) qs) (omega arith)
 
-    from : (j d : ℕ) (qs : List (List Place)) → d < length qs →
-        lower_through by_number (j + d + 1) e j qs ≡ lower_through by_number (j + d) e j qs + one_if (has_second_through e (get_or qs d []))
-    from j d [] l = absurd (omega arith)
-    from j zero (q ∷ qs) l =
-        let a : j + 0 ≡ j = omega arith in
-        rw (a, lt-ltb j (j + 1) (omega arith), le-ltb j j (omega arith), none (j + 1) (j + 1) (omega arith) qs, none j (j + 1) (omega arith) qs)
+    from : (j d k : ℕ) → k ≡ j + d → (qs : List (List Place)) → d < length qs →
+        lower_through by_number (k + 1) e j qs ≡ lower_through by_number k e j qs + one_if (has_second_through e (get_or qs d []))
+    from j d k is [] l = absurd (omega arith)
+    from j zero k is (q ∷ qs) l =
+        rw (lt-ltb j (k + 1) (omega arith), le-ltb j k (omega arith), none (k + 1) (j + 1) (omega arith) qs, none k (j + 1) (omega arith) qs)
         (omega arith)
-    from j (suc d) (q ∷ qs) l =
-        let a : j + suc d ≡ j + 1 + d = omega arith in
-        rw (a, lt-ltb j (j + 1 + d + 1) (omega arith), lt-ltb j (j + 1 + d) (omega arith)) (omega (arith, from (j + 1) d qs (omega arith)))
+    from j (suc d) k is (q ∷ qs) l =
+        rw (lt-ltb j (k + 1) (omega arith), lt-ltb j k (omega arith)) (omega (arith, from (j + 1) d k (omega arith) qs (omega arith)))
 
 -- D from the numbers
 module _ (plan : Plan) (m : ℕ) (counts : List ℕ) (c : Costs plan m counts) (few : length plan.links ≤ most_links) where

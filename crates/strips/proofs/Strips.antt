@@ -7,7 +7,7 @@ use mathlib.Core.List.{List, [], ◌∷◌}
 use lib.ListN.{length, get_or-eq_default}
 use Rattle.scope.specs.Limits.{most_slots, most_links, most_messages, table_size, seconds_size}
 use Rattle.scope.specs.Lowest.{seek}
-use Rattle.scope.specs.Plan.{Plan, Place, at, second_at, numbers_at, place_at, place_size, places_at, after_places, place_count, message_at}
+use Rattle.scope.specs.Plan.{Plan, Place, second_at, numbers_at, place_at, place_size, places_at, after_places, place_count, message_at}
 use Rattle.scope.specs.Plan.{after_message, message_count, first_message, timeout_of, plan_of, path_of}
 use Rattle.scope.specs.SecondPath.{message_index}
 use Rattle.scope.specs.Good.{has, holds}

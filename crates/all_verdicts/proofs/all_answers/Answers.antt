@@ -1,7 +1,6 @@
 -- `all_verdicts::all_answers` meets its contract: refusals 1 to 10 and 14 to 19, or what `answers_good` answers.
 use Rattle.plan.proofs.Ways.{gave, refused_as, good-row}
 use Rattle.all_verdicts.proofs.Ways.{bad-row}
-use borrow.Author.Rules.{rules}
 use Rattle.all_verdicts.proofs.all_answers.Goals as goal
 
 pub answers_good-requires : goal.answers_good-requires

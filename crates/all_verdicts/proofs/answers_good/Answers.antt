@@ -1,7 +1,6 @@
 -- `all_verdicts::answers_good` meets its contract, one law for each answer.
 use mathlib.Core.Path.{refl}
 use Rattle.all_verdicts.proofs.Ways.{k_too_large, too_short, may_fill_all, answered}
-use borrow.Author.Rules.{rules}
 use Rattle.all_verdicts.proofs.answers_good.Goals as goal
 
 pub returns-then-k-gt-CUTS : goal.returns-then-k-gt-CUTS

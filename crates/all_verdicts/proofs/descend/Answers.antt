@@ -1,7 +1,7 @@
 -- `all_verdicts::descend` meets its contract: the answers above l are there.
 use mathlib.Core.Path.{refl, ◌∙◌}
 use native.Mathlib.Omega.{arith}
-use Rattle.all_verdicts.proofs.Descending.{Descending, ask-first, descend_first, may-put, ask-next, less, descend_on, room-all}
+use Rattle.all_verdicts.proofs.Descending.{ask-first, descend_first, may-put, ask-next, less, descend_on, room-all}
 use Rattle.all_verdicts.proofs.Descending.{descend_done}
 use Rattle.all_verdicts.proofs.descend.Goals as goal
 

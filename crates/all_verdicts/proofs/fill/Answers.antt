@@ -1,7 +1,6 @@
 -- `all_verdicts::fill` meets its contract: the search is asked of what it is lent.
 use native.Mathlib.Omega.{arith}
 use Rattle.verdicts.proofs.Asking.{may_ask_on}
-use borrow.Author.Rules.{rules}
 use Rattle.all_verdicts.proofs.fill.Goals as goal
 
 pub descend-requires : goal.descend-requires

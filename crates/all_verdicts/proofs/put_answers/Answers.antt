@@ -1,9 +1,9 @@
 -- `all_verdicts::put_answers` meets its contract.
-use Prim.Native.Nat.{◌-◌, ◌*◌}
+use Prim.Native.Nat.{◌*◌}
 use mathlib.Core.Path.{refl}
 use native.Mathlib.Omega.{arith}
 use borrow.Author.Rules.{rules}
-use Rattle.all_verdicts.proofs.Putting.{room-left, Putting, putting_none, putting_more, putting_done}
+use Rattle.all_verdicts.proofs.Putting.{room-left, putting_none, putting_more, putting_done}
 use Rattle.all_verdicts.proofs.put_answers.Goals as goal
 
 pub loop-l-init : goal.loop-l-init

@@ -1,8 +1,5 @@
-use Prim.Native.Nat.{◌-◌, ◌*◌}
-use mathlib.Core.Path.{refl}
-use native.Mathlib.Omega.{arith}
-use borrow.Author.Rules.{rules}
-use Rattle.all_verdicts.proofs.Putting.{room-left, Putting, putting_none, putting_more, putting_done}
+use Prim.Native.Nat.{◌-◌}
+use Rattle.all_verdicts.proofs.Putting.{Putting}
 use Rattle.all_verdicts.proofs.put_answers.Given as goal
 
 abbrev pub invariant-loop-l : goal.invariant-loop-l

@@ -1,6 +1,5 @@
 -- `bits::field` meets its contract: the field is a part of the three bytes as one number. Assumes nothing.
 use native.Mathlib.Nat.{mod-lt}
-use borrow.Author.Rules.{rules}
 use lib.Pow.{pow_pos}
 use Rattle.bits.proofs.Words.{read_law}
 use Rattle.bits.proofs.field.Goals as goal

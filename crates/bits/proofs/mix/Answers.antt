@@ -3,7 +3,6 @@ use Prim.Native.Nat.{◌+◌, ◌*◌, ◌/◌, ◌^◌, ◌≤◌, ◌<◌}
 use native.Mathlib.Nat.{mul-le-mul_left, mod-le}
 use native.Mathlib.Omega.{arith}
 use Rattle.bits.proofs.Words.{parts_most}
-use borrow.Author.Rules.{rules}
 use Rattle.bits.proofs.mix.Goals as goal
 
 pub nonzero_div-result : goal.nonzero_div-result

@@ -3,7 +3,6 @@ use Prim.Native.Nat.{◌*◌, ◌%◌, ◌^◌, ◌≤◌}
 use mathlib.Core.Path.{◌≡◌, ◌∙◌}
 use native.Mathlib.Nat.{one-mul}
 use native.Mathlib.Omega.{arith}
-use borrow.Author.Rules.{rules}
 use lib.Pow.{pow_pos, pow_mono, shl_exact}
 use Rattle.bits.proofs.power.Goals as goal
 

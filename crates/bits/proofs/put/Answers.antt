@@ -4,7 +4,6 @@ use mathlib.Core.Path.{◌∙◌, ap}
 use native.Mathlib.Numerals.{add-one, add-two}
 use Rattle.bits.specs.Word.{mixed}
 use Rattle.bits.proofs.Words.{write_law}
-use borrow.Author.Rules.{rules}
 use Rattle.bits.proofs.put.Goals as goal
 
 pub returns : goal.returns

@@ -2,7 +2,6 @@
 use Prim.Native.Nat.{◌%◌}
 use mathlib.Core.Path.{sym}
 use lib.Seq.{set_out}
-use borrow.Author.Rules.{rules}
 use Rattle.bits.proofs.store.Goals as goal
 
 pub returns-else-i-bytes : goal.returns-else-i-bytes

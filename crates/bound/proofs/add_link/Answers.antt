@@ -1,9 +1,7 @@
 -- `bound::add_link` meets its contract: in the slots below slot s the one weight has come to the other. Assumes nothing.
-use Prim.Native.Nat.{◌-◌}
 use native.Mathlib.Omega.{arith}
 use mathlib.Core.Path.{refl}
-use borrow.Author.Rules.{rules}
-use Rattle.bound.proofs.Others.{AddingLink, link-none, link-small, link-more, link-done}
+use Rattle.bound.proofs.Others.{link-none, link-small, link-more, link-done}
 use Rattle.bound.proofs.add_link.Goals as goal
 
 pub loop-s-init : goal.loop-s-init

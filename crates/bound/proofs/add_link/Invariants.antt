@@ -1,8 +1,5 @@
 use Prim.Native.Nat.{◌-◌}
-use native.Mathlib.Omega.{arith}
-use mathlib.Core.Path.{refl}
-use borrow.Author.Rules.{rules}
-use Rattle.bound.proofs.Others.{AddingLink, link-none, link-small, link-more, link-done}
+use Rattle.bound.proofs.Others.{AddingLink}
 use Rattle.bound.proofs.add_link.Given as goal
 
 abbrev pub invariant-loop-s : goal.invariant-loop-s

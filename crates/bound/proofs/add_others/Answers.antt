@@ -1,10 +1,7 @@
 -- `bound::add_others` meets its contract: the names below link e have the weights of their other ways with them. Assumes nothing.
-use Prim.Native.Nat.{◌-◌}
-use mathlib.Core.Logic.{⊎_elim}
-use borrow.Author.Rules.{rules}
-use Rattle.scope.specs.Limits.{most_links}
-use Rattle.bound.proofs.Others.{AddingOthers, others-none, others-may, others_add, others_skip, others-done}
+use Rattle.bound.proofs.Others.{others-none, others-may, others_add, others_skip, others-done}
 use Rattle.bound.proofs.add_others.Goals as goal
+use Rattle.bound.proofs.add_others.Goals.{then-e-o, else-e-o}
 
 pub loop-e-init : goal.loop-e-init
 loop-e-init c = others-none _ _ _ c.requires
@@ -19,8 +16,10 @@ loop-e-preserved c =
     let may = c.requires in
     let low = c.loop-e-test.true in
     let is = c.other-o.ensures in
-    ⊎_elim (λ t. rw t.5 (others_add _ _ _ may _ _ c.loop-e.invariant low _ is _ t.0.taken t.2.ensures))
-    (λ t. rw t.1 (others_skip _ _ _ may _ _ c.loop-e.invariant low _ is t.0.left)) c.if-e-o.branch
+    elim c.if-e-o.branch [
+      | then-e-o w ↦ rw w.plane-is (others_add _ _ _ may _ _ c.loop-e.invariant low _ is _ w.if-e-o.true w.add_link.ensures)
+      | else-e-o w ↦ rw w.plane-is (others_skip _ _ _ may _ _ c.loop-e.invariant low _ is w.if-e-o.false)
+    ]
 
 pub returns : goal.returns
 returns c = others-done _ _ _ c.requires _ _ c.loop-e.invariant c.loop-e-test.false

@@ -1,8 +1,6 @@
 use Prim.Native.Nat.{◌-◌}
-use mathlib.Core.Logic.{⊎_elim}
-use borrow.Author.Rules.{rules}
 use Rattle.scope.specs.Limits.{most_links}
-use Rattle.bound.proofs.Others.{AddingOthers, others-none, others-may, others_add, others_skip, others-done}
+use Rattle.bound.proofs.Others.{AddingOthers}
 use Rattle.bound.proofs.add_others.Given as goal
 
 abbrev pub invariant-loop-e : goal.invariant-loop-e

@@ -1,10 +1,6 @@
 use Prim.Native.Nat.{◌-◌}
-use native.Mathlib.Omega.{arith}
-use mathlib.Core.Logic.{⊎_elim}
-use borrow.Author.Rules.{rules}
 use Rattle.scope.specs.Limits.{most_links}
 use Rattle.bound.specs.Fronts.{Bucketed}
-use Rattle.bound.proofs.Fronting.{bucketed_none, bucketed_put, bucketed_skip, bucketed_done}
 use Rattle.bound.proofs.bucket.Given as goal
 
 abbrev pub invariant-loop-e : goal.invariant-loop-e

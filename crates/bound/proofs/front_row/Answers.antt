@@ -1,5 +1,4 @@
 -- `bound::front_row` meets its contract. Assumes nothing.
-use borrow.Author.Rules.{rules}
 use Rattle.bound.proofs.Fronting.{front-row}
 use Rattle.bound.proofs.front_row.Goals as goal
 

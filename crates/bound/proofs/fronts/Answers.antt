@@ -1,7 +1,4 @@
 -- `bound::fronts` meets its contract: the slots below s have their rows. Assumes nothing.
-use Prim.Native.Nat.{◌-◌}
-use borrow.Author.Rules.{rules}
-use Rattle.bound.specs.Fronts.{Fronts}
 use Rattle.bound.proofs.Fronting.{fronts-none, fronts-more, fronts-done}
 use Rattle.bound.proofs.fronts.Goals as goal
 

@@ -1,7 +1,5 @@
 use Prim.Native.Nat.{◌-◌}
-use borrow.Author.Rules.{rules}
 use Rattle.bound.specs.Fronts.{Fronts}
-use Rattle.bound.proofs.Fronting.{fronts-none, fronts-more, fronts-done}
 use Rattle.bound.proofs.fronts.Given as goal
 
 abbrev pub invariant-loop-s : goal.invariant-loop-s

@@ -2,8 +2,7 @@
 use Prim.Native.Nat.{ℕ, ◌+◌}
 use mathlib.Core.Path.{◌∙◌, ap}
 use lib.Dec.{eqb}
-use borrow.Author.Rules.{rules}
-use Rattle.bound.proofs.Gathering.{Gathering, gathering_none, gathering_more, gathering_done}
+use Rattle.bound.proofs.Gathering.{gathering_none, gathering_more, gathering_done}
 use Rattle.bound.proofs.gather.Goals as goal
 
 pub loop-k-init : goal.loop-k-init

@@ -1,10 +1,6 @@
-use Prim.Native.Nat.{◌+◌, ◌-◌, ◌*◌}
-use native.Mathlib.Omega.{arith}
-use mathlib.Core.Path.{refl}
-use borrow.Author.Rules.{rules}
+use Prim.Native.Nat.{◌-◌}
 use Rattle.scope.specs.Limits.{most_messages}
-use Rattle.bound.proofs.Planes.{Summing, summing_none, summing_more, summing_done}
-use borrow.Author.Rules.{rules}
+use Rattle.bound.proofs.Planes.{Summing}
 use Rattle.bound.proofs.on_link.Given as goal
 
 abbrev pub invariant-loop-m : goal.invariant-loop-m

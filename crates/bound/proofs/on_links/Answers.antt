@@ -1,9 +1,6 @@
 -- `bound::on_links` meets its contract: the links below link e have their numbers. Assumes nothing.
-use Prim.Native.Nat.{◌-◌}
 use native.Mathlib.Omega.{arith}
-use borrow.Author.Rules.{rules}
-use Rattle.scope.specs.Limits.{most_links}
-use Rattle.bound.proofs.Planes.{Counting, counting_none, counting_more, counting_done}
+use Rattle.bound.proofs.Planes.{counting_none, counting_more, counting_done}
 use Rattle.bound.proofs.on_links.Goals as goal
 
 pub loop-e-init : goal.loop-e-init

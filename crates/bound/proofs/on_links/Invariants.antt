@@ -1,8 +1,6 @@
 use Prim.Native.Nat.{◌-◌}
-use native.Mathlib.Omega.{arith}
-use borrow.Author.Rules.{rules}
 use Rattle.scope.specs.Limits.{most_links}
-use Rattle.bound.proofs.Planes.{Counting, counting_none, counting_more, counting_done}
+use Rattle.bound.proofs.Planes.{Counting}
 use Rattle.bound.proofs.on_links.Given as goal
 
 abbrev pub invariant-loop-e : goal.invariant-loop-e

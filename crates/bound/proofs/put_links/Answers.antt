@@ -1,8 +1,5 @@
 -- `bound::put_links` meets its contract: the numbers of the links below e are put. Assumes nothing.
-use Prim.Native.Nat.{◌-◌}
-use borrow.Author.Rules.{rules}
-use Rattle.scope.specs.Limits.{most_links}
-use Rattle.bound.proofs.Weights.{Putting, putting_none, putting_more, putting_done}
+use Rattle.bound.proofs.Weights.{putting_none, putting_more, putting_done}
 use Rattle.bound.proofs.put_links.Goals as goal
 
 pub loop-e-init : goal.loop-e-init

@@ -1,7 +1,6 @@
 use Prim.Native.Nat.{◌-◌}
-use borrow.Author.Rules.{rules}
 use Rattle.scope.specs.Limits.{most_links}
-use Rattle.bound.proofs.Weights.{Putting, putting_none, putting_more, putting_done}
+use Rattle.bound.proofs.Weights.{Putting}
 use Rattle.bound.proofs.put_links.Given as goal
 
 abbrev pub invariant-loop-e : goal.invariant-loop-e

@@ -1,6 +1,5 @@
 -- `bound::run_down` meets its contract: `top` is the most of the numbers from x on. Assumes nothing.
-use borrow.Author.Rules.{rules}
-use Rattle.bound.proofs.Fronting.{Running, running_none, running_more, running_done}
+use Rattle.bound.proofs.Fronting.{running_none, running_more, running_done}
 use Rattle.bound.proofs.run_down.Goals as goal
 
 pub loop-x-init : goal.loop-x-init

@@ -1,5 +1,4 @@
-use borrow.Author.Rules.{rules}
-use Rattle.bound.proofs.Fronting.{Running, running_none, running_more, running_done}
+use Rattle.bound.proofs.Fronting.{Running}
 use Rattle.bound.proofs.run_down.Given as goal
 
 abbrev pub invariant-loop-x : goal.invariant-loop-x

@@ -1,5 +1,4 @@
 -- `bound::strip_sets` meets its contract: who is in the row behind the last slot is in all sets of its links. Assumes nothing.
-use borrow.Author.Rules.{rules}
 use Rattle.bound.proofs.Gathering.{strip_sets_lem}
 use Rattle.bound.proofs.strip_sets.Goals as goal
 

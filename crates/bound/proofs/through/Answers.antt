@@ -1,8 +1,5 @@
 -- `bound::through` meets its contract: the messages below message m are in the set. Assumes nothing.
-use Prim.Native.Nat.{◌-◌}
-use borrow.Author.Rules.{rules}
-use Rattle.scope.specs.Limits.{most_messages}
-use Rattle.bound.proofs.Gathering.{ThroughBelow, through-none, through-more, through-done}
+use Rattle.bound.proofs.Gathering.{through-none, through-more, through-done}
 use Rattle.bound.proofs.through.Goals as goal
 
 pub loop-m-init : goal.loop-m-init

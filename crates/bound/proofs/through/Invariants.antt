@@ -1,7 +1,6 @@
 use Prim.Native.Nat.{◌-◌}
-use borrow.Author.Rules.{rules}
 use Rattle.scope.specs.Limits.{most_messages}
-use Rattle.bound.proofs.Gathering.{ThroughBelow, through-none, through-more, through-done}
+use Rattle.bound.proofs.Gathering.{ThroughBelow}
 use Rattle.bound.proofs.through.Given as goal
 
 abbrev pub invariant-loop-m : goal.invariant-loop-m

@@ -1,9 +1,6 @@
 -- `bound::through_row` meets its contract: the links below link e have their sets. Assumes nothing.
-use Prim.Native.Nat.{◌-◌}
 use native.Mathlib.Omega.{arith}
-use borrow.Author.Rules.{rules}
-use Rattle.scope.specs.Limits.{most_links}
-use Rattle.bound.proofs.Gathering.{ThroughLinks, links-none, links-more, links-done}
+use Rattle.bound.proofs.Gathering.{links-none, links-more, links-done}
 use Rattle.bound.proofs.through_row.Goals as goal
 
 pub loop-e-init : goal.loop-e-init

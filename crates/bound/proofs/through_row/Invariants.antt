@@ -1,8 +1,6 @@
 use Prim.Native.Nat.{◌-◌}
-use native.Mathlib.Omega.{arith}
-use borrow.Author.Rules.{rules}
 use Rattle.scope.specs.Limits.{most_links}
-use Rattle.bound.proofs.Gathering.{ThroughLinks, links-none, links-more, links-done}
+use Rattle.bound.proofs.Gathering.{ThroughLinks}
 use Rattle.bound.proofs.through_row.Given as goal
 
 abbrev pub invariant-loop-e : goal.invariant-loop-e

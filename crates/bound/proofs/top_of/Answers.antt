@@ -1,9 +1,6 @@
 -- `bound::top_of` meets its contract: `top` is the most of the links below e. Assumes nothing.
-use Prim.Native.Nat.{◌-◌}
 use mathlib.Core.Path.{sym}
-use borrow.Author.Rules.{rules}
-use Rattle.scope.specs.Limits.{most_links}
-use Rattle.bound.proofs.Weights.{TopBelow, top_none, top_more, top_done}
+use Rattle.bound.proofs.Weights.{top_none, top_more, top_done}
 use Rattle.bound.proofs.top_of.Goals as goal
 
 pub loop-e-init : goal.loop-e-init

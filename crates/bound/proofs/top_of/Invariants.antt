@@ -1,8 +1,6 @@
 use Prim.Native.Nat.{◌-◌}
-use mathlib.Core.Path.{sym}
-use borrow.Author.Rules.{rules}
 use Rattle.scope.specs.Limits.{most_links}
-use Rattle.bound.proofs.Weights.{TopBelow, top_none, top_more, top_done}
+use Rattle.bound.proofs.Weights.{TopBelow}
 use Rattle.bound.proofs.top_of.Given as goal
 
 abbrev pub invariant-loop-e : goal.invariant-loop-e

@@ -1,9 +1,6 @@
 -- `bound::tops` meets its contract: `top` is the most from slot s on.
 use native.Mathlib.Omega.{arith}
-use borrow.Author.Rules.{rules}
-use Rattle.scope.specs.Limits.{most_slots}
-use Rattle.bound.specs.Weights.{TopOf}
-use Rattle.bound.proofs.Weights.{Topping, topping_none, topping_more, tops-done}
+use Rattle.bound.proofs.Weights.{topping_none, topping_more, tops-done}
 use Rattle.bound.proofs.tops.Goals as goal
 
 pub loop-s-init : goal.loop-s-init

@@ -1,8 +1,6 @@
-use native.Mathlib.Omega.{arith}
-use borrow.Author.Rules.{rules}
 use Rattle.scope.specs.Limits.{most_slots}
 use Rattle.bound.specs.Weights.{TopOf}
-use Rattle.bound.proofs.Weights.{Topping, topping_none, topping_more, tops-done}
+use Rattle.bound.proofs.Weights.{Topping}
 use Rattle.bound.proofs.tops.Given as goal
 
 abbrev pub invariant-loop-s : goal.invariant-loop-s

@@ -1,5 +1,4 @@
 -- `bound::tops_all` meets its contract: the fronts stand after the tops, which stay. Assumes nothing.
-use borrow.Author.Rules.{rules}
 use Rattle.bound.proofs.Fronting.{tops_and_fronts}
 use Rattle.bound.proofs.tops_all.Goals as goal
 

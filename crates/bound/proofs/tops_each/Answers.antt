@@ -1,9 +1,8 @@
 -- `bound::tops_each` meets its contract: the first j of the three have their numbers. Assumes nothing.
 use Prim.Native.Nat.{◌+◌, ◌-◌, ◌*◌}
 use native.Mathlib.Omega.{arith}
-use borrow.Author.Rules.{rules}
 use Rattle.scope.specs.Limits.{most_slots, plane_size}
-use Rattle.bound.proofs.Planes.{Topped, topped_none, topped_more, topped_done}
+use Rattle.bound.proofs.Planes.{topped_none, topped_more, topped_done}
 use Rattle.bound.proofs.tops_each.Goals as goal
 
 pub loop-j-init : goal.loop-j-init

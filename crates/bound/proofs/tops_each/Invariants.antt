@@ -1,8 +1,5 @@
-use Prim.Native.Nat.{◌+◌, ◌-◌, ◌*◌}
-use native.Mathlib.Omega.{arith}
-use borrow.Author.Rules.{rules}
-use Rattle.scope.specs.Limits.{most_slots, plane_size}
-use Rattle.bound.proofs.Planes.{Topped, topped_none, topped_more, topped_done}
+use Prim.Native.Nat.{◌-◌}
+use Rattle.bound.proofs.Planes.{Topped}
 use Rattle.bound.proofs.tops_each.Given as goal
 
 abbrev pub invariant-loop-j : goal.invariant-loop-j

@@ -2,7 +2,6 @@
 use mathlib.Core.Path.{refl}
 use Rattle.bound.proofs.Weights.{no_links}
 use Rattle.bound.proofs.Others.{weighs_alone}
-use borrow.Author.Rules.{rules}
 use Rattle.bound.proofs.weigh.Goals as goal
 
 pub weigh_cables-requires : goal.weigh_cables-requires

@@ -1,5 +1,4 @@
 -- `bound::weigh_all` meets its contract: one table after another is filled. Assumes nothing.
-use borrow.Author.Rules.{rules}
 use Rattle.bound.proofs.Planes.{may_add, weighs_all}
 use Rattle.bound.proofs.weigh_all.Goals as goal
 

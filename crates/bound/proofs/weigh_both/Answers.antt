@@ -1,10 +1,7 @@
 -- `bound::weigh_both` meets its contract: the sums below index k are put. Assumes nothing.
-use Prim.Native.Nat.{◌-◌}
 use native.Mathlib.Omega.{arith}
 use mathlib.Core.Path.{refl}
-use borrow.Author.Rules.{rules}
-use Rattle.bound.proofs.Planes.{Adding, adding_none, adding_small, adding_more, adding_done}
-use borrow.Author.Rules.{rules}
+use Rattle.bound.proofs.Planes.{adding_none, adding_small, adding_more, adding_done}
 use Rattle.bound.proofs.weigh_both.Goals as goal
 
 pub loop-k-init : goal.loop-k-init

@@ -1,9 +1,5 @@
 use Prim.Native.Nat.{◌-◌}
-use native.Mathlib.Omega.{arith}
-use mathlib.Core.Path.{refl}
-use borrow.Author.Rules.{rules}
-use Rattle.bound.proofs.Planes.{Adding, adding_none, adding_small, adding_more, adding_done}
-use borrow.Author.Rules.{rules}
+use Rattle.bound.proofs.Planes.{Adding}
 use Rattle.bound.proofs.weigh_both.Given as goal
 
 abbrev pub invariant-loop-k : goal.invariant-loop-k

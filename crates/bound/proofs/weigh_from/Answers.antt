@@ -4,8 +4,7 @@ use native.Mathlib.Omega.{arith}
 use mathlib.Core.Path.{ap}
 use lib.Dec.{ltb}
 use Rattle.sets.specs.Sums.{one_if}
-use Rattle.bound.proofs.Weights.{Weighing, weighing_none, weighing_small, weighing_more, weighing_done}
-use borrow.Author.Rules.{rules}
+use Rattle.bound.proofs.Weights.{weighing_none, weighing_small, weighing_more, weighing_done}
 use Rattle.bound.proofs.weigh_from.Goals as goal
 
 pub loop-k-init : goal.loop-k-init

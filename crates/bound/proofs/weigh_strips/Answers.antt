@@ -1,6 +1,5 @@
 -- `bound::weigh_strips` meets its contract: each link's number is how many messages have it. Assumes nothing.
 use mathlib.Core.Path.{refl}
-use borrow.Author.Rules.{rules}
 use Rattle.bound.proofs.Weights.{no_links}
 use Rattle.bound.proofs.Others.{weighs_strips}
 use Rattle.bound.proofs.weigh_strips.Goals as goal

@@ -1,9 +1,5 @@
-use Prim.Native.Nat.{◌-◌}
-use mathlib.Core.Logic.{⊎_elim}
 use mathlib.Core.Path.{sym, ◌∙◌}
-use borrow.Author.Rules.{rules}
-use Rattle.scope.specs.Limits.{most_links}
-use Rattle.cables.proofs.Bytes.{Marking, marking_first, marking_put, marking_next, marking_done}
+use Rattle.cables.proofs.Bytes.{marking_first, marking_put, marking_next, marking_done}
 use Rattle.cables.proofs.higher.Goals as goal
 use Rattle.cables.proofs.higher.Goals.{then-is_higher, else-is_higher}
 
@@ -19,8 +15,8 @@ loop-e-preserved c =
     let others = c.args.others.now in
     let is = c.is_higher.ensures in
     elim c.if-is_higher.branch [
-      then-is_higher w ↦ rw w.those-is (marking_put others l.e l.those c.loop-e-test.true l.invariant (sym is ∙ w.if-is_higher.true))
-    | else-is_higher w ↦ rw w.those-is (marking_next others l.e l.those c.loop-e-test.true l.invariant (sym is ∙ w.if-is_higher.false))
+      | then-is_higher w ↦ rw w.those-is (marking_put others l.e l.those c.loop-e-test.true l.invariant (sym is ∙ w.if-is_higher.true))
+      | else-is_higher w ↦ rw w.those-is (marking_next others l.e l.those c.loop-e-test.true l.invariant (sym is ∙ w.if-is_higher.false))
     ]
 
 pub returns : goal.returns

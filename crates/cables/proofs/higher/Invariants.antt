@@ -1,10 +1,7 @@
 -- `cables::higher` meets its contract. The invariant: the bytes passed are put, and the others are 0. Assumes nothing.
 use Prim.Native.Nat.{◌-◌}
-use mathlib.Core.Logic.{⊎_elim}
-use mathlib.Core.Path.{sym, ◌∙◌}
-use borrow.Author.Rules.{rules}
 use Rattle.scope.specs.Limits.{most_links}
-use Rattle.cables.proofs.Bytes.{Marking, marking_first, marking_put, marking_next, marking_done}
+use Rattle.cables.proofs.Bytes.{Marking}
 use Rattle.cables.proofs.higher.Given as goal
 
 abbrev pub invariant-loop-e : goal.invariant-loop-e

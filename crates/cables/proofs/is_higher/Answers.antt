@@ -1,6 +1,5 @@
 -- `cables::is_higher` meets its contract: the other way of a link is below it. Assumes nothing.
 use mathlib.Core.Path.{ap}
-use borrow.Author.Rules.{rules}
 use lib.Dec.{ltb}
 use Rattle.cables.proofs.is_higher.Goals as goal
 

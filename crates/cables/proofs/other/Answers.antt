@@ -1,7 +1,6 @@
 -- `cables::other` meets its contract: within the list its byte, past the end the link itself. Assumes nothing.
 use mathlib.Core.Path.{sym}
 use native.Mathlib.Omega.{arith}
-use borrow.Author.Rules.{rules}
 use lib.ListN.{get_or-eq_default}
 use Rattle.cables.proofs.Bytes.{within}
 use Rattle.cables.proofs.other.Goals as goal

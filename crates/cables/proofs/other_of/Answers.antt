@@ -1,6 +1,5 @@
 -- `cables::other_of` meets its contract: the lowest link with the ends reversed, or the link itself. Assumes nothing.
 use native.Mathlib.Omega.{arith}
-use borrow.Author.Rules.{rules}
 use Rattle.cables.proofs.Ends.{ends-are, found_none, found_one}
 use Rattle.cables.proofs.other_of.Goals as goal
 

@@ -1,10 +1,8 @@
-use Prim.Native.Nat.{◌-◌, ◌≤◌}
 use mathlib.Core.Path.{refl}
 use native.Mathlib.Omega.{arith}
-use borrow.Author.Rules.{rules}
 use Rattle.scope.specs.Plan.{plan_of}
 use Rattle.rows.proofs.Parts.{link-count}
-use Rattle.cables.proofs.Bytes.{Finding, finding_first, finding_next, finding_done}
+use Rattle.cables.proofs.Bytes.{finding_first, finding_next, finding_done}
 use Rattle.cables.proofs.other_ways.Goals as goal
 
 pub put_ends-requires : goal.put_ends-requires

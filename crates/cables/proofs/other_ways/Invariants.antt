@@ -1,11 +1,7 @@
 -- `cables::other_ways` meets its contract. The invariant: the other way of each link passed is found. Assumes nothing.
 use Prim.Native.Nat.{◌-◌, ◌≤◌}
-use mathlib.Core.Path.{refl}
-use native.Mathlib.Omega.{arith}
-use borrow.Author.Rules.{rules}
 use Rattle.scope.specs.Plan.{plan_of}
-use Rattle.rows.proofs.Parts.{link-count}
-use Rattle.cables.proofs.Bytes.{Finding, finding_first, finding_next, finding_done}
+use Rattle.cables.proofs.Bytes.{Finding}
 use Rattle.cables.proofs.other_ways.Given as goal
 
 abbrev pub invariant-loop-e : goal.invariant-loop-e

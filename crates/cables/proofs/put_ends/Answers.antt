@@ -1,8 +1,6 @@
-use Prim.Native.Nat.{◌-◌, ◌<◌, ◌≤◌}
+use Prim.Native.Nat.{◌-◌, ◌<◌}
 use native.Mathlib.Omega.{arith}
-use borrow.Author.Rules.{rules}
-use Rattle.scope.specs.Plan.{plan_of, link_count}
-use Rattle.cables.specs.Ends.{EndsFrom}
+use Rattle.scope.specs.Plan.{link_count}
 use Rattle.cables.proofs.Ends.{ends-are, putting_first, putting_next, putting_done}
 use Rattle.cables.proofs.put_ends.Goals as goal
 
@@ -20,8 +18,7 @@ bounds-table-from c =
 
 pub loop-e-preserved : goal.loop-e-preserved
 loop-e-preserved c =
-    let l = c.loop-e in
-    (
+    let l = c.loop-e in (
       putting_next c.args.row.now c.requires.lies l.e _ _ l.table c.loop-e-test.true l.invariant.1 c.number-from.ensures
           c.number-to.ensures l.invariant.0,
       omega arith,

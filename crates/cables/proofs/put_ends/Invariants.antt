@@ -1,10 +1,7 @@
 -- `cables::put_ends` meets its contract. The invariant: each byte is of the links passed, from the last down. Assumes nothing.
-use Prim.Native.Nat.{◌-◌, ◌<◌, ◌≤◌}
-use native.Mathlib.Omega.{arith}
-use borrow.Author.Rules.{rules}
+use Prim.Native.Nat.{◌≤◌}
 use Rattle.scope.specs.Plan.{plan_of, link_count}
 use Rattle.cables.specs.Ends.{EndsFrom}
-use Rattle.cables.proofs.Ends.{ends-are, putting_first, putting_next, putting_done}
 use Rattle.cables.proofs.put_ends.Given as goal
 
 abbrev pub invariant-loop-e : goal.invariant-loop-e

@@ -1,8 +1,6 @@
 -- `capture::add` meets its contract: one law for each way through its tests. Assumes nothing.
 use mathlib.Core.Path.{sym, ◌∙◌}
 use native.Mathlib.Omega.{arith}
-use borrow.Author.Rules.{rules}
-use borrow.Author.Tests.{not-true, not-false}
 use Rattle.scope.specs.Plan.{plan_of}
 use Rattle.capture.proofs.Adding as law
 use Rattle.capture.proofs.add.Goals as goal

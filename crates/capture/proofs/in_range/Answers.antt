@@ -1,5 +1,4 @@
 -- `capture::in_range` meets its contract: one law for each way out. Assumes nothing.
-use borrow.Author.Rules.{rules}
 use Rattle.capture.proofs.Tests.{no_slot, no_link_lem, has_both}
 use Rattle.capture.proofs.in_range.Goals as goal
 

@@ -1,10 +1,6 @@
-use Prim.Native.Nat.{◌-◌, ◌*◌, ◌≤◌}
 use mathlib.Core.Path.{refl}
 use native.Mathlib.Omega.{arith}
-use lib.ListN.{take}
-use borrow.Author.Rules.{rules}
 use Rattle.scope.specs.Plan.{plan_of}
-use Rattle.capture.specs.Kept.{Keeps}
 use Rattle.capture.proofs.Walk.{zeros, walk_first, walk_next, walk_bad, walk_done, walk_end}
 use Rattle.capture.proofs.keep.Goals as goal
 
@@ -27,13 +23,12 @@ returns-then-kept c =
     c.if-kept.true
 
 pub loop-j-preserved : goal.loop-j-preserved
-loop-j-preserved c =
-    (
-      omega arith,
-      walk_next (plan_of c.args.row.now) c.args.capture.now c.loop-j.j _ _ _ _ _ _ _ _ refl c.loop-j-test.true
-          c.number-slot.ensures.is c.number-link.ensures.is c.number-message.ensures.is c.add-kept.ensures
-          c.loop-j.invariant.1,
-    )
+loop-j-preserved c = (
+  omega arith,
+  walk_next (plan_of c.args.row.now) c.args.capture.now c.loop-j.j _ _ _ _ _ _ _ _ refl c.loop-j-test.true
+      c.number-slot.ensures.is c.number-link.ensures.is c.number-message.ensures.is c.add-kept.ensures
+      c.loop-j.invariant.1,
+)
 
 pub shape_of-crossed-then-capture-n : goal.shape_of-crossed-then-capture-n
 shape_of-crossed-then-capture-n c =

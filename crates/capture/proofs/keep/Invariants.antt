@@ -1,12 +1,8 @@
 -- `capture::keep` meets its contract. The loop's invariant: the first j triples are kept. Assumes nothing.
 use Prim.Native.Nat.{◌-◌, ◌*◌, ◌≤◌}
-use mathlib.Core.Path.{refl}
-use native.Mathlib.Omega.{arith}
 use lib.ListN.{take}
-use borrow.Author.Rules.{rules}
 use Rattle.scope.specs.Plan.{plan_of}
 use Rattle.capture.specs.Kept.{Keeps}
-use Rattle.capture.proofs.Walk.{zeros, walk_first, walk_next, walk_bad, walk_done, walk_end}
 use Rattle.capture.proofs.keep.Given as goal
 
 abbrev pub invariant-loop-j : goal.invariant-loop-j

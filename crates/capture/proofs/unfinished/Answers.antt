@@ -1,5 +1,4 @@
 -- `capture::unfinished` meets its contract: `spoil` makes of what is kept what is kept with an unfinished triple. Assumes nothing.
-use borrow.Author.Rules.{rules}
 use Rattle.capture.proofs.Keeping.{ends}
 use Rattle.capture.proofs.unfinished.Goals as goal
 

@@ -1,5 +1,4 @@
 -- `capture_lines::begin` meets its contract: no triple is kept, and no byte of a line is read.
-use borrow.Author.Rules.{rules}
 use Rattle.capture_lines.proofs.Pieces.{starts}
 use Rattle.capture_lines.proofs.begin.Goals as goal
 

@@ -1,10 +1,7 @@
 use Prim.Native.Nat.{◌-◌, ◌≤◌}
-use mathlib.Core.Path.{sym, ◌∙◌}
-use borrow.Author.Rules.{rules}
 use lib.ListN.{length, take}
 use Rattle.scope.specs.Plan.{plan_of}
 use Rattle.capture_lines.specs.Reads.{Feeds}
-use Rattle.capture_lines.proofs.Pieces.{feeds_none, feeds_more, feeds_all}
 use Rattle.capture_lines.proofs.feed.Given as goal
 
 abbrev pub invariant-loop-i : goal.invariant-loop-i

@@ -1,6 +1,5 @@
 -- `capture_lines::finish` meets its contract: by what is kept, and by the line that the text has ended in.
 use mathlib.Core.Path.{sym, ◌∙◌}
-use borrow.Author.Rules.{rules}
 use Rattle.capture_lines.proofs.Pieces.{ends-bad, ends_fresh, ends_midst}
 use Rattle.capture_lines.proofs.finish.Goals as goal
 

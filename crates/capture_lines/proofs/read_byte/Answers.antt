@@ -1,6 +1,5 @@
 -- `capture_lines::read_byte` meets its contract: by what the byte does to the line.
 use mathlib.Core.Path.{sym, ◌∙◌}
-use borrow.Author.Rules.{rules}
 use Rattle.capture_lines.proofs.Pieces.{feeds_bad, feeds_on, feeds_end, feeds_out}
 use Rattle.capture_lines.proofs.read_byte.Goals as goal
 

@@ -1,7 +1,6 @@
 -- `clues::look` meets its contract: the slot is watched, up to the first message that differs from the table.
 use mathlib.Core.Path.{refl, ap}
 use native.Mathlib.Omega.{arith}
-use borrow.Author.Rules.{rules}
 use Rattle.step.specs.declared.Time.{Time}
 use Rattle.clues.proofs.Looking.{may-go, slot_small, part-is, looked-other, looked-same}
 use Rattle.clues.proofs.look.Goals as goal

@@ -1,23 +1,8 @@
 -- `clues::suspect` meets its contract: each turn plays one slot more, or cuts one more link that a slot names.
-use Prim.Native.Nat.{◌+◌, ◌-◌}
 use native.Mathlib.Omega.{arith}
 use mathlib.Core.Path.{refl, sym}
 use mathlib.Core.Bool.{true≢false}
-use borrow.Author.Rules.{rules}
-use Rattle.clues.proofs.Suspecting.{
-  Suspects,
-  suspects_none_yet,
-  may_look,
-  suspects_on,
-  suspects_dead,
-  link-small,
-  suspects_none,
-  suspects_more,
-  suspects_over,
-  suspects_fewer,
-  suspects_only,
-  suspects_given_up,
-}
+use Rattle.clues.proofs.Suspecting.{suspects_none_yet, may_look, suspects_on, suspects_dead, link-small, suspects_none, suspects_more, suspects_over, suspects_fewer, suspects_only, suspects_given_up}
 use Rattle.clues.proofs.suspect.Goals as goal
 
 pub loop-i-init : goal.loop-i-init

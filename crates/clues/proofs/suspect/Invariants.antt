@@ -1,22 +1,5 @@
 use Prim.Native.Nat.{◌+◌, ◌-◌}
-use native.Mathlib.Omega.{arith}
-use mathlib.Core.Path.{refl, sym}
-use mathlib.Core.Bool.{true≢false}
-use borrow.Author.Rules.{rules}
-use Rattle.clues.proofs.Suspecting.{
-  Suspects,
-  suspects_none_yet,
-  may_look,
-  suspects_on,
-  suspects_dead,
-  link-small,
-  suspects_none,
-  suspects_more,
-  suspects_over,
-  suspects_fewer,
-  suspects_only,
-  suspects_given_up,
-}
+use Rattle.clues.proofs.Suspecting.{Suspects}
 use Rattle.clues.proofs.suspect.Given as goal
 
 abbrev pub invariant-loop-i : goal.invariant-loop-i

@@ -1,11 +1,9 @@
 -- `cut_lines::cuts` meets its contract: what the loop has left are the cuts of the lines from index i on.
 use borrow.Author.Rules.{rules}
-use Prim.Native.Nat.{◌+◌, ◌*◌, ◌/◌}
 use mathlib.Core.Path.{◌≡◌}
 use native.Mathlib.Omega.{arith}
-use lib.ListN.{length, length-set}
-use Rattle.scope.specs.Lines.{cuts_from}
-use Rattle.text.proofs.Laid.{Left, left-first, left_is, left-more, left-done, puts_one}
+use lib.ListN.{length-set}
+use Rattle.text.proofs.Laid.{left-first, left_is, left-more, left-done, puts_one}
 use Rattle.cut_lines.proofs.Forms.{end_none, end_line, end_is, slot-some}
 use Rattle.cut_lines.proofs.Lines.{cuts-none, cuts-end, line-more, line-bad, puts_two, cuts-done}
 use Rattle.cut_lines.proofs.cuts.Goals as goal

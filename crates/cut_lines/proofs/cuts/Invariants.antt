@@ -1,12 +1,8 @@
-use borrow.Author.Rules.{rules}
 use Prim.Native.Nat.{◌+◌, ◌*◌, ◌/◌}
 use mathlib.Core.Path.{◌≡◌}
-use native.Mathlib.Omega.{arith}
-use lib.ListN.{length, length-set}
+use lib.ListN.{length}
 use Rattle.scope.specs.Lines.{cuts_from}
-use Rattle.text.proofs.Laid.{Left, left-first, left_is, left-more, left-done, puts_one}
-use Rattle.cut_lines.proofs.Forms.{end_none, end_line, end_is, slot-some}
-use Rattle.cut_lines.proofs.Lines.{cuts-none, cuts-end, line-more, line-bad, puts_two, cuts-done}
+use Rattle.text.proofs.Laid.{Left}
 use Rattle.cut_lines.proofs.cuts.Given as goal
 
 abbrev pub invariant-loop-lines : goal.invariant-loop-lines

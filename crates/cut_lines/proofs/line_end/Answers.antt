@@ -1,8 +1,6 @@
 -- `cut_lines::line_end` meets its contract: one law for each test that fails, and one where all hold.
 use Prim.Native.Nat.{◌+◌}
 use mathlib.Core.Path.{sym, ◌∙◌, ap}
-use borrow.Author.Rules.{rules}
-use borrow.Author.Tests.{not-true, not-false}
 use native.Mathlib.Omega.{arith}
 use Rattle.cut_lines.proofs.Forms.{stands-cut, no_word, no_slot, no_space, no_link_lem, no_feed, is-line, feed_is, is-end, no_end}
 use Rattle.cut_lines.proofs.line_end.Goals as goal

@@ -1,6 +1,5 @@
 -- `cut_lines::number` meets its contract: a digit behind a single one shows that there is no number.
 use mathlib.Core.Path.{sym, ◌∙◌, ap}
-use borrow.Author.Rules.{rules}
 use Rattle.scope.specs.Lines.{is_digit}
 use Rattle.cut_lines.proofs.Meets.{found-cut, found_one, found-other}
 use Rattle.cut_lines.proofs.number.Goals as goal

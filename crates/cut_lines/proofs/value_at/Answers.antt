@@ -1,5 +1,4 @@
 -- `cut_lines::value_at` meets its contract.
-use borrow.Author.Rules.{rules}
 use Rattle.cut_lines.proofs.value_at.Goals as goal
 
 pub returns : goal.returns

@@ -1,7 +1,6 @@
 -- `cut_replay::event_numbers` meets its contract: 2 × t × M is small for a good row. Assumes nothing.
 use native.Mathlib.Omega.{arith}
 use Rattle.cut_replay.proofs.Ways.{few-numbers}
-use borrow.Author.Rules.{rules}
 use Rattle.cut_replay.proofs.event_numbers.Goals as goal
 
 pub overflow_mul-result-2 : goal.overflow_mul-result-2

@@ -1,7 +1,6 @@
 -- `cut_replay::replay` meets its contract: refusals 1 to 10 and 14 to 19, or what `replay_good` gives. Assumes nothing.
 use Rattle.plan.proofs.Ways.{gave, refused_as, good-row}
 use Rattle.cut_replay.proofs.Ways.{replay-bad}
-use borrow.Author.Rules.{rules}
 use Rattle.cut_replay.proofs.replay.Goals as goal
 
 pub replay_good-requires : goal.replay_good-requires

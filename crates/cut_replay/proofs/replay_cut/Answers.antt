@@ -2,7 +2,6 @@
 use mathlib.Core.Path.{refl}
 use native.Mathlib.Omega.{arith}
 use Rattle.cut_replay.proofs.Ways.{good-lies, good-may, replay-short, replay-gives}
-use borrow.Author.Rules.{rules}
 use Rattle.cut_replay.proofs.replay_cut.Goals as goal
 
 pub event_numbers-needed-requires : goal.event_numbers-needed-requires

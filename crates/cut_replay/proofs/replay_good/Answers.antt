@@ -1,7 +1,6 @@
 -- `cut_replay::replay_good` meets its contract: refusal 12, or what `replay_cut` gives. Assumes nothing.
 use Rattle.plan.proofs.Ways.{gave, refused_as}
 use Rattle.cut_replay.proofs.Ways.{good-lies, replay-cuts}
-use borrow.Author.Rules.{rules}
 use Rattle.cut_replay.proofs.replay_good.Goals as goal
 
 pub other_ways-others-requires : goal.other_ways-others-requires

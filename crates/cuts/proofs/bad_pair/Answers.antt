@@ -1,6 +1,5 @@
 -- `cuts::bad_pair` meets its contract: the first rule that is broken decides. Assumes nothing.
 use Rattle.cuts.proofs.Pairs.{bad_odd, bad-slot, bad-link, bad-falls, bad_twice, bad_higher}
-use borrow.Author.Rules.{rules}
 use Rattle.cuts.proofs.bad_pair.Goals as goal
 
 pub returns-then-cuts-i : goal.returns-then-cuts-i

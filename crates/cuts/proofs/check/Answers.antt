@@ -1,7 +1,6 @@
 -- `cuts::check` meets its contract: refusal 12 where `first_bad` finds a pair. Assumes nothing.
 use mathlib.Core.Path.{◌∙◌}
 use Rattle.cuts.proofs.Pairs.{check_some, check_none}
-use borrow.Author.Rules.{rules}
 use Rattle.cuts.proofs.check.Goals as goal
 
 pub returns-then-i-n : goal.returns-then-i-n

@@ -1,8 +1,6 @@
 -- `cuts::down_in` meets its contract. The loop's invariant: `down` tells of the first j pairs. Assumes nothing.
 use Prim.Native.Nat.{◌-◌, ◌≤◌}
-use native.Mathlib.Omega.{arith}
-use Rattle.cuts.proofs.Downs.{Told, told_none, told_more, told-all}
-use borrow.Author.Rules.{rules}
+use Rattle.cuts.proofs.Downs.{Told}
 use Rattle.cuts.proofs.down_in.Given as goal
 
 abbrev pub invariant-loop-j : goal.invariant-loop-j

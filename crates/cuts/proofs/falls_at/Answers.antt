@@ -1,6 +1,5 @@
 -- `cuts::falls_at` meets its contract: one law for each way through its tests. Assumes nothing.
 use Rattle.cuts.proofs.Pairs.{falls-first, falls_rises, falls-slot, falls-link}
-use borrow.Author.Rules.{rules}
 use Rattle.cuts.proofs.falls_at.Goals as goal
 
 pub returns-then-i-eq0 : goal.returns-then-i-eq0

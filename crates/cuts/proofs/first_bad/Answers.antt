@@ -1,6 +1,5 @@
 use mathlib.Core.Path.{◌≡◌, sym, ◌∙◌, ap}
-use Prim.Native.Nat.{◌-◌, ◌≤◌}
-use Rattle.scope.specs.Lowest.{seek, lowest}
+use Rattle.scope.specs.Lowest.{seek}
 use Rattle.scope.specs.Cuts.{pairs}
 use Rattle.scope.proofs.Lowest.{seek_found, seek-next, seek-done}
 use Rattle.cuts.specs.Pairs.{is_bad}

@@ -1,12 +1,9 @@
 -- `cuts::first_bad` meets its contract. The loop's invariant: the search from i on finds the same. Assumes nothing.
-use mathlib.Core.Path.{◌≡◌, sym, ◌∙◌, ap}
+use mathlib.Core.Path.{◌≡◌}
 use Prim.Native.Nat.{◌-◌, ◌≤◌}
 use Rattle.scope.specs.Lowest.{seek, lowest}
 use Rattle.scope.specs.Cuts.{pairs}
-use Rattle.scope.proofs.Lowest.{seek_found, seek-next, seek-done}
 use Rattle.cuts.specs.Pairs.{is_bad}
-use native.Mathlib.Omega.{arith}
-use borrow.Author.Rules.{rules}
 use Rattle.cuts.proofs.first_bad.Given as goal
 
 abbrev pub invariant-loop-i : goal.invariant-loop-i

@@ -1,6 +1,5 @@
 -- `cuts::is_down` meets its contract: within the list its byte, past the end nothing is down. Assumes nothing.
 use mathlib.Core.Path.{sym}
-use borrow.Author.Rules.{rules}
 use Rattle.cuts.proofs.Downs.{down-past}
 use Rattle.cuts.proofs.is_down.Goals as goal
 

@@ -1,6 +1,5 @@
 -- `cuts::put_link` meets its contract: past the list nothing changes. Assumes nothing.
 use mathlib.Core.Path.{sym}
-use borrow.Author.Rules.{rules}
 use lib.Seq.{set_out}
 use Rattle.cuts.proofs.put_link.Goals as goal
 

@@ -1,5 +1,4 @@
 -- `cuts::put_pair` meets its contract: one law for each way through its test. Assumes nothing.
-use borrow.Author.Rules.{rules}
 use Rattle.cuts.proofs.Downs.{put-down, put-later}
 use Rattle.cuts.proofs.put_pair.Goals as goal
 

@@ -1,10 +1,6 @@
 use native.Mathlib.Omega.{arith}
-use Prim.Native.Nat.{ℕ, ◌-◌, ◌≤◌, ◌<◌}
-use mathlib.Core.Path.{◌≡◌, sym}
-use mathlib.Core.Bool.{false}
-use lib.Dec.{eqb}
+use mathlib.Core.Path.{sym}
 use borrow.Author.Count.{below_more, below_none}
-use Rattle.scope.specs.Cuts.{cut_link}
 use Rattle.scope.proofs.Some.{none, some_one}
 use Rattle.cuts.proofs.Pairs.{names, names-not}
 use borrow.Author.Rules.{rules}
@@ -21,14 +17,13 @@ returns-then-number-link c =
     c.loop-j.invariant.1 c.if-number-link.true))
 
 pub loop-j-preserved : goal.loop-j-preserved
-loop-j-preserved c =
-    (
-      search rules,
-      c.loop-j.invariant.1,
-      below_more _ _ c.loop-j.invariant.2
-          (names-not c.args.cuts.now c.args.i c.loop-j.j _ _ c.number.ensures.is
-          c.loop-j.invariant.1 c.if-number-link.false),
-    )
+loop-j-preserved c = (
+  search rules,
+  c.loop-j.invariant.1,
+  below_more _ _ c.loop-j.invariant.2
+      (names-not c.args.cuts.now c.args.i c.loop-j.j _ _ c.number.ensures.is
+      c.loop-j.invariant.1 c.if-number-link.false),
+)
 
 pub returns : goal.returns
 returns c = sym (none _ _ (λ k h. c.loop-j.invariant.2 k (omega arith)))

@@ -1,14 +1,9 @@
 -- `cuts::twice` meets its contract. The loop's invariant: none of the first j pairs names the link. Assumes nothing.
-use native.Mathlib.Omega.{arith}
 use Prim.Native.Nat.{ℕ, ◌-◌, ◌≤◌, ◌<◌}
-use mathlib.Core.Path.{◌≡◌, sym}
+use mathlib.Core.Path.{◌≡◌}
 use mathlib.Core.Bool.{false}
 use lib.Dec.{eqb}
-use borrow.Author.Count.{below_more, below_none}
 use Rattle.scope.specs.Cuts.{cut_link}
-use Rattle.scope.proofs.Some.{none, some_one}
-use Rattle.cuts.proofs.Pairs.{names, names-not}
-use borrow.Author.Rules.{rules}
 use Rattle.cuts.proofs.twice.Given as goal
 
 abbrev pub invariant-loop-j : goal.invariant-loop-j

@@ -1,6 +1,5 @@
 -- `cycle::count_home` meets its contract: it counts the records. Assumes nothing.
 use mathlib.Core.Path.{◌∙◌, ap}
-use borrow.Author.Rules.{rules}
 use Rattle.scope.specs.Cycle.{arrived}
 use Rattle.step.specs.Stand.{positions_of}
 use Rattle.cycle.proofs.count_home.Goals as goal

@@ -1,16 +1,11 @@
-use Prim.Native.Nat.{ℕ, ◌-◌, ◌≤◌}
 use mathlib.Core.Path.{◌≡◌}
-use mathlib.Core.List.{List}
-use lib.ListN.{length}
 use native.Mathlib.Omega.{arith}
-use Rattle.scope.specs.Cycle.{arrived}
-use Rattle.step.specs.Stand.{positions_of}
 use Rattle.cycle.proofs.Start.{arrived-none, arrived-more}
 use borrow.Author.Rules.{rules}
 use Rattle.cycle.proofs.count_records.Goals as goal
 
 pub loop-j-init : goal.loop-j-init
-loop-j-init c = (omega arith, omega arith, search rules, λ row. arrived-none row c.args.t1)
+loop-j-init c = (omega arith, omega arith, search rules, λ row. arrived-none row c.args.ps)
 
 pub overflow_add-count : goal.overflow_add-count
 overflow_add-count c = omega (
@@ -27,7 +22,7 @@ loop-j-preserved c = (
   omega (arith, c.home_one-count.ensures.1, c.loop-j.invariant.1),
   c.loop-j.invariant.2,
   λ row.
-      arrived-more row c.args.t1 c.loop-j.j _ _
+      arrived-more row c.args.ps c.loop-j.j _ _
       (omega (arith, c.loop-j.invariant.2, c.loop-j-test.true, c.requires))
       (c.loop-j.invariant.3 row) c.home_one-count.ensures.0,
 )

@@ -3,11 +3,8 @@ use Prim.Native.Nat.{ℕ, ◌-◌, ◌≤◌}
 use mathlib.Core.Path.{◌≡◌}
 use mathlib.Core.List.{List}
 use lib.ListN.{length}
-use native.Mathlib.Omega.{arith}
 use Rattle.scope.specs.Cycle.{arrived}
 use Rattle.step.specs.Stand.{positions_of}
-use Rattle.cycle.proofs.Start.{arrived-none, arrived-more}
-use borrow.Author.Rules.{rules}
 use Rattle.cycle.proofs.count_records.Given as goal
 
 abbrev pub invariant-loop-j : goal.invariant-loop-j

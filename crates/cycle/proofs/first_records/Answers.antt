@@ -1,6 +1,5 @@
-use Prim.Native.Nat.{◌-◌}
 use native.Mathlib.Omega.{arith}
-use Rattle.cycle.proofs.Start.{Starting, starting_none, starting_fits, starting_more, starting_done}
+use Rattle.cycle.proofs.Start.{starting_none, starting_fits, starting_more, starting_done}
 use borrow.Author.Rules.{rules}
 use Rattle.cycle.proofs.first_records.Goals as goal
 

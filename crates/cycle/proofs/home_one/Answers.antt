@@ -1,7 +1,6 @@
 -- `cycle::home_one` meets its contract: 1 exactly at the target. Assumes nothing.
 use mathlib.Core.Path.{sym, ◌∙◌}
 use native.Mathlib.Omega.{arith}
-use borrow.Author.Rules.{rules}
 use Rattle.cycle.proofs.home_one.Goals as goal
 
 pub returns-then-is_home : goal.returns-then-is_home

@@ -1,6 +1,5 @@
 -- `cycle::play` meets its contract: first positions, all slots, and the count at the end. Assumes nothing.
 use Rattle.cycle.proofs.Whole.{may_run, played}
-use borrow.Author.Rules.{rules}
 use Rattle.cycle.proofs.play.Goals as goal
 
 pub start_all-first-requires : goal.start_all-first-requires

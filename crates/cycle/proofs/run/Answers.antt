@@ -3,12 +3,7 @@ use mathlib.Core.Path.{◌≡◌, ◌∙◌, ap, refl}
 use lib.ListN.{length, take, drop, length-drop}
 use lib.Seq.{length-take-le}
 use native.Mathlib.Omega.{arith}
-use borrow.Author.Rules.{rules}
-use Rattle.scope.specs.Plan.{plan_of}
-use Rattle.scope.specs.Cycle.{order_of}
-use Rattle.table.specs.Table.{entry_at}
-use Rattle.cuts.specs.Down.{cut_below}
-use Rattle.cycle.proofs.Slots.{Running, running_none, running_room, running_more, running_done}
+use Rattle.cycle.proofs.Slots.{running_none, running_room, running_more, running_done}
 use Rattle.cycle.proofs.run.Goals as goal
 
 pub loop-time-init : goal.loop-time-init
@@ -60,7 +55,7 @@ overflow_add-at c =
     c.number.ensures ∙ ap (λ t. t.0)
     c.time-time.ensures in
     let e : l.standing.time.0 < c.args.timeout = omega (arith, n, c.if-timeout-number.false) in
-    omega (arith, running_room _ _ _ _ _ _ _ _ _ _ _ _ l.invariant e, l.invariant.same, c.well-formed)
+    omega (arith, running_room _ _ _ _ _ _ _ _ _ _ _ _ l.invariant e, l.invariant.same)
 
 pub loop-time-smaller : goal.loop-time-smaller
 loop-time-smaller c =

@@ -1,15 +1,10 @@
 -- `cycle::run` meets its contract. The loop's invariant: what is told, with what is still to tell, is all. Assumes nothing.
-use Prim.Native.Nat.{◌-◌, ◌<◌}
-use mathlib.Core.Path.{◌≡◌, ◌∙◌, ap, refl}
-use lib.ListN.{length, take, drop, length-drop}
-use lib.Seq.{length-take-le}
-use native.Mathlib.Omega.{arith}
-use borrow.Author.Rules.{rules}
+use Prim.Native.Nat.{◌-◌}
 use Rattle.scope.specs.Plan.{plan_of}
 use Rattle.scope.specs.Cycle.{order_of}
 use Rattle.table.specs.Table.{entry_at}
 use Rattle.cuts.specs.Down.{cut_below}
-use Rattle.cycle.proofs.Slots.{Running, running_none, running_room, running_more, running_done}
+use Rattle.cycle.proofs.Slots.{Running}
 use Rattle.cycle.proofs.run.Given as goal
 
 abbrev pub invariant-loop-time : goal.invariant-loop-time

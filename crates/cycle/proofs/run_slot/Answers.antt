@@ -1,5 +1,4 @@
 -- `cycle::run_slot` meets its contract: what is lent as down is what the list takes down in this slot. Assumes nothing.
-use borrow.Author.Rules.{rules}
 use Rattle.cycle.proofs.Whole.{done_by}
 use Rattle.cycle.proofs.run_slot.Goals as goal
 

@@ -1,6 +1,5 @@
 -- `explain_text::explained` meets its contract: the listing is laid behind the line's place, and the line before it.
 use native.Mathlib.Omega.{arith}
-use borrow.Author.Rules.{rules}
 use Rattle.explain_text.proofs.Captures.{lines_given, lines_refused, given_short, refused-short}
 use Rattle.explain_text.proofs.explained.Goals as goal
 

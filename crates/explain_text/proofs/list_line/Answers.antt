@@ -1,14 +1,10 @@
 -- `explain_text::list_line` meets its contract: the first number, the others each after a space, and a line feed.
-use native.Mathlib.Omega.{arith}
 use borrow.Author.Rules.{rules}
 use Rattle.explain_text.proofs.Line.{puts_none, first-told, others-told, feed_told, puts-some}
 use Rattle.explain_text.proofs.list_line.Goals as goal
 
 pub returns-then-list-eq0 : goal.returns-then-list-eq0
 returns-then-list-eq0 c = puts_none _ c.if-list-eq0.true c.put_byte.ensures
-
-pub overflow_cast-list : goal.overflow_cast-list
-overflow_cast-list c = omega (arith, c.shared_slice_known-2-1.given 0)
 
 pub put_decimal-a-requires : goal.put_decimal-a-requires
 put_decimal-a-requires c =

@@ -1,6 +1,5 @@
 -- `explain_text::said_of` meets its contract: the input is one piece.
 use mathlib.Core.Path.{refl}
-use borrow.Author.Rules.{rules}
 use Rattle.scope.specs.Lines.{capture_of}
 use Rattle.explain_text.proofs.Captures.{good-small, input-kept}
 use Rattle.explain_text.proofs.said_of.Goals as goal

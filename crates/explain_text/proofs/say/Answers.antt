@@ -1,7 +1,6 @@
 -- `explain_text::say` meets its contract: by the answer.
 use mathlib.Core.Path.{refl, sym}
 use native.Mathlib.Omega.{arith}
-use borrow.Author.Rules.{rules}
 use Rattle.explain_text.proofs.Captures.{listed-few, listed-fits, listed-long, listed-may, says-unexplained, says-listed, says_no}
 use Rattle.explain_text.proofs.say.Goals as goal
 

@@ -1,6 +1,5 @@
 -- `explain_text::unexplained` meets its contract: the line where there is room.
 use mathlib.Core.Path.{refl}
-use borrow.Author.Rules.{rules}
 use Rattle.scope.specs.Lines.{unexplained_line}
 use Rattle.explain_text.proofs.Behind.{short-printed, whole-printed}
 use Rattle.explain_text.proofs.unexplained.Goals as goal

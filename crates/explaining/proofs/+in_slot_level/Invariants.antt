@@ -1,10 +1,5 @@
-use Prim.Native.Nat.{ℕ, ◌+◌, ◌-◌, ◌*◌, ◌<◌}
-use mathlib.Core.Path.{refl, sym}
-use native.Mathlib.Omega.{arith}
-use borrow.Author.Rules.{rules}
-use Rattle.explaining.proofs.Levels.{goes_up, Looking, Climbing, looks_first, may-suspect, may_go_on, looks_some, looks_on, looks_done}
-use Rattle.explaining.proofs.Levels.{no_hope, no_more_pairs, climbs_first, may_look_in, may_look, climbs_over, climbs_some}
-use Rattle.explaining.proofs.Levels.{climbs_stop, climbs_on}
+use Prim.Native.Nat.{◌+◌, ◌-◌, ◌*◌}
+use Rattle.explaining.proofs.Levels.{Looking, Climbing}
 use Rattle.explaining.proofs.+in_slot_level.Given as goal
 
 abbrev pub invariant-in_slot-loop-i : goal.invariant-in_slot-loop-i

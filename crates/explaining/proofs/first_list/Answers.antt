@@ -1,9 +1,7 @@
 -- `explaining::first_list` meets its contract: no list of fewer pairs matches.
-use Prim.Native.Nat.{◌+◌, ◌-◌, ◌≤◌}
 use mathlib.Core.Path.{refl}
 use native.Mathlib.Omega.{arith}
-use borrow.Author.Rules.{rules}
-use Rattle.explaining.proofs.Hunting.{Hunting, may-ask, hunt_none, hunt_empty, hunt_first, may-seek, hunt_some, hunt_on, hunt_over}
+use Rattle.explaining.proofs.Hunting.{may-ask, hunt_none, hunt_empty, hunt_first, may-seek, hunt_some, hunt_on, hunt_over}
 use Rattle.explaining.proofs.first_list.Goals as goal
 
 pub suspect-v-requires : goal.suspect-v-requires

@@ -1,8 +1,5 @@
 use Prim.Native.Nat.{◌+◌, ◌-◌, ◌≤◌}
-use mathlib.Core.Path.{refl}
-use native.Mathlib.Omega.{arith}
-use borrow.Author.Rules.{rules}
-use Rattle.explaining.proofs.Hunting.{Hunting, may-ask, hunt_none, hunt_empty, hunt_first, may-seek, hunt_some, hunt_on, hunt_over}
+use Rattle.explaining.proofs.Hunting.{Hunting}
 use Rattle.explaining.proofs.first_list.Given as goal
 
 abbrev pub invariant-loop-n : goal.invariant-loop-n

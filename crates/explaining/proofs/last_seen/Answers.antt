@@ -1,22 +1,14 @@
 -- `explaining::last_seen` meets its contract: what is noted was seen.
-use Prim.Native.Nat.{◌-◌}
-use mathlib.Core.Logic.{⊎_elim}
 use mathlib.Core.Path.{refl}
 use native.Mathlib.Omega.{arith}
-use borrow.Author.Rules.{rules}
-use borrow.Author.Tests.{ltb-true, leb-true}
-use Rattle.explaining.specs.Walk.{Lasts}
 use Rattle.explaining.proofs.Seen.{link-below, lasts-none, lasts-more}
 use Rattle.explaining.proofs.last_seen.Goals as goal
 
 pub loop-k-init : goal.loop-k-init
 loop-k-init c = lasts-none _ _
 
-pub overflow_cast-c : goal.overflow_cast-c
-overflow_cast-c c = omega (arith, c.shared_slice_known-in-loop-k-1.given c.loop-k.k)
-
 pub bounds-last-c : goal.bounds-last-c
-bounds-last-c c = link-below _ (ltb-true _ _ c.if-c-gt0.true) (leb-true _ _ c.if-c-le-LINKS.true)
+bounds-last-c c = link-below _ c.if-c-gt0.true c.if-c-le-LINKS.true
 
 pub bounds-last-other : goal.bounds-last-other
 bounds-last-other c =
@@ -27,9 +19,9 @@ pub loop-k-preserved : goal.loop-k-preserved
 loop-k-preserved c =
     let inv = c.loop-k.invariant in
     let links = c.requires.2 in
-    ⊎_elim
-    (λ t.
-    rw (t.5, t.4.ensures)
-    (lasts-more _ _ _ _ _ inv c.loop-k-test.true refl t.0.taken (ltb-true _ _ t.1.taken)
-    (leb-true _ _ t.2.taken) links))
-    (λ t. rw t.1 inv) c.if-k-z.branch
+    elim c.if-k-z.branch [
+      | goal.then-k-z+then-c-gt0+then-c-le-LINKS w ↦
+          rw (w.last-is, w.other-other.ensures)
+          (lasts-more _ _ _ _ _ inv c.loop-k-test.true refl w.if-k-z.true w.if-c-gt0.true w.if-c-le-LINKS.true links)
+      | goal.else-k-z w ↦ rw w.last-is inv
+    ]

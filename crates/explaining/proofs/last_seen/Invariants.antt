@@ -1,11 +1,5 @@
 use Prim.Native.Nat.{◌-◌}
-use mathlib.Core.Logic.{⊎_elim}
-use mathlib.Core.Path.{refl}
-use native.Mathlib.Omega.{arith}
-use borrow.Author.Rules.{rules}
-use borrow.Author.Tests.{ltb-true, leb-true}
 use Rattle.explaining.specs.Walk.{Lasts}
-use Rattle.explaining.proofs.Seen.{link-below, lasts-none, lasts-more}
 use Rattle.explaining.proofs.last_seen.Given as goal
 
 abbrev pub invariant-loop-k : goal.invariant-loop-k

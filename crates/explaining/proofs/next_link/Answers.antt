@@ -1,10 +1,7 @@
 -- `explaining::next_link` meets its contract: no link before i is to be tried.
-use Prim.Native.Nat.{◌-◌, ◌≤◌}
-use mathlib.Core.Path.{◌≡◌, refl, sym, ◌∙◌}
+use mathlib.Core.Path.{refl, sym, ◌∙◌}
 use borrow.Author.Rules.{rules}
-use Rattle.scope.specs.Lowest.{seek}
 use Rattle.scope.proofs.Lowest.{seek_found, seek-next, seek-done}
-use Rattle.explaining.specs.Walk.{is_open}
 use Rattle.explaining.proofs.next_link.Goals as goal
 
 pub loop-i-init : goal.loop-i-init

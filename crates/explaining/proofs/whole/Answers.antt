@@ -1,7 +1,6 @@
 -- `explaining::whole` meets its contract.
 use mathlib.Core.Path.{ap}
 use mathlib.Core.Bool.{not}
-use borrow.Author.Rules.{rules}
 use Rattle.explaining.proofs.whole.Goals as goal
 
 pub returns : goal.returns

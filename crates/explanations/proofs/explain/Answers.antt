@@ -1,7 +1,6 @@
 -- `explanations::explain` meets its contract: refusals 1 to 10 and 14 to 19, or what `explain_row` answers.
 use Rattle.plan.proofs.Ways.{gave, refused_as, good-row}
 use Rattle.explanations.proofs.Ways.{bad-row}
-use borrow.Author.Rules.{rules}
 use Rattle.explanations.proofs.explain.Goals as goal
 
 pub explain_row-requires : goal.explain_row-requires

@@ -2,7 +2,6 @@
 use mathlib.Core.Path.{sym}
 use native.Mathlib.Omega.{arith}
 use Rattle.explanations.proofs.Ways.{front, k_too_large, bad_capture, too_short, on_two_links, none_found, one_found}
-use borrow.Author.Rules.{rules}
 use Rattle.explanations.proofs.explain_good.Goals as goal
 
 pub returns-then-k-gt-CUTS : goal.returns-then-k-gt-CUTS

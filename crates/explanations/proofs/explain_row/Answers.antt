@@ -1,7 +1,6 @@
 -- `explanations::explain_row` meets its contract: what is kept of the capture is right.
 use mathlib.Core.Path.{refl}
 use Rattle.explanations.proofs.Asking.{small}
-use borrow.Author.Rules.{rules}
 use Rattle.explanations.proofs.explain_row.Goals as goal
 
 pub keep-kept-requires : goal.keep-kept-requires

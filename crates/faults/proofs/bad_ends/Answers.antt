@@ -1,6 +1,5 @@
 -- `faults::bad_ends` meets its contract: one law for each way out. Assumes nothing.
 use mathlib.Core.Path.{◌∙◌, sym}
-use borrow.Author.Rules.{rules}
 use Rattle.scope.specs.Plan.{plan_of, link_of}
 use Rattle.rows.proofs.Parts.{vertex_count_lem}
 use Rattle.faults.proofs.Laws as law

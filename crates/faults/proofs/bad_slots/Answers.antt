@@ -1,10 +1,6 @@
-use Prim.Native.Nat.{◌-◌}
-use mathlib.Core.Path.{◌≡◌, ◌∙◌, sym, ap}
+use mathlib.Core.Path.{◌∙◌, sym, ap}
 use mathlib.Core.Bool.{not}
 use native.Mathlib.Omega.{arith}
-use borrow.Author.Rules.{rules}
-use Rattle.scope.specs.Plan.{plan_of, places_at, message_at}
-use Rattle.scope.specs.Good.{slots_rise}
 use Rattle.rows.proofs.Parts.{timeout-is}
 use Rattle.faults.proofs.Laws as law
 use Rattle.faults.proofs.Laws.{Passing}

@@ -1,13 +1,8 @@
 -- `faults::bad_slots` meets its contract. The invariant: the places left, from the least slot allowed on, decide. Assumes nothing.
 use Prim.Native.Nat.{◌-◌}
-use mathlib.Core.Path.{◌≡◌, ◌∙◌, sym, ap}
-use mathlib.Core.Bool.{not}
-use native.Mathlib.Omega.{arith}
-use borrow.Author.Rules.{rules}
+use mathlib.Core.Path.{◌≡◌}
 use Rattle.scope.specs.Plan.{plan_of, places_at, message_at}
 use Rattle.scope.specs.Good.{slots_rise}
-use Rattle.rows.proofs.Parts.{timeout-is}
-use Rattle.faults.proofs.Laws as law
 use Rattle.faults.proofs.Laws.{Passing}
 use Rattle.faults.proofs.bad_slots.Given as goal
 

@@ -1,11 +1,9 @@
 -- `faults::first_fault` meets its contract: the links copied are those of the first path. Assumes nothing.
 use mathlib.Core.Path.{◌∙◌, ap}
 use native.Mathlib.Omega.{arith}
-use borrow.Author.Rules.{rules}
 use Rattle.scope.specs.Plan.{plan_of, link_of}
 use Rattle.paths.proofs.Laws.{from-small}
 use Rattle.faults.proofs.Laws as law
-use borrow.Author.Rules.{rules}
 use Rattle.faults.proofs.first_fault.Goals as goal
 
 pub slice_bounds-path_fault-end : goal.slice_bounds-path_fault-end

@@ -1,9 +1,5 @@
-use Prim.Native.Nat.{◌-◌}
-use mathlib.Core.Path.{◌≡◌, ◌∙◌, sym}
+use mathlib.Core.Path.{◌∙◌, sym}
 use native.Mathlib.Omega.{arith}
-use borrow.Author.Rules.{rules}
-use Rattle.scope.specs.Plan.{places_at, message_at}
-use Rattle.faults.specs.Broken.{held_below}
 use Rattle.faults.proofs.Laws as law
 use Rattle.faults.proofs.Laws.{Passing}
 use Rattle.faults.proofs.held_below.Goals as goal

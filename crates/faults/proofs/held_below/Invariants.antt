@@ -1,11 +1,8 @@
 -- `faults::held_below` meets its contract. The invariant: the places left decide. Assumes nothing.
 use Prim.Native.Nat.{◌-◌}
-use mathlib.Core.Path.{◌≡◌, ◌∙◌, sym}
-use native.Mathlib.Omega.{arith}
-use borrow.Author.Rules.{rules}
+use mathlib.Core.Path.{◌≡◌}
 use Rattle.scope.specs.Plan.{places_at, message_at}
 use Rattle.faults.specs.Broken.{held_below}
-use Rattle.faults.proofs.Laws as law
 use Rattle.faults.proofs.Laws.{Passing}
 use Rattle.faults.proofs.held_below.Given as goal
 

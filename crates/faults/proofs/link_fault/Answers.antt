@@ -1,11 +1,9 @@
 -- `faults::link_fault` meets its contract: one law for each way out. Assumes nothing.
 use native.Mathlib.Omega.{arith}
-use borrow.Author.Rules.{rules}
 use Rattle.scope.specs.Plan.{plan_of}
 use Rattle.paths.proofs.Laws.{from-small}
 use Rattle.faults.specs.Broken.{second_of}
 use Rattle.faults.proofs.Seconds as rule
-use borrow.Author.Rules.{rules}
 use Rattle.faults.proofs.link_fault.Goals as goal
 
 pub path_fault-found-requires : goal.path_fault-found-requires

@@ -1,11 +1,9 @@
-use Prim.Native.Nat.{◌-◌}
 use mathlib.Core.Path.{◌∙◌, ap}
 use Rattle.scope.specs.Good.{repeats}
 use Rattle.scope.specs.Lowest.{lowest}
 use Rattle.scope.specs.Plan.{plan_of}
 use Rattle.scope.proofs.Seek.{lowest-done}
-use Rattle.faults.proofs.Repeats.{Repeating, repeating_first, repeating_found, repeating_next}
-use borrow.Author.Rules.{rules}
+use Rattle.faults.proofs.Repeats.{repeating_first, repeating_found, repeating_next}
 use Rattle.faults.proofs.lowest_repeat.Goals as goal
 
 pub loop-e-init : goal.loop-e-init

@@ -1,10 +1,8 @@
 -- `faults::place_fault` meets its contract: there is no second path, or it is a part of the row. Assumes nothing.
 use native.Mathlib.Omega.{arith}
-use borrow.Author.Rules.{rules}
 use Rattle.scope.specs.Plan.{plan_of}
 use Rattle.paths.proofs.Earliest.{earliest-none}
 use Rattle.faults.proofs.Laws as law
-use borrow.Author.Rules.{rules}
 use Rattle.faults.proofs.place_fault.Goals as goal
 
 pub returns-then-here-eq0 : goal.returns-then-here-eq0

@@ -1,7 +1,6 @@
-use Prim.Native.Nat.{◌-◌, ◌<◌}
+use Prim.Native.Nat.{◌<◌}
 use mathlib.Core.Path.{refl, ap}
 use native.Mathlib.Omega.{arith}
-use borrow.Author.Rules.{rules}
 use Rattle.scope.specs.Plan.{plan_of, message_at, place_count}
 use Rattle.rows.specs.Lies.{PlaceLies}
 use Rattle.faults.proofs.Laws as law

@@ -1,13 +1,7 @@
 -- `faults::places_fault` meets its contract. The invariant: of the places passed the earliest rule is kept. Assumes nothing.
-use Prim.Native.Nat.{◌-◌, ◌<◌}
-use mathlib.Core.Path.{refl, ap}
-use native.Mathlib.Omega.{arith}
-use borrow.Author.Rules.{rules}
-use Rattle.scope.specs.Plan.{plan_of, message_at, place_count}
-use Rattle.rows.specs.Lies.{PlaceLies}
-use Rattle.faults.proofs.Laws as law
+use Prim.Native.Nat.{◌-◌}
+use Rattle.scope.specs.Plan.{plan_of, message_at}
 use Rattle.faults.proofs.Laws.{Passing}
-use Rattle.faults.proofs.Seconds as rule
 use Rattle.faults.proofs.Seconds.{Placing}
 use Rattle.faults.proofs.places_fault.Given as goal
 

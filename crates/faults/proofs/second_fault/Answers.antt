@@ -1,9 +1,7 @@
 -- `faults::second_fault` meets its contract: the links copied say where the first path ends. Assumes nothing.
 use native.Mathlib.Omega.{arith}
-use borrow.Author.Rules.{rules}
 use Rattle.scope.specs.Plan.{plan_of}
 use Rattle.faults.proofs.Laws as law
-use borrow.Author.Rules.{rules}
 use Rattle.faults.proofs.second_fault.Goals as goal
 
 pub slice_bounds-path_end-end : goal.slice_bounds-path_end-end

@@ -1,7 +1,6 @@
 -- `figures::figure` meets its contract: the last of all figures.
 use mathlib.Core.Path.{refl, sym}
 use lib.ListN.{replicate}
-use borrow.Author.Rules.{rules}
 use Rattle.plan.proofs.Ways.{gave, refused_as}
 use Rattle.figures.proofs.Ways.{one_refused, one_given}
 use Rattle.figures.proofs.figure.Goals as goal

@@ -1,5 +1,4 @@
 -- `figures::figures` meets its contract: refusals 1 to 10 and 14 to 19, or what `figures_good` answers.
-use borrow.Author.Rules.{rules}
 use Rattle.plan.proofs.Ways.{gave, refused_as, good-row}
 use Rattle.figures.proofs.Ways.{bad-row}
 use Rattle.figures.proofs.figures.Goals as goal

@@ -1,5 +1,4 @@
 -- `figures::figures_good` meets its contract, one law for each answer.
-use borrow.Author.Rules.{rules}
 use Rattle.figures.proofs.Ways.{k_too_large, too_short, all_told}
 use Rattle.figures.proofs.figures_good.Goals as goal
 

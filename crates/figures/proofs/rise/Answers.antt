@@ -1,7 +1,6 @@
-use Prim.Native.Nat.{◌+◌, ◌-◌}
 use native.Mathlib.Omega.{arith}
 use mathlib.Core.Path.{refl}
-use Rattle.figures.proofs.Rising.{Rising, rises_first, may-play, rises_on, rises_over}
+use Rattle.figures.proofs.Rising.{rises_first, may-play, rises_on, rises_over}
 use Rattle.figures.proofs.rise.Goals as goal
 
 pub loop-j-init : goal.loop-j-init

@@ -1,7 +1,5 @@
 use Prim.Native.Nat.{◌+◌, ◌-◌}
-use native.Mathlib.Omega.{arith}
-use mathlib.Core.Path.{refl}
-use Rattle.figures.proofs.Rising.{Rising, rises_first, may-play, rises_on, rises_over}
+use Rattle.figures.proofs.Rising.{Rising}
 use Rattle.figures.proofs.rise.Given as goal
 
 abbrev pub invariant-loop-j : goal.invariant-loop-j

@@ -4,7 +4,6 @@ use native.Mathlib.Omega.{arith}
 use lib.ListN.{length}
 use Rattle.scope.specs.File.{whole_bytes}
 use Rattle.forms.proofs.Tail.{ends_more, ends_zero, ends_one}
-use borrow.Author.Rules.{rules}
 use Rattle.forms.proofs.ends.Goals as goal
 
 pub returns-then-n-file : goal.returns-then-n-file

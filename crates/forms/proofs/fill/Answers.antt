@@ -5,10 +5,9 @@ use lib.ListN.{length, length-set}
 use Rattle.scope.specs.Fields.{width}
 use Rattle.scope.specs.Bits.{bits}
 use Rattle.bits.proofs.Laws.{length-bits}
-use Rattle.grammar.proofs.Most.{numbers, fewer, falls, width-most, number_small}
+use Rattle.grammar.proofs.Most.{fewer, falls, width-most, number_small}
 use Rattle.forms.proofs.Walk.{bits-end, bits-short, fields_end, fields_short}
-use Rattle.forms.proofs.Filling.{OnFile, turns, starts, goes_on, gives_row}
-use borrow.Author.Rules.{rules}
+use Rattle.forms.proofs.Filling.{turns, starts, goes_on, gives_row}
 use Rattle.forms.proofs.fill.Goals as goal
 
 pub loop-s-init : goal.loop-s-init

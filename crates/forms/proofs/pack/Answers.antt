@@ -5,7 +5,6 @@ use native.Mathlib.Omega.{arith}
 use lib.ListN.{length}
 use Rattle.scope.specs.File.{row_bits, whole_bytes}
 use Rattle.forms.proofs.Packing.{row_walks, row_bits_most, length-file, packs_whole}
-use borrow.Author.Rules.{rules}
 use Rattle.forms.proofs.pack.Goals as goal
 
 pub overflow_mul-file : goal.overflow_mul-file

@@ -1,12 +1,11 @@
-use Prim.Native.Nat.{◌-◌, ◌^◌, ◌<◌}
+use Prim.Native.Nat.{◌^◌, ◌<◌}
 use mathlib.Core.Path.{◌∙◌}
 use native.Mathlib.Omega.{arith}
 use lib.ListN.{length, get_or}
 use Rattle.scope.specs.Fields.{width}
 use Rattle.grammar.proofs.Most.{width-most}
-use Rattle.forms.proofs.Packing.{OnPack, edition-inside, pack_first, head, next-inside, packs_on, packs_done, counts-room, row_walks}
+use Rattle.forms.proofs.Packing.{edition-inside, pack_first, head, next-inside, packs_on, packs_done, counts-room, row_walks}
 use Rattle.forms.proofs.Packing.{row_bits_most}
-use borrow.Author.Rules.{rules}
 use Rattle.forms.proofs.pack_fields.Goals as goal
 
 pub put-requires : goal.put-requires

@@ -1,13 +1,7 @@
 -- `forms::pack_fields` meets its contract. The loop's invariant: the bits written so far and those of the rest are the row's. Assumes nothing.
-use Prim.Native.Nat.{◌-◌, ◌^◌, ◌<◌}
-use mathlib.Core.Path.{◌∙◌}
-use native.Mathlib.Omega.{arith}
-use lib.ListN.{length, get_or}
-use Rattle.scope.specs.Fields.{width}
-use Rattle.grammar.proofs.Most.{width-most}
-use Rattle.forms.proofs.Packing.{OnPack, edition-inside, pack_first, head, next-inside, packs_on, packs_done, counts-room, row_walks}
-use Rattle.forms.proofs.Packing.{row_bits_most}
-use borrow.Author.Rules.{rules}
+use Prim.Native.Nat.{◌-◌}
+use lib.ListN.{length}
+use Rattle.forms.proofs.Packing.{OnPack}
 use Rattle.forms.proofs.pack_fields.Given as goal
 
 abbrev pub invariant-loop-i : goal.invariant-loop-i

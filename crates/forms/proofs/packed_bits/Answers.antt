@@ -1,8 +1,6 @@
-use Prim.Native.Nat.{◌-◌}
 use native.Mathlib.Omega.{arith}
 use lib.ListN.{length}
-use Rattle.forms.proofs.Packing.{Counts, counts-first, counts-next, counts-room, counts-done, row_walks, row_bits_most}
-use borrow.Author.Rules.{rules}
+use Rattle.forms.proofs.Packing.{counts-first, counts-next, counts-room, counts-done, row_walks, row_bits_most}
 use Rattle.forms.proofs.packed_bits.Goals as goal
 
 pub loop-i-init : goal.loop-i-init

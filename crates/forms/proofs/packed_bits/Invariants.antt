@@ -1,9 +1,7 @@
 -- `forms::packed_bits` meets its contract. The loop's invariant: the bits so far and those of the rest are the row's. Assumes nothing.
 use Prim.Native.Nat.{◌-◌}
-use native.Mathlib.Omega.{arith}
 use lib.ListN.{length}
-use Rattle.forms.proofs.Packing.{Counts, counts-first, counts-next, counts-room, counts-done, row_walks, row_bits_most}
-use borrow.Author.Rules.{rules}
+use Rattle.forms.proofs.Packing.{Counts}
 use Rattle.forms.proofs.packed_bits.Given as goal
 
 abbrev pub invariant-loop-i : goal.invariant-loop-i

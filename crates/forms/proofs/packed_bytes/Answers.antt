@@ -4,7 +4,6 @@ use native.Mathlib.Omega.{arith}
 use lib.ListN.{length}
 use Rattle.scope.specs.File.{whole_bytes}
 use Rattle.forms.proofs.Packing.{row_walks, row_bits_most, length-file}
-use borrow.Author.Rules.{rules}
 use Rattle.forms.proofs.packed_bytes.Goals as goal
 
 pub overflow_add-result : goal.overflow_add-result

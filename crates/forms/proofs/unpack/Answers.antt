@@ -5,7 +5,6 @@ use Rattle.scope.specs.Outcome.{Outcome, and_then, outcome_of, refuse}
 use Rattle.scope.specs.Bits.{bits}
 use Rattle.scope.specs.File.{ends_at}
 use Rattle.forms.proofs.Whole.{empty_file, other-edition, file_opens, end-inside, with_answer}
-use borrow.Author.Rules.{rules}
 use Rattle.forms.proofs.unpack.Goals as goal
 
 pub returns-then-file-eq0 : goal.returns-then-file-eq0

@@ -1,12 +1,5 @@
-use Prim.Native.Nat.{ℕ, ◌+◌, ◌-◌, ◌*◌, ◌<◌}
-use native.Mathlib.Omega.{arith}
-use borrow.Author.Rules.{rules}
-use mathlib.Core.Path.{sym}
-use Rattle.risks.proofs.Light.{goes_up}
-use Rattle.risks.proofs.Risks.{may-weigh}
-use Rattle.game.proofs.Turns.{room, may-hit, may-cut, picked_in_vain}
-use Rattle.game.proofs.Turns.{Breaking, may_weigh_rest, may_try, over_turned, from-within, breaks-first, may_pick}
-use Rattle.game.proofs.Turns.{still_low, breaks_on, may-pass, passed_on, may_move, ends, may_break}
+use Prim.Native.Nat.{◌+◌, ◌-◌, ◌*◌}
+use Rattle.game.proofs.Turns.{Breaking}
 use Rattle.game.proofs.+breaker_network_with_pair.Given as goal
 
 abbrev pub invariant-breaker-loop-i : goal.invariant-breaker-loop-i

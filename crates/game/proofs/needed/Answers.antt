@@ -1,7 +1,6 @@
 -- `game::needed` meets its contract.
 use native.Mathlib.Omega.{arith}
 use mathlib.Core.Path.{refl}
-use borrow.Author.Rules.{rules}
 use borrow.Author.Tests.{eq-eqb, ne_eqb}
 use Rattle.game.proofs.needed.Goals as goal
 

@@ -1,6 +1,5 @@
 -- `game::over` meets its contract.
 use mathlib.Core.Path.{refl}
-use borrow.Author.Rules.{rules}
 use borrow.Author.Tests.{eq-eqb, ne_eqb}
 use Rattle.game.proofs.over.Goals as goal
 

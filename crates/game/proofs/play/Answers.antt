@@ -1,5 +1,4 @@
 -- `game::play` meets its contract.
-use borrow.Author.Rules.{rules}
 use Rattle.game.proofs.Whole.{begins, ends-least}
 use Rattle.game.proofs.play.Goals as goal
 

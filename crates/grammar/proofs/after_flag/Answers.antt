@@ -1,6 +1,5 @@
 -- `grammar::after_flag` meets its contract, by the test of its branch. Assumes nothing.
 use borrow.Author.Tests.{eq-eqb, ne_eqb}
-use borrow.Author.Rules.{rules}
 use Rattle.grammar.proofs.after_flag.Goals as goal
 
 pub returns-then-v-eq1 : goal.returns-then-v-eq1

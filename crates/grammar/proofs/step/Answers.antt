@@ -1,5 +1,4 @@
 -- `grammar::step` meets its contract: the slot stays, and `following` says what comes next. Assumes nothing.
-use borrow.Author.Rules.{rules}
 use Rattle.grammar.proofs.step.Goals as goal
 
 pub returns : goal.returns

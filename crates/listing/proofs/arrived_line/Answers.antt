@@ -1,6 +1,5 @@
 -- `listing::arrived_line` meets its contract: word, number, word, and the last number with its line feed.
 use mathlib.Core.List.{[], ◌∷◌}
-use borrow.Author.Rules.{rules}
 use Rattle.text.proofs.Laid.{told-first, told-rest, then}
 use Rattle.listing.proofs.arrived_line.Goals as goal
 

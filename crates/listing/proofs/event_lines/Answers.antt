@@ -1,8 +1,6 @@
 -- `listing::event_lines` meets its contract: what the loop has left are the lines from event j on.
-use Prim.Native.Nat.{◌≤◌, ◌-◌}
 use borrow.Author.Rules.{rules}
-use Rattle.scope.specs.Lines.{event_lines}
-use Rattle.text.proofs.Laid.{Left, left-first, left_is, left-told, left-more, left-done, left-same}
+use Rattle.text.proofs.Laid.{left-first, left_is, left-told, left-more, left-done, left-same}
 use Rattle.listing.proofs.Lines.{lines_more, lines_done, lines_first}
 use Rattle.listing.proofs.event_lines.Goals as goal
 

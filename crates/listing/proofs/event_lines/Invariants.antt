@@ -1,8 +1,6 @@
 use Prim.Native.Nat.{◌≤◌, ◌-◌}
-use borrow.Author.Rules.{rules}
 use Rattle.scope.specs.Lines.{event_lines}
-use Rattle.text.proofs.Laid.{Left, left-first, left_is, left-told, left-more, left-done, left-same}
-use Rattle.listing.proofs.Lines.{lines_more, lines_done, lines_first}
+use Rattle.text.proofs.Laid.{Left}
 use Rattle.listing.proofs.event_lines.Given as goal
 
 abbrev pub invariant-loop-j : goal.invariant-loop-j

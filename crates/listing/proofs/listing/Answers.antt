@@ -1,5 +1,4 @@
 -- `listing::listing` meets its contract: the first call tells the length, the second writes the text.
-use borrow.Author.Rules.{rules}
 use Rattle.listing.proofs.Printing.{prints-short, prints-whole}
 use Rattle.listing.proofs.listing.Goals as goal
 

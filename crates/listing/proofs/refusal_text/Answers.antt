@@ -1,5 +1,4 @@
 -- `listing::refusal_text` meets its contract: the first call tells the length, the second writes the text.
-use borrow.Author.Rules.{rules}
 use Rattle.listing.proofs.Printing.{prints-short, prints-whole}
 use Rattle.listing.proofs.refusal_text.Goals as goal
 

@@ -1,5 +1,4 @@
 -- `listing::refused_line` meets its contract: the line is short.
-use borrow.Author.Rules.{rules}
 use Rattle.text.proofs.Laid.{told-first, told-rest, then}
 use Rattle.listing.proofs.Lines.{refused-told}
 use Rattle.listing.proofs.refused_line.Goals as goal

@@ -1,7 +1,6 @@
 -- `listing::replayed` meets its contract: header, event lines, arrivals; their lengths bound every index.
 use Prim.Native.Nat.{◌+◌}
 use mathlib.Core.Path.{ap}
-use borrow.Author.Rules.{rules}
 use native.Mathlib.Omega.{arith}
 use Rattle.text.proofs.Laid.{told-first, told-rest, then}
 use Rattle.listing.proofs.Lines.{few_lines, replay-told, replay_parts}

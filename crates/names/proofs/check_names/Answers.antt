@@ -1,14 +1,12 @@
 -- `names::check_names` meets its contract: the names from the line on that begins at index `from` settle the answer.
 use Prim.Native.Nat.{◌-◌, ◌≤◌}
-use mathlib.Core.Path.{◌≡◌, sym, ◌∙◌}
+use mathlib.Core.Path.{sym, ◌∙◌}
 use native.Mathlib.Omega.{arith}
 use borrow.Author.Rules.{rules}
-use lib.ListN.{length, drop}
-use Rattle.scope.specs.Limits.{most_names}
-use Rattle.scope.specs.Shelf.{names_of, check_names}
+use lib.ListN.{length}
 use Rattle.names.specs.Names.{name_end}
 use Rattle.names.proofs.Names.{end-most}
-use Rattle.names.proofs.Check.{check_from, from_first, line-bad, line-good, line-end, good}
+use Rattle.names.proofs.Check.{from_first, line-bad, line-good, line-end, good}
 use Rattle.names.proofs.check_names.Goals as goal
 
 pub loop-from-init : goal.loop-from-init

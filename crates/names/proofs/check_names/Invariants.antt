@@ -1,13 +1,9 @@
 use Prim.Native.Nat.{◌-◌, ◌≤◌}
-use mathlib.Core.Path.{◌≡◌, sym, ◌∙◌}
-use native.Mathlib.Omega.{arith}
-use borrow.Author.Rules.{rules}
+use mathlib.Core.Path.{◌≡◌}
 use lib.ListN.{length, drop}
 use Rattle.scope.specs.Limits.{most_names}
 use Rattle.scope.specs.Shelf.{names_of, check_names}
-use Rattle.names.specs.Names.{name_end}
-use Rattle.names.proofs.Names.{end-most}
-use Rattle.names.proofs.Check.{check_from, from_first, line-bad, line-good, line-end, good}
+use Rattle.names.proofs.Check.{check_from}
 use Rattle.names.proofs.check_names.Given as goal
 
 abbrev pub invariant-loop-from : goal.invariant-loop-from

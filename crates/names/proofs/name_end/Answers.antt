@@ -1,9 +1,5 @@
 -- `names::name_end` meets its contract: the name that is there at index i ends where the one from the first index on does.
-use Prim.Native.Nat.{◌-◌}
-use mathlib.Core.Path.{◌≡◌, refl, ◌∙◌}
-use borrow.Author.Rules.{rules}
-use lib.ListN.{length}
-use Rattle.names.specs.Names.{name_end}
+use mathlib.Core.Path.{refl, ◌∙◌}
 use Rattle.names.proofs.Names.{end-found, end-next, end-done}
 use Rattle.names.proofs.name_end.Goals as goal
 

@@ -4,7 +4,6 @@ use mathlib.Core.Path.{◌∙◌}
 use native.Mathlib.Omega.{arith}
 use Rattle.scope.specs.Plan.{link_count}
 use Rattle.paths.proofs.Laws.{from_at, to_at, from-none, to_none}
-use borrow.Author.Rules.{rules}
 use Rattle.paths.proofs.ends_at.Goals as goal
 
 pub returns-then-e-links : goal.returns-then-e-links

@@ -4,7 +4,6 @@ use mathlib.Core.Path.{◌≡◌, ◌∙◌, ap}
 use native.Mathlib.Omega.{arith}
 use Rattle.scope.specs.Plan.{at}
 use Rattle.paths.proofs.Laws.{from_at, to_at, from-small, to-small, links-inside}
-use borrow.Author.Rules.{rules}
 use Rattle.paths.proofs.ends_of.Goals as goal
 
 pub bounds-row-i : goal.bounds-row-i

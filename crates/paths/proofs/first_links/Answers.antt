@@ -1,6 +1,4 @@
-use Prim.Native.Nat.{◌-◌}
 use native.Mathlib.Omega.{arith}
-use borrow.Author.Rules.{rules}
 use Rattle.paths.proofs.Laws as law
 use Rattle.paths.proofs.Laws.{Copying}
 use Rattle.paths.proofs.first_links.Goals as goal

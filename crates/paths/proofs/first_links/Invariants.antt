@@ -1,9 +1,6 @@
 -- `paths::first_links` meets its contract. The invariant `Copying`: the links copied, and those of the places left, are the links asked.
 -- Assumes nothing.
 use Prim.Native.Nat.{◌-◌}
-use native.Mathlib.Omega.{arith}
-use borrow.Author.Rules.{rules}
-use Rattle.paths.proofs.Laws as law
 use Rattle.paths.proofs.Laws.{Copying}
 use Rattle.paths.proofs.first_links.Given as goal
 

@@ -1,6 +1,5 @@
 -- `paths::path_end` meets its contract: the last link is that of the highest index. Assumes nothing.
 use mathlib.Core.Path.{◌∙◌, ap, refl}
-use borrow.Author.Rules.{rules}
 use lib.ListN.{length}
 use Rattle.scope.specs.Plan.{plan_of, link_of}
 use Rattle.paths.proofs.Laws as law

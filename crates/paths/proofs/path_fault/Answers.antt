@@ -1,8 +1,5 @@
-use Prim.Native.Nat.{◌-◌}
 use native.Mathlib.Omega.{arith}
 use mathlib.Core.Path.{◌∙◌, ap}
-use borrow.Author.Rules.{rules}
-use lib.ListN.{length}
 use Rattle.scope.specs.Plan.{plan_of}
 use Rattle.rows.proofs.Parts.{link-count}
 use Rattle.paths.proofs.Walk as law

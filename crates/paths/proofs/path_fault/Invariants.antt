@@ -1,14 +1,9 @@
 -- `paths::path_fault` meets its contract. The invariant `Walking`: the marks are those of the vertices met, and of the rules that were broken
 -- the earliest is kept. Assumes nothing.
 use Prim.Native.Nat.{◌-◌}
-use native.Mathlib.Omega.{arith}
-use mathlib.Core.Path.{◌∙◌, ap}
-use borrow.Author.Rules.{rules}
 use lib.ListN.{length}
 use Rattle.scope.specs.Plan.{plan_of}
-use Rattle.rows.proofs.Parts.{link-count}
-use Rattle.paths.proofs.Walk as law
-use Rattle.paths.proofs.Walk.{Walking, OnLink}
+use Rattle.paths.proofs.Walk.{Walking}
 use Rattle.paths.proofs.path_fault.Given as goal
 
 abbrev pub invariant-loop-k : goal.invariant-loop-k

@@ -3,7 +3,6 @@ use native.Mathlib.Omega.{arith}
 use mathlib.Core.Path.{ap}
 use Rattle.step.specs.declared.Time.{Time}
 use Rattle.picks.proofs.Playing.{may-step, stepped}
-use borrow.Author.Rules.{rules}
 use Rattle.picks.proofs.advance.Goals as goal
 
 pub begins-i-requires : goal.begins-i-requires

@@ -4,7 +4,6 @@ use mathlib.Core.Path.{ap}
 use mathlib.Core.List.{List}
 use lib.ListN.{replicate}
 use Rattle.scope.specs.Limits.{most_cuts, most_links}
-use borrow.Author.Rules.{rules}
 use Rattle.picks.specs.declared.Picked.{Picked}
 use Rattle.picks.proofs.no_pair.Goals as goal
 

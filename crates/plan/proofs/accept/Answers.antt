@@ -1,5 +1,4 @@
 -- `plan::accept` meets its contract: the rules come first, then the room. Assumes nothing.
-use borrow.Author.Rules.{rules}
 use Rattle.plan.proofs.Ways as law
 use Rattle.plan.proofs.accept.Goals as goal
 

@@ -1,5 +1,4 @@
 -- `plan::judge` meets its contract: refusals 1 to 4 come first, then 5 to 10 and 14 to 19. Assumes nothing.
-use borrow.Author.Rules.{rules}
 use Rattle.plan.proofs.Ways as law
 use Rattle.plan.proofs.judge.Goals as goal
 

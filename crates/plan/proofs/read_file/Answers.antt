@@ -2,7 +2,6 @@
 use mathlib.Core.Path.{sym, ◌∙◌, ap}
 use lib.ListN.{length}
 use Rattle.forms.proofs.Theorems.{unpacked_row}
-use borrow.Author.Rules.{rules}
 use Rattle.plan.proofs.Ways as law
 use Rattle.plan.proofs.read_file.Goals as goal
 

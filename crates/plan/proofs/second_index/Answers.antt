@@ -1,6 +1,5 @@
 -- `plan::second_index` meets its contract: of a bad row nothing is shown. Assumes nothing.
 use mathlib.Core.Path.{◌∙◌}
-use borrow.Author.Rules.{rules}
 use Rattle.plan.proofs.Ways as law
 use Rattle.plan.proofs.second_index.Goals as goal
 

@@ -1,5 +1,4 @@
 -- `plan::second_path` meets its contract: a bad row shows nothing. Assumes nothing.
-use borrow.Author.Rules.{rules}
 use Rattle.plan.proofs.Ways as law
 use Rattle.plan.proofs.second_path.Goals as goal
 

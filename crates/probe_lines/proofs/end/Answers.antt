@@ -1,5 +1,4 @@
 -- `probe_lines::end` meets its contract: one word for each way.
-use borrow.Author.Rules.{rules}
 use Rattle.text.specs.Text.{Told}
 use Rattle.probe_lines.specs.Answers.{ending}
 use Rattle.probe_lines.proofs.end.Goals as goal

@@ -1,5 +1,4 @@
 -- `probe_lines::numbers_end` meets its contract.
-use borrow.Author.Rules.{rules}
 use Rattle.text.proofs.Laid.{told-first, told-rest, then}
 use Rattle.probe_lines.proofs.numbers_end.Goals as goal
 

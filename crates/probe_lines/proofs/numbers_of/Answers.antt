@@ -1,5 +1,4 @@
 -- `probe_lines::numbers_of` meets its contract: one law for each way.
-use borrow.Author.Rules.{rules}
 use borrow.Author.Tests.{lt-ltb, le-ltb}
 use Rattle.probe_lines.proofs.numbers_of.Goals as goal
 

@@ -1,5 +1,4 @@
 -- `probe_lines::ok` meets its contract.
-use borrow.Author.Rules.{rules}
 use Rattle.text.proofs.Laid.{told-rest, then}
 use Rattle.probe_lines.proofs.ok.Goals as goal
 

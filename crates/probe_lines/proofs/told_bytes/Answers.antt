@@ -1,5 +1,4 @@
 -- `probe_lines::told_bytes` meets its contract: one text for each case of the answer.
-use borrow.Author.Rules.{rules}
 use Rattle.scope.specs.Outcome.{gives, refused}
 use Rattle.text.proofs.Laid.{told-first, told-rest, then}
 use Rattle.probe_lines.proofs.Short.{bytes-told}

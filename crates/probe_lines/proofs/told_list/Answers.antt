@@ -1,5 +1,4 @@
 -- `probe_lines::told_list` meets its contract.
-use borrow.Author.Rules.{rules}
 use Rattle.text.proofs.Laid.{told-first, told-rest, then}
 use Rattle.probe_lines.proofs.Short.{list-told}
 use Rattle.probe_lines.proofs.told_list.Goals as goal

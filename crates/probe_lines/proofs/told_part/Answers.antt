@@ -1,5 +1,4 @@
 -- `probe_lines::told_part` meets its contract: a word, a number, the links and a line feed.
-use borrow.Author.Rules.{rules}
 use Rattle.text.proofs.Laid.{told-first, told-rest, then}
 use Rattle.probe_lines.proofs.Short.{part-told}
 use Rattle.probe_lines.proofs.told_part.Goals as goal

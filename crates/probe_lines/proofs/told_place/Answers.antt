@@ -1,5 +1,4 @@
 -- `probe_lines::told_place` meets its contract: a word and two numbers with a byte after each.
-use borrow.Author.Rules.{rules}
 use Rattle.text.proofs.Laid.{told-first, told-rest, then}
 use Rattle.probe_lines.proofs.Short.{place-told}
 use Rattle.probe_lines.proofs.told_place.Goals as goal

@@ -1,5 +1,4 @@
 -- `probe_lines::told_refusal` meets its contract.
-use borrow.Author.Rules.{rules}
 use Rattle.text.proofs.Laid.{told-first, told-rest, then}
 use Rattle.probe_lines.proofs.Short.{refusal-told}
 use Rattle.probe_lines.proofs.told_refusal.Goals as goal

@@ -1,6 +1,5 @@
 -- `probe_lines::told_slack` meets its contract.
 use mathlib.Core.List.{[], ◌∷◌}
-use borrow.Author.Rules.{rules}
 use Rattle.text.proofs.Laid.{told-rest, then}
 use Rattle.verdict_lines.proofs.Signs.{signed-told, signed-puts}
 use Rattle.probe_lines.proofs.Short.{slack-told}

@@ -1,5 +1,4 @@
 -- `probe_words::bytes` meets its contract: one law for each length.
-use borrow.Author.Rules.{rules}
 use Rattle.probe_words.proofs.Items.{bytes_empty, bytes_one, bytes-more}
 use Rattle.probe_words.proofs.bytes.Goals as goal
 

@@ -1,6 +1,5 @@
 -- `probe_words::digit` meets its contract: a test for each end of a range of digits.
 use native.Mathlib.Omega.{arith}
-use borrow.Author.Rules.{rules}
 use borrow.Author.Tests.{le-leb, lt-leb}
 use Rattle.probe_words.proofs.digit.Goals as goal
 

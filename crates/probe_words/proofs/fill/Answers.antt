@@ -1,10 +1,7 @@
 -- `probe_words::fill` meets its contract: what the loop has left is still to be filled.
-use Prim.Native.Nat.{◌-◌}
-use mathlib.Core.Path.{◌≡◌, refl}
-use borrow.Author.Rules.{rules}
-use lib.ListN.{length, length-set}
-use Rattle.probe_words.specs.Words.{filler}
-use Rattle.probe_words.proofs.Filling.{Filling, filling_first, filling_more, filling_done}
+use mathlib.Core.Path.{refl}
+use lib.ListN.{length-set}
+use Rattle.probe_words.proofs.Filling.{filling_first, filling_more, filling_done}
 use Rattle.probe_words.proofs.fill.Goals as goal
 
 pub loop-i-init : goal.loop-i-init

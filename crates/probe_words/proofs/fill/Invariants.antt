@@ -1,9 +1,8 @@
 use Prim.Native.Nat.{◌-◌}
-use mathlib.Core.Path.{◌≡◌, refl}
-use borrow.Author.Rules.{rules}
-use lib.ListN.{length, length-set}
+use mathlib.Core.Path.{◌≡◌}
+use lib.ListN.{length}
 use Rattle.probe_words.specs.Words.{filler}
-use Rattle.probe_words.proofs.Filling.{Filling, filling_first, filling_more, filling_done}
+use Rattle.probe_words.proofs.Filling.{Filling}
 use Rattle.probe_words.proofs.fill.Given as goal
 
 abbrev pub invariant-loop-i : goal.invariant-loop-i

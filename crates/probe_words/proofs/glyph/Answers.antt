@@ -1,5 +1,4 @@
 -- `probe_words::glyph` meets its contract: one law for each way.
-use borrow.Author.Rules.{rules}
 use borrow.Author.Tests.{lt-ltb, le-ltb}
 use Rattle.probe_words.proofs.glyph.Goals as goal
 

@@ -1,9 +1,5 @@
 -- `probe_words::kept` meets its contract: what is left to compare decides the whole.
-use Prim.Native.Nat.{◌-◌}
-use mathlib.Core.Path.{◌≡◌, refl, sym, ◌∙◌}
-use borrow.Author.Rules.{rules}
-use lib.ListN.{length, drop}
-use Rattle.probe_words.specs.Words.{filler, all_are}
+use mathlib.Core.Path.{refl, sym, ◌∙◌}
 use Rattle.probe_words.proofs.Filling.{all_more, all-not, all_done}
 use Rattle.probe_words.proofs.kept.Goals as goal
 

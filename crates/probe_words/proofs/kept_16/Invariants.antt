@@ -1,9 +1,7 @@
 use Prim.Native.Nat.{◌-◌}
-use mathlib.Core.Path.{◌≡◌, refl, sym, ◌∙◌}
-use borrow.Author.Rules.{rules}
+use mathlib.Core.Path.{◌≡◌}
 use lib.ListN.{length, drop}
 use Rattle.probe_words.specs.Words.{filler16, all_are}
-use Rattle.probe_words.proofs.Filling.{all_more, all-not, all_done}
 use Rattle.probe_words.proofs.kept_16.Given as goal
 
 abbrev pub invariant-loop-i : goal.invariant-loop-i

@@ -1,5 +1,4 @@
 -- `probe_words::last_word` meets its contract: one law for each way.
-use borrow.Author.Rules.{rules}
 use Rattle.probe_words.proofs.Parts.{last-past, last_none, last-is}
 use Rattle.probe_words.proofs.last_word.Goals as goal
 

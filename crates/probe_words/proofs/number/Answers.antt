@@ -1,5 +1,4 @@
 -- `probe_words::number` meets its contract: one law for each way.
-use borrow.Author.Rules.{rules}
 use Rattle.probe_words.proofs.Found.{number_past, number-other, number-none, number-found}
 use Rattle.probe_words.proofs.number.Goals as goal
 

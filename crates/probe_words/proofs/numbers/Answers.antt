@@ -1,5 +1,4 @@
 -- `probe_words::numbers` meets its contract: one law for each way.
-use borrow.Author.Rules.{rules}
 use Rattle.probe_words.proofs.Items.{numbers-good, numbers-bad}
 use Rattle.probe_words.proofs.numbers.Goals as goal
 

@@ -1,6 +1,5 @@
 -- `probe_words::pair` meets its contract: one law for each way.
 use mathlib.Core.Path.{◌∙◌, ap}
-use borrow.Author.Rules.{rules}
 use Rattle.probe_words.specs.Words.{hex_of}
 use Rattle.probe_words.proofs.Found.{pair_past, pair_half, pair_high, pair_low, pair_found}
 use Rattle.probe_words.proofs.pair.Goals as goal

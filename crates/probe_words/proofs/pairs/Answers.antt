@@ -1,10 +1,7 @@
 -- `probe_words::pairs` meets its contract: what the loop has left are those from index i on, for the room that is left.
-use Prim.Native.Nat.{◌-◌}
-use mathlib.Core.Path.{◌≡◌, refl}
-use borrow.Author.Rules.{rules}
-use lib.ListN.{length, length-set}
-use Rattle.probe_words.specs.Words.{pair_value, pair_next}
-use Rattle.probe_words.proofs.Items.{Listing, listing-first, listing-more, listing_none, listing_full}
+use mathlib.Core.Path.{refl}
+use lib.ListN.{length-set}
+use Rattle.probe_words.proofs.Items.{listing-first, listing-more, listing_none, listing_full}
 use Rattle.probe_words.proofs.pairs.Goals as goal
 
 pub loop-n-init : goal.loop-n-init

@@ -1,9 +1,8 @@
 use Prim.Native.Nat.{◌-◌}
-use mathlib.Core.Path.{◌≡◌, refl}
-use borrow.Author.Rules.{rules}
-use lib.ListN.{length, length-set}
+use mathlib.Core.Path.{◌≡◌}
+use lib.ListN.{length}
 use Rattle.probe_words.specs.Words.{pair_value, pair_next}
-use Rattle.probe_words.proofs.Items.{Listing, listing-first, listing-more, listing_none, listing_full}
+use Rattle.probe_words.proofs.Items.{Listing}
 use Rattle.probe_words.proofs.pairs.Given as goal
 
 abbrev pub invariant-loop-n : goal.invariant-loop-n

@@ -1,5 +1,4 @@
 -- `probe_words::part` meets its contract: one law for each way.
-use borrow.Author.Rules.{rules}
 use Rattle.probe_words.proofs.Parts.{part-is, part-long, part_turned}
 use Rattle.probe_words.proofs.part.Goals as goal
 

@@ -1,6 +1,5 @@
 -- `probe_words::put` meets its contract: the index is at most the length.
 use native.Mathlib.Omega.{arith}
-use borrow.Author.Rules.{rules}
 use lib.ListN.{length}
 use Rattle.probe_words.proofs.Parts.{least_right}
 use Rattle.probe_words.proofs.put.Goals as goal

@@ -1,5 +1,4 @@
 -- `probe_words::put_bytes` meets its contract: as many bytes as there are, if there are fewer.
-use borrow.Author.Rules.{rules}
 use Rattle.probe_words.proofs.Parts.{least-take, hex_none, hex_some}
 use Rattle.probe_words.proofs.put_bytes.Goals as goal
 

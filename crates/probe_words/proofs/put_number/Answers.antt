@@ -1,6 +1,5 @@
 -- `probe_words::put_number` meets its contract: the index is at most the length, and no number has more than 20 digits.
 use native.Mathlib.Omega.{arith}
-use borrow.Author.Rules.{rules}
 use lib.ListN.{length}
 use Rattle.text.proofs.Decimal.{decimal-all}
 use Rattle.probe_words.proofs.Parts.{least_right}

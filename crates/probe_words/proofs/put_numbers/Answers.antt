@@ -1,5 +1,4 @@
 -- `probe_words::put_numbers` meets its contract: as many numbers as the row has, if it has fewer.
-use borrow.Author.Rules.{rules}
 use Rattle.probe_words.proofs.Parts.{least-take, take-least}
 use Rattle.probe_words.proofs.put_numbers.Goals as goal
 

@@ -1,5 +1,4 @@
 -- `probe_words::put_pair` meets its contract.
-use borrow.Author.Rules.{rules}
 use Rattle.probe_words.proofs.put_pair.Goals as goal
 
 pub put_word-requires : goal.put_word-requires

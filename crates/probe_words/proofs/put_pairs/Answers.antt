@@ -1,9 +1,6 @@
 -- `probe_words::put_pairs` meets its contract: what the loop has left of the bytes is still to be laid from `next` on.
-use Prim.Native.Nat.{◌-◌, ◌≤◌}
 use borrow.Author.Rules.{rules}
-use lib.ListN.{length, drop}
-use Rattle.text.proofs.Laid.{Left, left-first, left_is, left-told, left-more, left-done, left-same}
-use Rattle.probe_words.specs.Words.{pairs_of}
+use Rattle.text.proofs.Laid.{left-first, left_is, left-told, left-more, left-done, left-same}
 use Rattle.probe_words.proofs.Parts.{pairs-more, pairs-done}
 use Rattle.probe_words.proofs.put_pairs.Goals as goal
 

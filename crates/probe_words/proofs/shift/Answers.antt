@@ -1,10 +1,8 @@
 -- `probe_words::shift` meets its contract: the loop reads in front of what it has written.
-use Prim.Native.Nat.{◌-◌, ◌+◌, ◌≤◌}
-use mathlib.Core.Path.{◌≡◌, refl}
+use mathlib.Core.Path.{refl}
 use native.Mathlib.Omega.{arith}
 use borrow.Author.Rules.{rules}
-use lib.ListN.{length}
-use Rattle.probe_words.proofs.Parts.{Moving, moving_first, moving_more, moved, puts_none, part_none, part-long}
+use Rattle.probe_words.proofs.Parts.{moving_first, moving_more, moved, puts_none, part_none, part-long}
 use Rattle.probe_words.proofs.shift.Goals as goal
 
 pub returns-then-to-from : goal.returns-then-to-from

@@ -1,9 +1,7 @@
 use Prim.Native.Nat.{◌-◌, ◌+◌, ◌≤◌}
-use mathlib.Core.Path.{◌≡◌, refl}
-use native.Mathlib.Omega.{arith}
-use borrow.Author.Rules.{rules}
+use mathlib.Core.Path.{◌≡◌}
 use lib.ListN.{length}
-use Rattle.probe_words.proofs.Parts.{Moving, moving_first, moving_more, moved, puts_none, part_none, part-long}
+use Rattle.probe_words.proofs.Parts.{Moving}
 use Rattle.probe_words.proofs.shift.Given as goal
 
 abbrev pub invariant-loop-i : goal.invariant-loop-i

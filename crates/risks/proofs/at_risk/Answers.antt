@@ -1,5 +1,4 @@
 -- `search::at_risk` meets its contract: each is counted in a set of those away.
-use borrow.Author.Rules.{rules}
 use Rattle.risks.proofs.Risks.{at_risk_is}
 use Rattle.risks.proofs.at_risk.Goals as goal
 

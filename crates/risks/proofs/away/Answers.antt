@@ -1,5 +1,4 @@
 -- `search::away` meets its contract: its records are those that are looked at.
-use borrow.Author.Rules.{rules}
 use Rattle.risks.proofs.away.Goals as goal
 
 pub returns : goal.returns

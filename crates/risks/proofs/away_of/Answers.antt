@@ -1,7 +1,6 @@
 -- `search::away_of` meets its contract: of the messages below m it has those that are away.
 use borrow.Author.Rules.{rules}
-use Prim.Native.Nat.{◌-◌}
-use Rattle.risks.proofs.Risks.{Gathering, gathered_none, gathered_more, gathered}
+use Rattle.risks.proofs.Risks.{gathered_none, gathered_more, gathered}
 use Rattle.risks.proofs.away_of.Goals as goal
 
 pub loop-m-init : goal.loop-m-init

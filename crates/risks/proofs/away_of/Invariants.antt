@@ -1,6 +1,5 @@
-use borrow.Author.Rules.{rules}
 use Prim.Native.Nat.{◌-◌}
-use Rattle.risks.proofs.Risks.{Gathering, gathered_none, gathered_more, gathered}
+use Rattle.risks.proofs.Risks.{Gathering}
 use Rattle.risks.proofs.away_of.Given as goal
 
 abbrev pub invariant-loop-m : goal.invariant-loop-m

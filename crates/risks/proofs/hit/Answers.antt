@@ -1,6 +1,5 @@
 -- `risks::hit` meets its contract: the one set after the other. Assumes nothing.
 use native.Mathlib.Omega.{arith}
-use borrow.Author.Rules.{rules}
 use Rattle.risks.proofs.hit.Goals as goal
 
 pub hit_in-requires : goal.hit_in-requires

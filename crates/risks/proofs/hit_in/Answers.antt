@@ -1,5 +1,4 @@
 -- `risks::hit_in` meets its contract: a set is read where each link of the pair's cable stands. Assumes nothing.
-use borrow.Author.Rules.{rules}
 use Rattle.risks.proofs.Risks.{hit_in}
 use Rattle.risks.proofs.hit_in.Goals as goal
 

@@ -1,6 +1,5 @@
 -- `search::hopeless` meets its contract: the three tests, one after another.
 use Rattle.risks.proofs.Weigh.{light_touches, light_strips, light_both}
-use borrow.Author.Rules.{rules}
 use Rattle.risks.proofs.hopeless.Goals as goal
 
 pub returns-then-loss-need : goal.returns-then-loss-need

@@ -1,6 +1,5 @@
 -- `risks::in_vain` meets its contract.
 use Rattle.risks.proofs.Weigh.{vain_none, vain_some}
-use borrow.Author.Rules.{rules}
 use Rattle.risks.proofs.in_vain.Goals as goal
 
 pub returns-then-n-eq0 : goal.returns-then-n-eq0

@@ -1,7 +1,6 @@
 -- `search::losses` meets its contract.
 use Rattle.risks.proofs.Weigh.{losses-is}
 use native.Mathlib.Omega.{arith}
-use borrow.Author.Rules.{rules}
 use Rattle.risks.proofs.losses.Goals as goal
 
 pub returns : goal.returns

@@ -7,7 +7,6 @@ use Rattle.cuts.specs.Down.{is_down}
 use Rattle.risks.specs.declared.Loss.{Loss}
 use Rattle.risks.specs.declared.Rest.{Rest}
 use Rattle.risks.specs.Weighed.{loss_with, too_light, passes}
-use borrow.Author.Rules.{rules}
 use Rattle.risks.proofs.may.Goals as goal
 
 module _ (closed weights most : List ℕ) (need : ℕ) (rest : Rest) (s e : ℕ) (light : Bool) (loss : Loss) (says : light ≡ too_light need loss)

@@ -1,10 +1,7 @@
 -- `search::next_link` meets its contract: no link before i may be tried.
-use Prim.Native.Nat.{◌-◌, ◌≤◌}
-use mathlib.Core.Path.{◌≡◌, refl, sym, ◌∙◌}
+use mathlib.Core.Path.{refl, sym, ◌∙◌}
 use borrow.Author.Rules.{rules}
-use Rattle.scope.specs.Lowest.{seek}
 use Rattle.scope.proofs.Lowest.{seek_found, seek-next, seek-done}
-use Rattle.risks.specs.Weighed.{passes}
 use Rattle.risks.proofs.next_link.Goals as goal
 
 pub loop-i-init : goal.loop-i-init

@@ -1,8 +1,6 @@
 use Prim.Native.Nat.{◌-◌, ◌≤◌}
-use mathlib.Core.Path.{◌≡◌, refl, sym, ◌∙◌}
-use borrow.Author.Rules.{rules}
+use mathlib.Core.Path.{◌≡◌}
 use Rattle.scope.specs.Lowest.{seek}
-use Rattle.scope.proofs.Lowest.{seek_found, seek-next, seek-done}
 use Rattle.risks.specs.Weighed.{passes}
 use Rattle.risks.proofs.next_link.Given as goal
 

@@ -1,6 +1,5 @@
 -- `search::stripped` meets its contract.
 use Rattle.risks.proofs.Weigh.{strips-last, strips-more}
-use borrow.Author.Rules.{rules}
 use Rattle.risks.proofs.stripped.Goals as goal
 
 pub returns-then-rest-eq1 : goal.returns-then-rest-eq1

@@ -1,6 +1,5 @@
 -- `search::weighed` meets its contract.
 use Rattle.risks.proofs.Weigh.{weighed_is}
-use borrow.Author.Rules.{rules}
 use Rattle.risks.proofs.weighed.Goals as goal
 
 pub returns : goal.returns

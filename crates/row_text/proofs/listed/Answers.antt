@@ -1,5 +1,4 @@
 -- `row_text::listed` meets its contract: the first call tells the length, the second writes the line.
-use borrow.Author.Rules.{rules}
 use Rattle.listing.proofs.Printing.{prints-short, prints-whole}
 use Rattle.row_text.proofs.listed.Goals as goal
 

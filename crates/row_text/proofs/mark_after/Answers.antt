@@ -1,5 +1,4 @@
 -- `row_text::mark_after` meets its contract: a number follows, or none.
-use borrow.Author.Rules.{rules}
 use Rattle.row_text.proofs.Lines.{mark-more, mark-last}
 use Rattle.row_text.proofs.mark_after.Goals as goal
 

@@ -1,12 +1,7 @@
 -- `row_text::numbers` meets its contract: what the loop has left are the numbers of the text from index i on.
-use Prim.Native.Nat.{◌≤◌, ◌-◌}
-use mathlib.Core.Path.{◌≡◌, refl, sym, ◌∙◌}
-use mathlib.Core.Bool.{false}
+use mathlib.Core.Path.{refl, sym, ◌∙◌}
 use borrow.Author.Rules.{rules}
-use borrow.Author.Tests.{not-true, not-false}
-use lib.ListN.{length, drop}
-use Rattle.text.proofs.Laid.{Left, left-first, left_is, left-more, left-done, left-same}
-use Rattle.row_text.specs.Rows.{numbers_from, numbers_of}
+use Rattle.text.proofs.Laid.{left-first, left_is, left-more, left-done, left-same}
 use Rattle.row_text.proofs.Words.{word_none, word_last, word_ends, word_bad, from-none}
 use Rattle.row_text.proofs.numbers.Goals as goal
 
@@ -71,8 +66,7 @@ loop-i-preserved c =
     c.if-next-i.false
     c.if-text-next.false _
     c.byte.ensures.is
-    (sym c.ends.ensures ∙ not-false _
-    c.if-not-ends.false))
+    (sym c.ends.ensures ∙ c.if-not-ends.false))
     c.loop-i.invariant.3)
     c.put-n.ensures in
     (search rules, search rules, left-same l, l)

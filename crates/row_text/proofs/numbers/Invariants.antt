@@ -1,12 +1,9 @@
 use Prim.Native.Nat.{◌≤◌, ◌-◌}
-use mathlib.Core.Path.{◌≡◌, refl, sym, ◌∙◌}
+use mathlib.Core.Path.{◌≡◌}
 use mathlib.Core.Bool.{false}
-use borrow.Author.Rules.{rules}
-use borrow.Author.Tests.{not-true, not-false}
 use lib.ListN.{length, drop}
-use Rattle.text.proofs.Laid.{Left, left-first, left_is, left-more, left-done, left-same}
+use Rattle.text.proofs.Laid.{Left}
 use Rattle.row_text.specs.Rows.{numbers_from, numbers_of}
-use Rattle.row_text.proofs.Words.{word_none, word_last, word_ends, word_bad, from-none}
 use Rattle.row_text.proofs.numbers.Given as goal
 
 abbrev pub invariant-loop-i : goal.invariant-loop-i

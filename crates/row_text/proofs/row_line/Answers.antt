@@ -1,9 +1,6 @@
 -- `row_text::row_line` meets its contract: what the loop has left of the line is still to be laid from `next` on.
-use Prim.Native.Nat.{◌≤◌, ◌-◌}
 use borrow.Author.Rules.{rules}
-use lib.ListN.{length, drop}
-use Rattle.text.proofs.Laid.{Left, left-first, left_is, left-told, left-more, left-done, left-same}
-use Rattle.row_text.specs.Rows.{row_line}
+use Rattle.text.proofs.Laid.{left-first, left_is, left-told, left-more, left-done, left-same}
 use Rattle.row_text.proofs.Lines.{line-more, line-done, line-told}
 use Rattle.row_text.proofs.row_line.Goals as goal
 
@@ -12,10 +9,9 @@ loop-i-init c = (search rules, left-first _ _ _)
 
 pub put_number-next-requires : goal.put_number-next-requires
 put_number-next-requires c =
-    let s = start in
     let more = line-more _ _ _ _ c.loop-i-test.true c.number-n.ensures.is
     c.mark_after-mark.ensures in
-    left-told _ _ (line-told _ s.requires) (left_is more c.loop-i.invariant.1)
+    left-told _ _ (line-told _ c.requires) (left_is more c.loop-i.invariant.1)
 
 pub loop-i-preserved : goal.loop-i-preserved
 loop-i-preserved c =

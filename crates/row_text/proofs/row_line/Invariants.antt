@@ -1,9 +1,7 @@
 use Prim.Native.Nat.{◌≤◌, ◌-◌}
-use borrow.Author.Rules.{rules}
 use lib.ListN.{length, drop}
-use Rattle.text.proofs.Laid.{Left, left-first, left_is, left-told, left-more, left-done, left-same}
+use Rattle.text.proofs.Laid.{Left}
 use Rattle.row_text.specs.Rows.{row_line}
-use Rattle.row_text.proofs.Lines.{line-more, line-done, line-told}
 use Rattle.row_text.proofs.row_line.Given as goal
 
 abbrev pub invariant-loop-i : goal.invariant-loop-i

@@ -1,10 +1,8 @@
-use Prim.Native.Nat.{◌+◌, ◌-◌, ◌^◌, ◌≤◌, ◌<◌}
+use Prim.Native.Nat.{◌+◌, ◌^◌, ◌≤◌, ◌<◌}
 use mathlib.Core.Path.{◌∙◌}
 use lib.ListN.{length, get_or}
 use native.Mathlib.Omega.{arith}
-use borrow.Author.Rules.{rules}
-use Rattle.row_walk.proofs.Parts.{OnFields, fields_first, fields_large, fields_next, fields_short, fields_done}
-use borrow.Author.Rules.{rules}
+use Rattle.row_walk.proofs.Parts.{fields_first, fields_large, fields_next, fields_short, fields_done}
 use Rattle.row_walk.proofs.walk_fields.Goals as goal
 
 pub loop-k-init : goal.loop-k-init

@@ -5,7 +5,6 @@ use native.Mathlib.Omega.{arith}
 use Rattle.scope.specs.Outcome.{outcome_of}
 use Rattle.row_walk.proofs.Parts.{fields_end, pass-then, pass-bad}
 use Rattle.row_walk.proofs.Passing.{sizes_of_plan, messages_of_plan, links_of_plan}
-use borrow.Author.Rules.{rules}
 use Rattle.row_walk.proofs.walk_head.Goals as goal
 
 pub walk_fields-messages-requires : goal.walk_fields-messages-requires

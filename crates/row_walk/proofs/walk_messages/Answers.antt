@@ -1,12 +1,8 @@
-use Prim.Native.Nat.{◌+◌, ◌*◌, ◌≤◌}
 use mathlib.Core.Path.{refl, sym, ◌∙◌, ap}
 use native.Mathlib.Omega.{arith}
-use Rattle.scope.specs.Fields.{next_message, next_place}
 use Rattle.scope.specs.Outcome.{outcome_of}
-use Rattle.row_walk.specs.Walk.{rest_of}
 use Rattle.row_walk.proofs.Parts.{fields_end, fields_small}
-use Rattle.row_walk.proofs.Passing.{Going, going_next, going-bad, place-turn, message-turn, messages-more, messages-done}
-use borrow.Author.Rules.{rules}
+use Rattle.row_walk.proofs.Passing.{going_next, going-bad, place-turn, message-turn, messages-more, messages-done}
 use Rattle.row_walk.proofs.walk_messages.Goals as goal
 
 pub returns-in-Refused : goal.returns-in-Refused

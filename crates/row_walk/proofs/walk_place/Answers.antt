@@ -4,7 +4,6 @@ use native.Mathlib.Omega.{arith}
 use Rattle.scope.specs.Outcome.{outcome_of}
 use Rattle.row_walk.proofs.Parts.{fields_end, pass-then, pass-bad}
 use Rattle.row_walk.proofs.Passing.{held_of_place, flag_of_place, flag-set, flag-clear}
-use borrow.Author.Rules.{rules}
 use Rattle.row_walk.proofs.walk_place.Goals as goal
 
 pub walk_fields-flag-requires : goal.walk_fields-flag-requires

@@ -4,7 +4,6 @@ use native.Mathlib.Omega.{arith}
 use Rattle.scope.specs.Outcome.{outcome_of}
 use Rattle.row_walk.proofs.Walk.{row-none, row-edition}
 use Rattle.row_walk.proofs.Passing.{row_head, row-bad}
-use borrow.Author.Rules.{rules}
 use Rattle.row_walk.proofs.walk_row.Goals as goal
 
 pub returns-then-row-eq0 : goal.returns-then-row-eq0

@@ -5,7 +5,6 @@ use native.Mathlib.Omega.{arith}
 use Rattle.scope.specs.Outcome.{outcome_of}
 use Rattle.row_walk.proofs.Parts.{fields_end, pass-then, pass-bad}
 use Rattle.row_walk.proofs.Passing.{count_of_second, links_of_second}
-use borrow.Author.Rules.{rules}
 use Rattle.row_walk.proofs.walk_second.Goals as goal
 
 pub walk_fields-requires : goal.walk_fields-requires

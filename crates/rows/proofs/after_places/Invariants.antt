@@ -1,11 +1,8 @@
 -- `rows::after_places` meets its contract. The invariant: the index after the places left is the one asked for, and no place took more than
 -- 65540 numbers. Assumes nothing.
 use Prim.Native.Nat.{◌+◌, ◌-◌, ◌*◌, ◌≤◌}
-use mathlib.Core.Path.{◌≡◌, sym, ◌∙◌}
-use native.Mathlib.Omega.{arith}
-use borrow.Author.Rules.{rules}
+use mathlib.Core.Path.{◌≡◌}
 use Rattle.scope.specs.Plan.{after_places}
-use Rattle.rows.proofs.Index as law
 use Rattle.rows.proofs.after_places.Given as goal
 
 abbrev pub invariant-loop-k : goal.invariant-loop-k

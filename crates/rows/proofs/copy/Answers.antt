@@ -1,8 +1,5 @@
-use Prim.Native.Nat.{◌-◌, ◌≤◌}
-use mathlib.Core.Path.{◌≡◌, refl, ◌∙◌, ap}
-use mathlib.Core.List.{◌++◌}
-use lib.ListN.{length, get_or, set, take, drop, length-set}
-use borrow.Author.Rules.{rules}
+use mathlib.Core.Path.{refl, ◌∙◌, ap}
+use lib.ListN.{get_or, set, length-set}
 use native.Mathlib.Omega.{arith}
 use Rattle.rows.proofs.Copied as law
 use Rattle.rows.proofs.copy.Goals as goal

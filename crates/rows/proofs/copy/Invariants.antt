@@ -1,11 +1,8 @@
 -- `rows::copy` meets its contract. The invariant: what is passed is copied, and what is left is as it was. Assumes nothing.
 use Prim.Native.Nat.{◌-◌, ◌≤◌}
-use mathlib.Core.Path.{◌≡◌, refl, ◌∙◌, ap}
+use mathlib.Core.Path.{◌≡◌}
 use mathlib.Core.List.{◌++◌}
-use lib.ListN.{length, get_or, set, take, drop, length-set}
-use borrow.Author.Rules.{rules}
-use native.Mathlib.Omega.{arith}
-use Rattle.rows.proofs.Copied as law
+use lib.ListN.{length, take, drop}
 use Rattle.rows.proofs.copy.Given as goal
 
 abbrev pub invariant-loop-i : goal.invariant-loop-i

@@ -1,9 +1,7 @@
-use Prim.Native.Nat.{◌+◌, ◌-◌, ◌*◌, ◌≤◌}
+use Prim.Native.Nat.{◌+◌, ◌*◌}
 use mathlib.Core.Path.{◌≡◌, sym, ◌∙◌, ap}
 use native.Mathlib.Omega.{arith}
-use borrow.Author.Rules.{rules}
 use Rattle.scope.specs.Plan.{first_message, after_messages}
-use Rattle.scope.specs.SecondPath.{message_index}
 use Rattle.rows.proofs.Index as law
 use Rattle.rows.proofs.message_index.Goals as goal
 

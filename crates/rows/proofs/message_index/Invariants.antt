@@ -1,11 +1,8 @@
 -- `rows::message_index` meets its contract. The invariant: the index after the messages left is the one asked for. Assumes nothing.
 use Prim.Native.Nat.{◌+◌, ◌-◌, ◌*◌, ◌≤◌}
-use mathlib.Core.Path.{◌≡◌, sym, ◌∙◌, ap}
-use native.Mathlib.Omega.{arith}
-use borrow.Author.Rules.{rules}
-use Rattle.scope.specs.Plan.{first_message, after_messages}
+use mathlib.Core.Path.{◌≡◌}
+use Rattle.scope.specs.Plan.{after_messages}
 use Rattle.scope.specs.SecondPath.{message_index}
-use Rattle.rows.proofs.Index as law
 use Rattle.rows.proofs.message_index.Given as goal
 
 abbrev pub invariant-loop-k : goal.invariant-loop-k

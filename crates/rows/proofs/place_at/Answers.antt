@@ -1,7 +1,6 @@
 -- `rows::place_at` meets its contract: the flag, two numbers on, says which of the two forms the place has. Assumes nothing.
 use mathlib.Core.Path.{refl}
 use native.Mathlib.Omega.{arith}
-use borrow.Author.Rules.{rules}
 use Rattle.rows.proofs.Index as law
 use Rattle.rows.proofs.place_at.Goals as goal
 

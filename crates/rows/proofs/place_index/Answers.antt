@@ -2,7 +2,6 @@
 use Prim.Native.Nat.{◌+◌}
 use mathlib.Core.Path.{◌≡◌, ◌∙◌, ap}
 use native.Mathlib.Omega.{arith}
-use borrow.Author.Rules.{rules}
 use Rattle.scope.specs.Plan.{after_places}
 use Rattle.scope.specs.SecondPath.{message_index}
 use Rattle.rows.proofs.place_index.Goals as goal

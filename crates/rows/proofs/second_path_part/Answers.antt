@@ -1,7 +1,6 @@
 -- `rows::second_path_part` meets its contract: the part lies in a row without refusals 1 to 4. Assumes nothing.
 use mathlib.Core.Path.{◌∙◌}
 use native.Mathlib.Omega.{arith}
-use borrow.Author.Rules.{rules}
 use Rattle.rows.proofs.Walked.{walked}
 use Rattle.rows.proofs.Second as law
 use Rattle.rows.proofs.second_path_part.Goals as goal

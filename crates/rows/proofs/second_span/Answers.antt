@@ -3,7 +3,6 @@ use Prim.Native.Nat.{◌+◌, ◌<◌}
 use mathlib.Core.Path.{◌≡◌, refl, sym, ◌∙◌, ap}
 use mathlib.Core.Bool.{true}
 use native.Mathlib.Omega.{arith}
-use borrow.Author.Rules.{rules}
 use Rattle.scope.specs.Plan.{flagged, second_count, after_places, place_count, message_count}
 use Rattle.scope.specs.SecondPath.{message_index, place_index}
 use Rattle.rows.proofs.Second as law

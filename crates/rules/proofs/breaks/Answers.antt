@@ -1,25 +1,23 @@
 -- `rules::breaks` meets its contract: one way out for each rule. Assumes nothing.
-use Prim.Native.Nat.{◌<◌}
+use Prim.Native.Nat.{ℕ, ◌≤◌, ◌<◌}
 use mathlib.Core.Path.{◌∙◌, sym, ap}
+use mathlib.Core.List.{List}
 use native.Mathlib.Omega.{arith}
 use lib.ListN.{length, get_or}
 use Rattle.scope.specs.Plan.{plan_of}
 use Rattle.faults.specs.Broken.{broken_slots}
+use Rattle.rules.specs.Rules.{Judging, count_for}
 use Rattle.rules.proofs.Below.{taken_is}
 use Rattle.rules.proofs.Laws as law
 use Rattle.rules.proofs.Laws.{Here}
 use Rattle.rules.proofs.breaks.Goals as goal
 
 -- from rule 8 on: there is such a message, and where it stands
-of-message : (c : tie.After-i) → c.before.before.before.before.args.m < length
-    (plan_of c.before.before.before.before.args.row.now).messages
-of-message c = law.of-messages (plan_of c.before.before.before.before.args.row.now) c.before.before.before.before.args.m
-    c.before.before.before.before.args.n (omega (arith, c.before.if1.false)) c.before.before.before.before.requires.3
+of-message : (row : List ℕ) (m n : ℕ) → 8 ≤ n → m < count_for (plan_of row) n → m < length (plan_of row).messages
+of-message row m n from below = law.of-messages (plan_of row) m n (omega (arith, from)) below
 
-found : (c : tie.After-i) → Here c.before.before.before.before.args.row.now c.before.before.before.before.args.m
-    (get_or c.before.before.before.before.args.starts.now c.before.before.before.before.args.m 0)
-found c = law.here _ _ c.before.before.before.before.requires.0.lies c.before.before.before.before.requires.0.starts_are
-    c.before.before.before.before.args.m (of-message c)
+found : (row starts table : List ℕ) (m n : ℕ) → Judging row starts table n → 8 ≤ n → m < count_for (plan_of row) n → Here row m (get_or starts m 0)
+found row starts table m n judging from below = law.here row starts judging.lies judging.starts_are m (of-message row m n from below)
 
 pub bad_ends-requires : goal.bad_ends-requires
 bad_ends-requires c =
@@ -57,24 +55,29 @@ bounds-starts-m c =
     omega (arith, w, c.requires.0.starts_are.long)
 
 pub bad_slots-requires : goal.bad_slots-requires
-bad_slots-requires c = (found c.before).near
+bad_slots-requires c =
+    let a = c.args in
+    (found a.row.now a.starts.now a.table.now a.m a.n c.requires.0 c.if-n-lt8.false c.requires.3).near
 
 pub returns-then-n-lt9 : goal.returns-then-n-lt9
 returns-then-n-lt9 c =
     let a = c.args in
     let plan = plan_of a.row.now in
-    c.bad_slots.ensures ∙ sym (ap (broken_slots plan) (found c.before.before).is) ∙
+    let here = found a.row.now a.starts.now a.table.now a.m a.n c.requires.0 c.if-n-lt8.false c.requires.3 in
+    c.bad_slots.ensures ∙ sym (ap (broken_slots plan) here.is) ∙
     law.rule_eight plan a.m a.n (omega (arith, c.if-n-lt8.false, c.if-n-lt9.true))
 
 pub held_below-requires : goal.held_below-requires
-held_below-requires c = (found c.before).near
+held_below-requires c =
+    let a = c.args in
+    (found a.row.now a.starts.now a.table.now a.m a.n c.requires.0 c.if-n-lt8.false c.requires.3).near
 
 pub returns : goal.returns
 returns c =
     let a = c.args in
     let row = a.row.now in
-    let here = found c.before.before in
+    let here = found row a.starts.now a.table.now a.m a.n c.requires.0 c.if-n-lt8.false c.requires.3 in
     c.held_below.ensures ∙
-    taken_is (plan_of row) a.m a.table.now (c.requires.0.table_is (omega (arith, c.if-n-lt9.false))) (of-message c.before.before)
+    taken_is (plan_of row) a.m a.table.now (c.requires.0.table_is (omega (arith, c.if-n-lt9.false))) (of-message row a.m a.n c.if-n-lt8.false c.requires.3)
     row (get_or a.starts.now a.m 0)
     here.lies here.is ∙ law.rule_nine (plan_of row) a.m a.n (omega (arith, c.if-n-lt9.false, c.requires.1.below))

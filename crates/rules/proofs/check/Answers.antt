@@ -1,28 +1,25 @@
 -- `rules::check` meets its contract: the table is filled where the rounds before it refuse nothing. Assumes nothing.
 use native.Mathlib.Omega.{arith}
-use borrow.Author.Rules.{rules}
 use Rattle.scope.specs.Plan.{plan_of}
 use Rattle.rows.proofs.Walked.{walked}
 use Rattle.rules.proofs.Laws as law
-use borrow.Author.Rules.{rules}
 use Rattle.rules.proofs.check.Goals as goal
 
 pub message_starts-starts-requires : goal.message_starts-starts-requires
 message_starts-starts-requires c = omega (arith, (walked c.args.row.now c.requires).messages)
 
 pub rounds-early-requires : goal.rounds-early-requires
-rounds-early-requires c =
-    (
-      record {
-        lies = walked c.args.row.now c.requires;
-        starts_are = c.message_starts-starts.ensures;
-        table_is = λ h. absurd
-            (omega arith);
-      },
-      omega arith,
-      omega arith,
-      omega arith,
-    )
+rounds-early-requires c = (
+  record {
+    lies = walked c.args.row.now c.requires;
+    starts_are = c.message_starts-starts.ensures;
+    table_is = λ h. absurd
+        (omega arith);
+  },
+  omega arith,
+  omega arith,
+  omega arith,
+)
 
 pub returns-then-early-ne0 : goal.returns-then-early-ne0
 returns-then-early-ne0 c = law.early-broken (plan_of c.args.row.now) _

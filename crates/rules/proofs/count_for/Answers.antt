@@ -1,6 +1,5 @@
 -- `rules::count_for` meets its contract. Assumes nothing.
 use mathlib.Core.Path.{◌∙◌, sym}
-use borrow.Author.Rules.{rules}
 use Rattle.scope.specs.Plan.{plan_of}
 use Rattle.rows.proofs.Parts.{link-count, message-count}
 use Rattle.rules.proofs.Laws as law

@@ -1,10 +1,6 @@
-use Prim.Native.Nat.{◌-◌}
 use mathlib.Core.Path.{◌∙◌, sym}
 use native.Mathlib.Omega.{arith}
-use borrow.Author.Rules.{rules}
-use Rattle.scope.specs.Plan.{plan_of}
-use Rattle.scope.proofs.Seek.{Seeking, seeking_first, seeking_next, lowest-found, lowest-done}
-use Rattle.rules.specs.Rules.{breaks}
+use Rattle.scope.proofs.Seek.{seeking_first, seeking_next, lowest-found, lowest-done}
 use Rattle.rules.proofs.Laws as law
 use Rattle.rules.proofs.lowest_breaking.Goals as goal
 

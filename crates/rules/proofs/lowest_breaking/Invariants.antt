@@ -1,12 +1,8 @@
 -- `rules::lowest_breaking` meets its contract. The invariant `Seeking`: nothing passed breaks the rule. Assumes nothing.
 use Prim.Native.Nat.{◌-◌}
-use mathlib.Core.Path.{◌∙◌, sym}
-use native.Mathlib.Omega.{arith}
-use borrow.Author.Rules.{rules}
 use Rattle.scope.specs.Plan.{plan_of}
-use Rattle.scope.proofs.Seek.{Seeking, seeking_first, seeking_next, lowest-found, lowest-done}
+use Rattle.scope.proofs.Seek.{Seeking}
 use Rattle.rules.specs.Rules.{breaks}
-use Rattle.rules.proofs.Laws as law
 use Rattle.rules.proofs.lowest_breaking.Given as goal
 
 abbrev pub invariant-loop-m : goal.invariant-loop-m

@@ -1,8 +1,6 @@
 -- `rules::message_fault` meets its contract: round 10 is that of second paths. Assumes nothing.
-use borrow.Author.Rules.{rules}
 use Rattle.scope.specs.Plan.{plan_of, message_at}
 use Rattle.rules.proofs.Laws as law
-use borrow.Author.Rules.{rules}
 use Rattle.rules.proofs.message_fault.Goals as goal
 
 pub returns-then-n-lt10 : goal.returns-then-n-lt10

@@ -1,7 +1,5 @@
-use Prim.Native.Nat.{◌-◌, ◌≤◌}
 use mathlib.Core.Path.{refl}
 use native.Mathlib.Omega.{arith}
-use borrow.Author.Rules.{rules}
 use Rattle.rules.proofs.Laws as law
 use Rattle.rules.proofs.Laws.{Noting}
 use Rattle.rules.proofs.message_starts.Goals as goal

@@ -1,9 +1,5 @@
 -- `rules::message_starts` meets its contract. The invariant `Noting`: the messages passed are noted. Assumes nothing.
 use Prim.Native.Nat.{◌-◌, ◌≤◌}
-use mathlib.Core.Path.{refl}
-use native.Mathlib.Omega.{arith}
-use borrow.Author.Rules.{rules}
-use Rattle.rules.proofs.Laws as law
 use Rattle.rules.proofs.Laws.{Noting}
 use Rattle.rules.proofs.message_starts.Given as goal
 

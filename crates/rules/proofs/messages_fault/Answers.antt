@@ -1,10 +1,7 @@
-use Prim.Native.Nat.{◌-◌, ◌≤◌}
 use mathlib.Core.Path.{◌≡◌, refl}
 use native.Mathlib.Omega.{arith}
-use borrow.Author.Rules.{rules}
 use Rattle.scope.specs.Plan.{plan_of, message_count}
 use Rattle.rows.proofs.Parts.{message-count}
-use Rattle.rules.specs.Rules.{PlanFault}
 use Rattle.rules.proofs.Laws as law
 use Rattle.rules.proofs.messages_fault.Goals as goal
 

@@ -1,12 +1,7 @@
 -- `rules::messages_fault` meets its contract. The invariant: of the messages passed the earliest rule is kept. Assumes nothing.
 use Prim.Native.Nat.{◌-◌, ◌≤◌}
-use mathlib.Core.Path.{◌≡◌, refl}
-use native.Mathlib.Omega.{arith}
-use borrow.Author.Rules.{rules}
-use Rattle.scope.specs.Plan.{plan_of, message_count}
-use Rattle.rows.proofs.Parts.{message-count}
+use Rattle.scope.specs.Plan.{plan_of}
 use Rattle.rules.specs.Rules.{PlanFault}
-use Rattle.rules.proofs.Laws as law
 use Rattle.rules.proofs.messages_fault.Given as goal
 
 abbrev pub invariant-loop-m : goal.invariant-loop-m

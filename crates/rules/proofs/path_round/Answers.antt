@@ -1,12 +1,10 @@
 -- `rules::path_round` meets its contract: the earliest rule that some message breaks is the one that is refused. Assumes nothing.
 use Prim.Native.Nat.{◌<◌, ◌≤◌}
-use borrow.Author.Rules.{rules}
 use lib.ListN.{length}
 use Rattle.scope.specs.Plan.{plan_of}
 use Rattle.rows.proofs.Parts.{message-count}
 use Rattle.rules.specs.Rules.{PlanFault, rule_count}
 use Rattle.rules.proofs.Laws as law
-use borrow.Author.Rules.{rules}
 use Rattle.rules.proofs.path_round.Goals as goal
 
 pub returns-then-found-rule_count : goal.returns-then-found-rule_count

@@ -1,9 +1,6 @@
 -- `rules::rounds` meets its contract. The invariant `Rounds`: the rounds left say what all say. Assumes nothing.
 use Prim.Native.Nat.{◌-◌}
-use native.Mathlib.Omega.{arith}
-use borrow.Author.Rules.{rules}
 use Rattle.scope.specs.Plan.{plan_of}
-use Rattle.rules.proofs.Laws as law
 use Rattle.rules.proofs.Laws.{Rounds}
 use Rattle.rules.proofs.rounds.Given as goal
 

@@ -1,5 +1,4 @@
 -- `rules::single_round` meets its contract. Assumes nothing.
-use borrow.Author.Rules.{rules}
 use Rattle.scope.specs.Plan.{plan_of}
 use Rattle.rules.proofs.Laws as law
 use Rattle.rules.proofs.single_round.Goals as goal

@@ -1,57 +1,54 @@
 -- The search: `level` goes over the slots, `in_slot` over the links of a slot, and `with_pair` calls `level` with one pair more. The pairs
--- still
--- to come fall from `level` to `level`.
-use Prim.Native.Nat.{ℕ, ◌+◌, ◌-◌, ◌*◌, ◌<◌}
+-- still to come fall from `level` to `level`.
 use mathlib.Core.Path.{sym}
 use native.Mathlib.Omega.{arith}
-use borrow.Author.Rules.{rules}
 use Rattle.risks.proofs.Light.{goes_up}
 use Rattle.risks.proofs.Risks.{may-weigh}
 use Rattle.search.proofs.Levels.{may-hit, may_go_on, goes_nowhere}
-use Rattle.search.proofs.Levels.{Looking, Climbing, may_try, may_pick, looks_first, looks_some, looks_on, look_done}
+use Rattle.search.proofs.Levels.{may_try, may_pick, looks_first, looks_some, looks_on, look_done}
 use Rattle.search.proofs.Levels.{may_play_out, climbs_first, may_weigh_rest, may_try_all, may_look, climbs_may}
 use Rattle.search.proofs.Levels.{climbs_stop, climbs_over, climbs_some, climbs_on}
 use Rattle.search.proofs.+in_slot_level_with_pair.Goals as goal
 
 pub in_slot-next_link-i-requires : goal.in_slot-next_link-i-requires
 in_slot-next_link-i-requires t c = (
-  may_try _ _ _ _ _ _ _ _ _ _ _ _ _ _ _ c.requires.1,
-  c.requires.1.link,
-  c.requires.1.ready.play.few,
+  may_try _ _ _ _ _ _ _ _ _ _ _ _ _ _ _ c.requires,
+  c.requires.link,
+  c.requires.ready.play.few,
 )
 
 pub in_slot-loop-i-init : goal.in_slot-loop-i-init
 in_slot-loop-i-init t c =
-    looks_first _ _ _ _ _ _ _ _ _ _ _ _ _ _ _ c.requires.1 _
+    looks_first _ _ _ _ _ _ _ _ _ _ _ _ _ _ _ c.requires _
     c.next_link-i.ensures
 
 pub in_slot-with_pair-r-requires : goal.in_slot-with_pair-r-requires
 in_slot-with_pair-r-requires t c = (
-  omega (arith, c.requires.0),
-  may_pick _ _ _ _ _ _ _ _ _ _ _ _ _ _ _ c.requires.1 _
+  omega (arith, c.decreases),
+  may_pick _ _ _ _ _ _ _ _ _ _ _ _ _ _ _ c.requires _
       c.loop-i.invariant c.loop-i-test.true,
 )
 
 pub in_slot-returns-then-r : goal.in_slot-returns-then-r
 in_slot-returns-then-r t c =
-    looks_some _ _ _ _ _ _ _ _ _ _ _ _ _ _ _ c.requires.1 _ _
+    looks_some _ _ _ _ _ _ _ _ _ _ _ _ _ _ _ c.requires _ _
     c.loop-i.invariant c.loop-i-test.true c.with_pair-r.ensures c.if-r.true
 
 pub in_slot-slice_bounds-next_link-end-in-loop-i : goal.in_slot-slice_bounds-next_link-end-in-loop-i
-in_slot-slice_bounds-next_link-end-in-loop-i t c = sym c.requires.1.holding.shut
+in_slot-slice_bounds-next_link-end-in-loop-i t c = sym c.requires.holding.shut
 
 pub in_slot-overflow_add-i : goal.in_slot-overflow_add-i
 in_slot-overflow_add-i t c = omega (
   arith,
   c.loop-i-test.true,
-  c.requires.1.ready.play.few,
+  c.requires.ready.play.few,
 )
 
 pub in_slot-next_link-i-requires-in-loop-i : goal.in_slot-next_link-i-requires-in-loop-i
 in_slot-next_link-i-requires-in-loop-i t c = (
-  may_try _ _ _ _ _ _ _ _ _ _ _ _ _ _ _ c.requires.1,
+  may_try _ _ _ _ _ _ _ _ _ _ _ _ _ _ _ c.requires,
   omega (arith, c.loop-i-test.true),
-  c.requires.1.ready.play.few,
+  c.requires.ready.play.few,
 )
 
 pub in_slot-loop-i-smaller : goal.in_slot-loop-i-smaller
@@ -59,27 +56,27 @@ in_slot-loop-i-smaller t c = omega (arith, c.loop-i-test.true, goes_up _ _ _ _ c
 
 pub in_slot-loop-i-preserved : goal.in_slot-loop-i-preserved
 in_slot-loop-i-preserved t c =
-    looks_on _ _ _ _ _ _ _ _ _ _ _ _ _ _ _ c.requires.1 _ _ c.loop-i.invariant
+    looks_on _ _ _ _ _ _ _ _ _ _ _ _ _ _ _ c.requires _ _ c.loop-i.invariant
     c.loop-i-test.true c.with_pair-r.ensures _ c.if-r.false c.next_link-i-in-loop-i.ensures
 
 pub in_slot-returns : goal.in_slot-returns
 in_slot-returns t c =
     look_done _ _ _ _ _ _ _ _ _
-    c.requires.1.ready
-    c.requires.1.holding
-    c.requires.1.some
-    c.requires.1.few _ _ _ _
+    c.requires.ready
+    c.requires.holding
+    c.requires.some
+    c.requires.few _ _ _ _
     c.loop-i.invariant _ c.loop-i-test.false c.nothing.ensures
 
 pub level-play_out-requires : goal.level-play_out-requires
-level-play_out-requires t c = may_play_out _ _ _ _ _ _ _ _ _ _ _ _ c.requires.1
+level-play_out-requires t c = may_play_out _ _ _ _ _ _ _ _ _ _ _ _ c.requires
 
 pub level-returns-then-n-eq0 : goal.level-returns-then-n-eq0
 level-returns-then-n-eq0 t c = rw c.if-n-eq0.true c.play_out.ensures
 
 pub level-loop-s-init : goal.level-loop-s-init
 level-loop-s-init t c =
-    climbs_first _ _ _ _ _ _ _ _ _ _ _ _ c.requires.1 c.if-n-eq0.false
+    climbs_first _ _ _ _ _ _ _ _ _ _ _ _ c.requires c.if-n-eq0.false
 
 pub level-overflow_sub-n : goal.level-overflow_sub-n
 level-overflow_sub-n t c = omega (arith, c.if-n-eq0.false)
@@ -87,30 +84,30 @@ level-overflow_sub-n t c = omega (arith, c.if-n-eq0.false)
 pub level-losses-rest-requires : goal.level-losses-rest-requires
 level-losses-rest-requires t c =
     may_weigh_rest _ _ _ _ _ _ _ _ _ _ _ _
-    c.requires.1
+    c.requires
     c.if-n-eq0.false _ _ _ _ c.loop-s.invariant _ c.loop-s-test.true
     c.at_risk-risk.ensures
 
 pub level-slice_bounds-next_link-end : goal.level-slice_bounds-next_link-end
 level-slice_bounds-next_link-end t c =
     sym
-    c.requires.1.holding.shut
+    c.requires.holding.shut
 
 pub level-next_link-f-requires : goal.level-next_link-f-requires
 level-next_link-f-requires t c = (
   may_try_all _ _ _ _ _ _ _ _ _ _ _ _
-      c.requires.1
+      c.requires
       c.if-n-eq0.false _ _ _ _
       c.loop-s.invariant _ _
       c.at_risk-risk.ensures c.losses-rest.ensures c.loop-s-test.true,
   omega arith,
-  c.requires.1.ready.play.few,
+  c.requires.ready.play.few,
 )
 
 pub level-returns-then-a-f : goal.level-returns-then-a-f
 level-returns-then-a-f t c =
     climbs_stop _ _ _ _ _ _ _ _ _ _ _ _
-    c.requires.1 c.if-n-eq0.false _ _ _ _
+    c.requires c.if-n-eq0.false _ _ _ _
     c.loop-s.invariant _ _
     c.at_risk-risk.ensures c.losses-rest.ensures _ _
     c.nothing.ensures c.next_link-f.ensures c.if-a-f.true
@@ -119,10 +116,10 @@ pub level-in_slot-r-requires : goal.level-in_slot-r-requires
 level-in_slot-r-requires t c = (
   omega (
     arith,
-    c.requires.0,
+    c.decreases,
   ),
   may_look _ _ _ _ _ _ _ _ _ _ _ _
-      c.requires.1 c.if-n-eq0.false _ _ _ _
+      c.requires c.if-n-eq0.false _ _ _ _
       c.loop-s.invariant _ _
       c.at_risk-risk.ensures c.losses-rest.ensures _ _
       c.next_link-f.ensures c.later-from.ensures
@@ -132,7 +129,7 @@ level-in_slot-r-requires t c = (
 pub level-returns-then-r : goal.level-returns-then-r
 level-returns-then-r t c =
     climbs_some _ _ _ _ _ _ _ _ _ _ _ _
-    c.requires.1
+    c.requires
     c.if-n-eq0.false _ _ _ _
     c.loop-s.invariant _ _
     c.at_risk-risk.ensures
@@ -143,7 +140,7 @@ level-returns-then-r t c =
 pub level-advance-qs-requires : goal.level-advance-qs-requires
 level-advance-qs-requires t c =
     climbs_may _ _ _ _ _ _ _ _ _ _ _ _
-    c.requires.1
+    c.requires
     c.if-n-eq0.false _ _ _ _
     c.loop-s.invariant
     c.loop-s-test.true
@@ -156,7 +153,7 @@ level-overflow_add-s t c =
     omega (
       arith,
       c.loop-s-test.true,
-      c.requires.1.ready.play.short,
+      c.requires.ready.play.short,
     )
 
 pub level-loop-s-smaller : goal.level-loop-s-smaller
@@ -165,7 +162,7 @@ level-loop-s-smaller t c = omega (arith, c.loop-s-test.true)
 pub level-loop-s-preserved : goal.level-loop-s-preserved
 level-loop-s-preserved t c =
     climbs_on _ _ _ _ _ _ _ _ _ _ _ _
-    c.requires.1
+    c.requires
     c.if-n-eq0.false _ _ _
     _ c.loop-s.invariant _ _
     c.at_risk-risk.ensures
@@ -178,32 +175,32 @@ level-loop-s-preserved t c =
 pub level-returns : goal.level-returns
 level-returns t c =
     climbs_over _ _ _ _ _ _ _ _ _ _ _ _
-    c.requires.1
+    c.requires
     c.if-n-eq0.false _ _ _ _ c.loop-s.invariant _ c.nothing-2.ensures
     c.loop-s-test.false
 
 pub with_pair-hit-more-requires : goal.with_pair-hit-more-requires
-with_pair-hit-more-requires t c = may-hit _ _ _ _ _ _ _ _ _ _ _ _ _ _ c.requires.1
+with_pair-hit-more-requires t c = may-hit _ _ _ _ _ _ _ _ _ _ _ _ _ _ c.requires
 
 pub with_pair-overflow_sub-n : goal.with_pair-overflow_sub-n
-with_pair-overflow_sub-n t c = omega (arith, c.requires.1.some)
+with_pair-overflow_sub-n t c = omega (arith, c.requires.some)
 
 pub with_pair-in_vain-requires : goal.with_pair-in_vain-requires
 with_pair-in_vain-requires t c =
-    let m = c.requires.1 in (
+    let m = c.requires in (
       may-weigh _ _ _ _ _ _ c.at_risk-risk.ensures (omega (arith, m.few)) m.ready.tops (omega (arith, m.early, m.ready.play.short)),
       m.ready.small,
     )
 
 pub with_pair-returns-then-in_vain : goal.with_pair-returns-then-in_vain
 with_pair-returns-then-in_vain t c =
-    goes_nowhere _ _ _ _ _ _ _ _ _ _ _ _ _ _ c.requires.1
+    goes_nowhere _ _ _ _ _ _ _ _ _ _ _ _ _ _ c.requires
     _ _ _ _ c.hit-more.ensures c.at_risk-risk.ensures c.in_vain.ensures
     c.if-in_vain.true c.nothing.ensures
 
 pub with_pair-pick-q-requires : goal.with_pair-pick-q-requires
 with_pair-pick-q-requires t c =
-    let m = c.requires.1 in (
+    let m = c.requires in (
       omega (arith, m.few, m.some),
       omega (arith, m.early, m.ready.play.short),
       omega (arith, m.link, m.ready.play.few),
@@ -211,16 +208,16 @@ with_pair-pick-q-requires t c =
     )
 
 pub with_pair-overflow_sub-n-2 : goal.with_pair-overflow_sub-n-2
-with_pair-overflow_sub-n-2 t c = omega (arith, c.requires.1.some)
+with_pair-overflow_sub-n-2 t c = omega (arith, c.requires.some)
 
 pub with_pair-level-requires : goal.with_pair-level-requires
 with_pair-level-requires t c = (
   omega (
     arith,
-    c.requires.0,
-    c.requires.1.some,
+    c.decreases,
+    c.requires.some,
   ),
-  may_go_on _ _ _ _ _ _ _ _ _ _ _ _ _ _ c.requires.1 _ _
+  may_go_on _ _ _ _ _ _ _ _ _ _ _ _ _ _ c.requires _ _
       c.pick-q.ensures c.hit-more.ensures,
 )
 

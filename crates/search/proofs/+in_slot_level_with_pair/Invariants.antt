@@ -1,13 +1,5 @@
-use Prim.Native.Nat.{ℕ, ◌+◌, ◌-◌, ◌*◌, ◌<◌}
-use mathlib.Core.Path.{sym}
-use native.Mathlib.Omega.{arith}
-use borrow.Author.Rules.{rules}
-use Rattle.risks.proofs.Light.{goes_up}
-use Rattle.risks.proofs.Risks.{may-weigh}
-use Rattle.search.proofs.Levels.{may-hit, may_go_on, goes_nowhere}
-use Rattle.search.proofs.Levels.{Looking, Climbing, may_try, may_pick, looks_first, looks_some, looks_on, look_done}
-use Rattle.search.proofs.Levels.{may_play_out, climbs_first, may_weigh_rest, may_try_all, may_look, climbs_may}
-use Rattle.search.proofs.Levels.{climbs_stop, climbs_over, climbs_some, climbs_on}
+use Prim.Native.Nat.{◌+◌, ◌-◌, ◌*◌}
+use Rattle.search.proofs.Levels.{Looking, Climbing}
 use Rattle.search.proofs.+in_slot_level_with_pair.Given as goal
 
 abbrev pub invariant-in_slot-loop-i : goal.invariant-in_slot-loop-i

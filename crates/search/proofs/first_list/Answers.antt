@@ -1,9 +1,7 @@
 -- `search::first_list` meets its contract: lists of fewer pairs leave enough.
-use Prim.Native.Nat.{◌+◌, ◌-◌}
 use mathlib.Core.Path.{refl}
 use native.Mathlib.Omega.{arith}
-use borrow.Author.Rules.{rules}
-use Rattle.search.proofs.Hunting.{Hunting, hunt_first, may-seek, hunt_some, hunt_on, hunt_over}
+use Rattle.search.proofs.Hunting.{hunt_first, may-seek, hunt_some, hunt_on, hunt_over}
 use Rattle.search.proofs.first_list.Goals as goal
 
 pub away-left-requires : goal.away-left-requires

@@ -1,8 +1,5 @@
 use Prim.Native.Nat.{◌+◌, ◌-◌}
-use mathlib.Core.Path.{refl}
-use native.Mathlib.Omega.{arith}
-use borrow.Author.Rules.{rules}
-use Rattle.search.proofs.Hunting.{Hunting, hunt_first, may-seek, hunt_some, hunt_on, hunt_over}
+use Rattle.search.proofs.Hunting.{Hunting}
 use Rattle.search.proofs.first_list.Given as goal
 
 abbrev pub invariant-loop-n : goal.invariant-loop-n

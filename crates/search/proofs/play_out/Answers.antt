@@ -1,9 +1,7 @@
 -- `search::play_out` meets its contract: the messages stand at time i.
-use Prim.Native.Nat.{◌-◌}
 use native.Mathlib.Omega.{arith}
 use mathlib.Core.Path.{refl}
-use Rattle.search.proofs.Playing.{settled_none, settled_some, Ending, ends-first, ends-may, ends_more, ends_light, ends_over}
-use borrow.Author.Rules.{rules}
+use Rattle.search.proofs.Playing.{settled_none, settled_some, ends-first, ends-may, ends_more, ends_light, ends_over}
 use Rattle.search.proofs.play_out.Goals as goal
 
 pub loop-i-init : goal.loop-i-init

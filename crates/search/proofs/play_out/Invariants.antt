@@ -1,8 +1,5 @@
 use Prim.Native.Nat.{◌-◌}
-use native.Mathlib.Omega.{arith}
-use mathlib.Core.Path.{refl}
-use Rattle.search.proofs.Playing.{settled_none, settled_some, Ending, ends-first, ends-may, ends_more, ends_light, ends_over}
-use borrow.Author.Rules.{rules}
+use Rattle.search.proofs.Playing.{Ending}
 use Rattle.search.proofs.play_out.Given as goal
 
 abbrev pub invariant-loop-i : goal.invariant-loop-i

@@ -1,6 +1,5 @@
 -- `sets::holds` meets its contract: her digit is 1. Assumes nothing.
 use mathlib.Core.Path.{refl}
-use borrow.Author.Rules.{rules}
 use Rattle.sets.specs.Sets.{has}
 use Rattle.sets.proofs.holds.Goals as goal
 

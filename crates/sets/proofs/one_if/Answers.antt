@@ -4,7 +4,6 @@ use mathlib.Core.Bool.{Bool, true, false}
 use native.Mathlib.Nat.{one-mul, zero-mul}
 use native.Mathlib.Omega.{arith}
 use mir.Val.{bool_byte}
-use borrow.Author.Rules.{rules}
 use lib.Pow.{shl_exact}
 use Rattle.scope.specs.Limits.{most_messages}
 use Rattle.sets.specs.Sets.{IsOneIf}

@@ -1,11 +1,6 @@
-use Prim.Native.Nat.{ℕ, ◌-◌, ◌≤◌}
-use mathlib.Core.Path.{◌∙◌, ap}
-use mathlib.Core.Bool.{cond}
-use native.Mathlib.Omega.{arith}
-use borrow.Author.Rules.{rules}
+use Prim.Native.Nat.{◌-◌, ◌≤◌}
 use lib.ListN.{length}
-use lib.Dec.{eqb}
-use Rattle.sheet_lines.proofs.Adding.{Summed, summed_first, summed_next, loss_of, none_of, Within, within, added}
+use Rattle.sheet_lines.proofs.Adding.{Summed, loss_of, none_of}
 use Rattle.sheet_lines.proofs.add.Given as goal
 
 abbrev pub invariant-loop-k : goal.invariant-loop-k

@@ -1,5 +1,4 @@
 -- `sheet_lines::figures_line` meets its contract: the figures, and the end of the line.
-use borrow.Author.Rules.{rules}
 use Rattle.text.proofs.Laid.{told-first, told-rest, then}
 use Rattle.sheet_lines.proofs.figures_line.Goals as goal
 

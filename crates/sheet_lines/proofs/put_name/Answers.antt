@@ -1,5 +1,4 @@
 -- `sheet_lines::put_name` meets its contract: a space, the name and a line feed.
-use borrow.Author.Rules.{rules}
 use Rattle.text.proofs.Laid.{told-first, told-rest, then}
 use Rattle.sheet_lines.proofs.put_name.Goals as goal
 

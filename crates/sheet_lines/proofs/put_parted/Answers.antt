@@ -1,14 +1,10 @@
 -- `sheet_lines::put_parted` meets its contract: the first number, and the others each after a space.
-use native.Mathlib.Omega.{arith}
 use borrow.Author.Rules.{rules}
 use Rattle.sheet_lines.proofs.Lines.{none-parted, first-told, others-told, some-parted}
 use Rattle.sheet_lines.proofs.put_parted.Goals as goal
 
 pub returns-then-figures-eq0 : goal.returns-then-figures-eq0
 returns-then-figures-eq0 c = none-parted _ _ _ c.if-figures-eq0.true
-
-pub overflow_cast-figures : goal.overflow_cast-figures
-overflow_cast-figures c = omega (arith, c.shared_slice_known-2-1.given 0)
 
 pub put_decimal-next-requires : goal.put_decimal-next-requires
 put_decimal-next-requires c =

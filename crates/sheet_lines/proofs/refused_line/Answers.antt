@@ -1,5 +1,4 @@
 -- `sheet_lines::refused_line` meets its contract: the refusal, and the end of the line.
-use borrow.Author.Rules.{rules}
 use Rattle.text.proofs.Laid.{told-first, told-rest, then}
 use Rattle.sheet_lines.proofs.refused_line.Goals as goal
 

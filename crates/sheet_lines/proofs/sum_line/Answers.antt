@@ -1,5 +1,4 @@
 -- `sheet_lines::sum_line` meets its contract: two numbers with a space after each, and one with a line feed.
-use borrow.Author.Rules.{rules}
 use Rattle.verdict_lines.proofs.Marks.{first-told, rest-told, mark-then}
 use Rattle.sheet_lines.proofs.sum_line.Goals as goal
 

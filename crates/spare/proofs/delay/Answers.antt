@@ -1,6 +1,4 @@
-use Prim.Native.Nat.{◌+◌, ◌-◌, ◌*◌, ◌≤◌}
-use mathlib.Core.Path.{◌≡◌}
-use borrow.Author.Rules.{rules}
+use Prim.Native.Nat.{◌+◌}
 use native.Mathlib.Omega.{arith}
 use Rattle.spare.proofs.Loops as law
 use Rattle.spare.proofs.Loops.{delay_at}
@@ -9,7 +7,7 @@ use Rattle.spare.proofs.delay.Goals as goal
 pub loop-k-init : goal.loop-k-init
 loop-k-init c =
     let a = c.args in
-    (law.delay-all a.row.now a.m a.i a.n, omega arith, omega arith, omega (arith, c.shared_slice_known-1.given 3))
+    (law.delay-all a.row.now a.m a.i a.n, omega arith, omega arith, omega (arith, c.type_inv.row 3))
 
 pub loop-k-preserved : goal.loop-k-preserved
 loop-k-preserved c =

@@ -1,9 +1,6 @@
 -- `spare::delay` meets its contract. The invariant: what is summed and what is left to sum make the whole. Assumes nothing.
 use Prim.Native.Nat.{◌+◌, ◌-◌, ◌*◌, ◌≤◌}
 use mathlib.Core.Path.{◌≡◌}
-use borrow.Author.Rules.{rules}
-use native.Mathlib.Omega.{arith}
-use Rattle.spare.proofs.Loops as law
 use Rattle.spare.proofs.Loops.{delay_at}
 use Rattle.spare.proofs.delay.Given as goal
 

@@ -1,8 +1,7 @@
-use Prim.Native.Nat.{◌+◌, ◌-◌, ◌*◌, ◌≤◌}
+use Prim.Native.Nat.{◌+◌}
 use mathlib.Core.Path.{◌≡◌, ◌∙◌, ap}
-use Rattle.scope.specs.Plan.{places_at, place_count, message_at, messages_at, plan_of}
-use Rattle.scope.specs.Spare.{entries_of, entries}
-use borrow.Author.Rules.{rules}
+use Rattle.scope.specs.Plan.{places_at, place_count, message_at}
+use Rattle.scope.specs.Spare.{entries_of}
 use native.Mathlib.Omega.{arith}
 use Rattle.spare.proofs.Loops as law
 use Rattle.spare.proofs.entries.Goals as goal

@@ -1,11 +1,8 @@
 -- `spare::entries` meets its contract. The invariant: what is counted and what is left to count make the whole. Assumes nothing.
 use Prim.Native.Nat.{◌+◌, ◌-◌, ◌*◌, ◌≤◌}
-use mathlib.Core.Path.{◌≡◌, ◌∙◌, ap}
-use Rattle.scope.specs.Plan.{places_at, place_count, message_at, messages_at, plan_of}
-use Rattle.scope.specs.Spare.{entries_of, entries}
-use borrow.Author.Rules.{rules}
-use native.Mathlib.Omega.{arith}
-use Rattle.spare.proofs.Loops as law
+use mathlib.Core.Path.{◌≡◌}
+use Rattle.scope.specs.Plan.{messages_at, plan_of}
+use Rattle.scope.specs.Spare.{entries}
 use Rattle.spare.proofs.entries.Given as goal
 
 abbrev pub invariant-loop-k : goal.invariant-loop-k

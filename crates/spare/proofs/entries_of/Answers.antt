@@ -1,8 +1,3 @@
-use Prim.Native.Nat.{◌+◌, ◌-◌, ◌*◌, ◌≤◌}
-use mathlib.Core.Path.{◌≡◌}
-use Rattle.scope.specs.Plan.{places_at}
-use Rattle.scope.specs.Spare.{entries_of}
-use borrow.Author.Rules.{rules}
 use native.Mathlib.Omega.{arith}
 use Rattle.spare.proofs.Loops as law
 use Rattle.spare.proofs.entries_of.Goals as goal

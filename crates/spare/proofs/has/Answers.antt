@@ -1,8 +1,5 @@
-use Prim.Native.Nat.{◌+◌, ◌-◌, ◌≤◌}
-use mathlib.Core.Path.{◌≡◌, sym, ◌∙◌}
-use Rattle.scope.specs.Plan.{numbers_at}
-use Rattle.scope.specs.Good.{has}
-use borrow.Author.Rules.{rules}
+use Prim.Native.Nat.{◌+◌}
+use mathlib.Core.Path.{sym, ◌∙◌}
 use native.Mathlib.Omega.{arith}
 use Rattle.spare.proofs.Loops as law
 use Rattle.spare.proofs.has.Goals as goal

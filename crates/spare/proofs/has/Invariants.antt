@@ -1,11 +1,8 @@
 -- `spare::has` meets its contract. The invariant: what is left has the link exactly if all have it. Assumes nothing.
 use Prim.Native.Nat.{◌+◌, ◌-◌, ◌≤◌}
-use mathlib.Core.Path.{◌≡◌, sym, ◌∙◌}
+use mathlib.Core.Path.{◌≡◌}
 use Rattle.scope.specs.Plan.{numbers_at}
 use Rattle.scope.specs.Good.{has}
-use borrow.Author.Rules.{rules}
-use native.Mathlib.Omega.{arith}
-use Rattle.spare.proofs.Loops as law
 use Rattle.spare.proofs.has.Given as goal
 
 abbrev pub invariant-loop-k : goal.invariant-loop-k

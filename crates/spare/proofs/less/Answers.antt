@@ -1,5 +1,4 @@
 -- `spare::less` meets its contract: both numbers are small, so nothing wraps. Assumes nothing.
-use borrow.Author.Rules.{rules}
 use Rattle.spare.proofs.Signed as law
 use Rattle.spare.proofs.less.Goals as goal
 

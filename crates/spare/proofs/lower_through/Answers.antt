@@ -1,9 +1,3 @@
-use Prim.Native.Nat.{◌+◌, ◌-◌, ◌*◌, ◌≤◌}
-use mathlib.Core.Path.{◌≡◌}
-use Rattle.scope.specs.Plan.{message_count, messages_at, plan_of}
-use Rattle.scope.specs.Cycle.{by_number}
-use Rattle.scope.specs.Spare.{lower_through}
-use borrow.Author.Rules.{rules}
 use native.Mathlib.Omega.{arith}
 use Rattle.spare.proofs.Loops as law
 use Rattle.spare.proofs.lower_through.Goals as goal
@@ -15,7 +9,7 @@ loop-j-init c =
       omega arith,
       omega arith,
       omega arith,
-      omega (arith, c.shared_slice_known-1.given 3),
+      omega (arith, c.type_inv.row 3),
     )
 
 pub loop-j-preserved : goal.loop-j-preserved

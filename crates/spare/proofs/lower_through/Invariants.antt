@@ -4,9 +4,6 @@ use mathlib.Core.Path.{◌≡◌}
 use Rattle.scope.specs.Plan.{message_count, messages_at, plan_of}
 use Rattle.scope.specs.Cycle.{by_number}
 use Rattle.scope.specs.Spare.{lower_through}
-use borrow.Author.Rules.{rules}
-use native.Mathlib.Omega.{arith}
-use Rattle.spare.proofs.Loops as law
 use Rattle.spare.proofs.lower_through.Given as goal
 
 abbrev pub invariant-loop-j : goal.invariant-loop-j

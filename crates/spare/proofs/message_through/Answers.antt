@@ -1,5 +1,4 @@
 -- `spare::message_through` meets its contract: the places of a message are those that its count says. Assumes nothing.
-use borrow.Author.Rules.{rules}
 use native.Mathlib.Omega.{arith}
 use Rattle.spare.proofs.Loops as law
 use Rattle.spare.proofs.message_through.Goals as goal

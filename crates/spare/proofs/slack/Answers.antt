@@ -1,5 +1,4 @@
 -- `spare::slack` meets its contract: refusals 1 to 10 and 14 to 19 come first. Assumes nothing.
-use borrow.Author.Rules.{rules}
 use Rattle.plan.proofs.Ways.{gave, refused_as, good-row}
 use Rattle.spare.proofs.Ways as law
 use Rattle.spare.proofs.slack.Goals as goal

@@ -1,11 +1,8 @@
 -- `spare::through` meets its contract. The invariant: the places left have such a second path exactly if all have one. Assumes nothing.
 use Prim.Native.Nat.{◌+◌, ◌-◌, ◌*◌, ◌≤◌}
-use mathlib.Core.Path.{◌≡◌, sym, ◌∙◌}
+use mathlib.Core.Path.{◌≡◌}
 use Rattle.scope.specs.Plan.{places_at}
 use Rattle.scope.specs.Spare.{has_second_through}
-use borrow.Author.Rules.{rules}
-use native.Mathlib.Omega.{arith}
-use Rattle.spare.proofs.Loops as law
 use Rattle.spare.proofs.through.Given as goal
 
 abbrev pub invariant-loop-k : goal.invariant-loop-k

@@ -1,6 +1,5 @@
 -- `step::crossing` meets its contract.
 use native.Mathlib.Omega.{arith}
-use borrow.Author.Rules.{rules}
 use Rattle.step.proofs.Seen.{is_crossing_lem, no_crossing}
 use Rattle.step.proofs.crossing.Goals as goal
 

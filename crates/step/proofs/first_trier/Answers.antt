@@ -1,32 +1,14 @@
--- `step::first_trier` meets its contract: what is still to look at gives what the whole gives. Assumes nothing.
-use Prim.Native.Nat.{ℕ, ◌+◌, ◌-◌, ◌*◌, ◌≤◌, ◌<◌}
+use Prim.Native.Nat.{ℕ, ◌-◌, ◌≤◌, ◌<◌}
 use mathlib.Core.Bool.{Bool}
-use mathlib.Core.List.{List}
 use mathlib.Core.Path.{◌≡◌, refl, sym, ◌∙◌, ap}
 use native.Mathlib.Omega.{arith}
-use lib.ListN.{length}
 use lib.Dec.{eqb}
 use borrow.Author.Tests.{eq-eqb, ne_eqb}
-use borrow.Author.Rules.{rules}
-use Rattle.scope.specs.Limits.{most_messages}
 use Rattle.scope.specs.Lowest.{seek}
 use Rattle.scope.proofs.Lowest.{seek_found, seek-next, seek-done}
-use Rattle.step.specs.Pass.{triers, tried_link, found_at, Noting}
-use Rattle.step.proofs.Tried.{trier_at, trier_past}
+use Rattle.step.specs.Pass.{triers, tried_link}
+use Rattle.step.proofs.Tried.{trier_at, trier_past, in_list}
 use Rattle.step.proofs.first_trier.Goals as goal
-
--- the entries from j on are still to be looked at
-pub record Looking (tried : List ℕ) (link m n j : ℕ) : Type 0 where
-  pub noting : Noting tried m
-  pub all : n ≡ triers tried
-  pub few : j ≤ n
-  pub left : seek (λ k. eqb (tried_link tried k) link) (n - j) j ≡ found_at tried link
-
--- so entry j stands within the list
-in_list : {tried : List ℕ} {link m n j : ℕ} → Looking tried link m n j → j < n → (j < most_messages) × (2 * j + 2 < length tried)
-in_list v h =
-    let n = v.noting in
-    (omega (arith, v.all, n.few, n.low), omega (arith, v.all, n.few, n.low, n.room))
 
 pub bounds-tried-0 : goal.bounds-tried-0
 bounds-tried-0 c = omega (arith, c.requires.room)
@@ -65,9 +47,6 @@ offset_bounds-tried-j-then-tried-j c = omega (arith, in_list c.loop-j.invariant 
 
 pub bounds-tried-j-then-tried-j : goal.bounds-tried-j-then-tried-j
 bounds-tried-j-then-tried-j c = omega (arith, in_list c.loop-j.invariant c.loop-j-test.true)
-
-pub overflow_cast-result : goal.overflow_cast-result
-overflow_cast-result c = omega (arith, c.shared_slice_known-then-tried-j-1.given (2 * c.loop-j.j + 2))
 
 pub returns-then-tried-j : goal.returns-then-tried-j
 returns-then-tried-j c =

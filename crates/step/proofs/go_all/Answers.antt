@@ -1,13 +1,9 @@
-use Prim.Native.Nat.{◌-◌}
 use mathlib.Core.Path.{◌≡◌, refl, sym, ◌∙◌}
 use native.Mathlib.Omega.{arith}
 use lib.ListN.{length}
-use borrow.Author.Tests.{not-true, not-false}
-use Rattle.step.specs.Slot.{down_now}
-use Rattle.table.specs.Table.{entry_at}
 use Rattle.step.proofs.Moving.{moving_may}
 use Rattle.step.proofs.Telling.{telling_length, telling_room}
-use Rattle.step.proofs.Seen.{Watching, watching_none, watching_more, watching_other, watching_done}
+use Rattle.step.proofs.Seen.{watching_none, watching_more, watching_other, watching_done}
 use borrow.Author.Rules.{rules}
 use Rattle.step.proofs.go_all.Goals as goal
 

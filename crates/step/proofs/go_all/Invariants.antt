@@ -1,16 +1,9 @@
 -- `step::go_all` meets its contract. The loop's invariant: the first k messages have moved, their events are told, and they are as seen. Assumes
 -- nothing.
 use Prim.Native.Nat.{◌-◌}
-use mathlib.Core.Path.{◌≡◌, refl, sym, ◌∙◌}
-use native.Mathlib.Omega.{arith}
-use lib.ListN.{length}
-use borrow.Author.Tests.{not-true, not-false}
 use Rattle.step.specs.Slot.{down_now}
 use Rattle.table.specs.Table.{entry_at}
-use Rattle.step.proofs.Moving.{moving_may}
-use Rattle.step.proofs.Telling.{telling_length, telling_room}
-use Rattle.step.proofs.Seen.{Watching, watching_none, watching_more, watching_other, watching_done}
-use borrow.Author.Rules.{rules}
+use Rattle.step.proofs.Seen.{Watching}
 use Rattle.step.proofs.go_all.Given as goal
 
 abbrev pub invariant-loop-k : goal.invariant-loop-k

@@ -1,11 +1,12 @@
 -- `step::move_one` meets its contract: what `act_one` does, and of it the next position. Assumes nothing.
 use mathlib.Core.Path.{◌≡◌, refl, sym, ◌∙◌, ap}
-use mathlib.Core.Logic.{⊎_elim}
 use native.Mathlib.Omega.{arith}
-use borrow.Author.Tests.{eqb-true, eqb-false, not-true, not-false}
+use mathlib.Core.Bool.{true, false, not, ◌&&◌}
+use lib.Dec.{eqb}
+use borrow.Author.Tests.{eqb-true, eqb-false, not-true}
 use borrow.Author.Rules.{rules}
 use Rattle.table.specs.Table.{entry_at}
-use Rattle.step.proofs.Acting.{home-does, home_tried, waits_acts, acts-first, acts-cut, acts-tries, moves_by}
+use Rattle.step.proofs.Acting.{home-does, home_tried, waits_acts, acts-idle, acts-tries, moves_by}
 use Rattle.step.proofs.move_one.Goals as goal
 
 pub returns-then-is_home : goal.returns-then-is_home
@@ -47,15 +48,16 @@ pub returns-then-not-met : goal.returns-then-not-met
 returns-then-not-met c =
     let g = c.meets-met.ensures in
     let a = c.args in
-    moves_by (acts-tries _ _ a.slot.0 a.tried.now a.m a.row.now a.p _ g _ _ _ _ c.if-here.true
-    (c.if-not-met.true)
+    let turned : c.meets-met.result.position.turned ≡ true = search rules in
+    moves_by (acts-tries _ _ a.slot.0 a.tried.now a.m a.row.now a.p _ g _ _ _ _ turned
+    (not-true _ c.if-not-met.true)
     c.entry-entry.ensures c.first_trier-first.ensures.0 c.note.ensures (c.acts-moved.ensures _ g.cut))
 
 pub returns : goal.returns
 returns c =
     let g = c.meets-met.ensures in
     let a = c.args in
-    let e = entry_at a.table.now a.slot.0 in
-    let does = c.acts-moved-2.ensures _ g.cut in
-    moves_by (⊎_elim (λ w. acts-cut _ e a.slot.0 a.tried.now a.m a.row.now a.p _ g _ _ _ _ (not-false _ w.2.left) does)
-    (λ w. acts-first _ e a.slot.0 a.tried.now a.m a.row.now a.p _ g _ _ _ _ w.left does) c.else-here.branch)
+    let met = c.meets-met.result in
+    let idle : (met.position.turned && not met.down) ≡ false = search rules in
+    moves_by (acts-idle _ (entry_at a.table.now a.slot.0) a.slot.0 a.tried.now a.m a.row.now a.p _ g 0 (not (eqb a.m a.m)) a.m _ idle
+    (c.acts-moved-2.ensures _ g.cut))

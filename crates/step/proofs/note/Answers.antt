@@ -2,7 +2,6 @@
 use Prim.Native.Nat.{◌+◌, ◌*◌}
 use native.Mathlib.Omega.{arith}
 use lib.ListN.{set, length-set}
-use borrow.Author.Rules.{rules}
 use Rattle.step.specs.Pass.{triers}
 use Rattle.step.proofs.Tried.{noted-is}
 use Rattle.step.proofs.note.Goals as goal

@@ -1,6 +1,5 @@
 -- `strips::count` meets its contract: a link that has no number is passed over. Assumes nothing.
 use native.Mathlib.Omega.{arith}
-use borrow.Author.Rules.{rules}
 use Rattle.strips.proofs.Puts.{more_one, more-past, one_small}
 use Rattle.strips.proofs.count.Goals as goal
 

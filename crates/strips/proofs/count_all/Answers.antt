@@ -1,7 +1,5 @@
 -- `strips::count_all` meets its contract: the messages below message m are counted. Assumes nothing.
-use Prim.Native.Nat.{◌-◌}
-use borrow.Author.Rules.{rules}
-use Rattle.strips.proofs.Paths.{CountingAll, counting_all_none, may-count, counting_all_more, counting_all_done}
+use Rattle.strips.proofs.Paths.{counting_all_none, may-count, counting_all_more, counting_all_done}
 use Rattle.strips.proofs.count_all.Goals as goal
 
 pub loop-m-init : goal.loop-m-init

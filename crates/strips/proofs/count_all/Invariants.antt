@@ -1,6 +1,5 @@
 use Prim.Native.Nat.{◌-◌}
-use borrow.Author.Rules.{rules}
-use Rattle.strips.proofs.Paths.{CountingAll, counting_all_none, may-count, counting_all_more, counting_all_done}
+use Rattle.strips.proofs.Paths.{CountingAll}
 use Rattle.strips.proofs.count_all.Given as goal
 
 abbrev pub invariant-loop-m : goal.invariant-loop-m

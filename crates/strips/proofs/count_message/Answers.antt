@@ -1,8 +1,6 @@
 -- `strips::count_message` meets its contract: whoever counts the places left has counted all. Assumes nothing.
-use Prim.Native.Nat.{◌-◌}
 use native.Mathlib.Omega.{arith}
-use borrow.Author.Rules.{rules}
-use Rattle.strips.proofs.Paths.{second-few, Counting, counting_none, counting_may, counting_more, counting_done}
+use Rattle.strips.proofs.Paths.{second-few, counting_none, counting_may, counting_more, counting_done}
 use Rattle.strips.proofs.count_message.Goals as goal
 
 pub loop-k-init : goal.loop-k-init

@@ -1,7 +1,5 @@
 use Prim.Native.Nat.{◌-◌}
-use native.Mathlib.Omega.{arith}
-use borrow.Author.Rules.{rules}
-use Rattle.strips.proofs.Paths.{second-few, Counting, counting_none, counting_may, counting_more, counting_done}
+use Rattle.strips.proofs.Paths.{Counting}
 use Rattle.strips.proofs.count_message.Given as goal
 
 abbrev pub invariant-loop-k : goal.invariant-loop-k

@@ -1,8 +1,6 @@
 -- `strips::delay` meets its contract: what is summed and what is left are the whole. Assumes nothing.
-use Prim.Native.Nat.{◌-◌}
 use native.Mathlib.Omega.{arith}
-use borrow.Author.Rules.{rules}
-use Rattle.strips.proofs.Costs.{Delaying, delaying_none, delaying_more, delaying_done}
+use Rattle.strips.proofs.Costs.{delaying_none, delaying_more, delaying_done}
 use Rattle.strips.proofs.delay.Goals as goal
 
 pub loop-k-init : goal.loop-k-init

@@ -1,7 +1,5 @@
 use Prim.Native.Nat.{◌-◌}
-use native.Mathlib.Omega.{arith}
-use borrow.Author.Rules.{rules}
-use Rattle.strips.proofs.Costs.{Delaying, delaying_none, delaying_more, delaying_done}
+use Rattle.strips.proofs.Costs.{Delaying}
 use Rattle.strips.proofs.delay.Given as goal
 
 abbrev pub invariant-loop-k : goal.invariant-loop-k

@@ -1,5 +1,4 @@
 -- `strips::fill` meets its contract: numbers and bytes that are 0 are counted, then the tables are filled. Assumes nothing.
-use borrow.Author.Rules.{rules}
 use Prim.Native.Nat.{ℕ}
 use lib.ListN.{length-replicate}
 use Rattle.scope.specs.Limits.{most_links, seconds_size}

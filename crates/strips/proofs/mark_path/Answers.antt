@@ -1,9 +1,7 @@
 -- `strips::mark_path` meets its contract: whoever marks the links left has marked all. Assumes nothing.
-use Prim.Native.Nat.{◌-◌}
 use native.Mathlib.Omega.{arith}
-use borrow.Author.Rules.{rules}
 use Rattle.strips.proofs.Puts.{put_one, put-past}
-use Rattle.strips.proofs.Paths.{Marking, marking_none, marking_more, marking_done}
+use Rattle.strips.proofs.Paths.{marking_none, marking_more, marking_done}
 use Rattle.strips.proofs.mark_path.Goals as goal
 
 pub loop-k-init : goal.loop-k-init

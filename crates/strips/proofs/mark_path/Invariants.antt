@@ -1,8 +1,5 @@
 use Prim.Native.Nat.{◌-◌}
-use native.Mathlib.Omega.{arith}
-use borrow.Author.Rules.{rules}
-use Rattle.strips.proofs.Puts.{put_one, put-past}
-use Rattle.strips.proofs.Paths.{Marking, marking_none, marking_more, marking_done}
+use Rattle.strips.proofs.Paths.{Marking}
 use Rattle.strips.proofs.mark_path.Given as goal
 
 abbrev pub invariant-loop-k : goal.invariant-loop-k

@@ -1,11 +1,9 @@
 -- `strips::pass` meets its contract: the links below link e have their numbers. Assumes nothing.
-use Prim.Native.Nat.{◌+◌, ◌-◌, ◌*◌}
+use Prim.Native.Nat.{◌+◌, ◌*◌}
 use native.Mathlib.Omega.{arith}
 use mathlib.Core.Path.{refl}
-use borrow.Author.Rules.{rules}
-use Rattle.scope.specs.Limits.{most_links, most_messages}
-use Rattle.bound.specs.Seconds.{second_in}
-use Rattle.strips.proofs.Puts.{Passing, passing_none, passing_small, passing_more, passing_done}
+use Rattle.scope.specs.Limits.{most_messages}
+use Rattle.strips.proofs.Puts.{passing_none, passing_small, passing_more, passing_done}
 use Rattle.strips.proofs.pass.Goals as goal
 
 pub loop-e-init : goal.loop-e-init
@@ -16,7 +14,7 @@ bounds-counts-e c = omega (arith, c.loop-e.invariant.long, c.loop-e-test.true)
 
 pub overflow_cast-counts : goal.overflow_cast-counts
 overflow_cast-counts c =
-    omega (arith, c.shared_slice_known-1.given (c.loop-e.e * most_messages + c.args.m))
+    omega (arith, c.type_inv.ways (c.loop-e.e * most_messages + c.args.m))
 
 pub overflow_add-counts-in-loop-e : goal.overflow_add-counts-in-loop-e
 overflow_add-counts-in-loop-e c =

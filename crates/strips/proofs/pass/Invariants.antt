@@ -1,10 +1,7 @@
-use Prim.Native.Nat.{◌+◌, ◌-◌, ◌*◌}
-use native.Mathlib.Omega.{arith}
-use mathlib.Core.Path.{refl}
-use borrow.Author.Rules.{rules}
-use Rattle.scope.specs.Limits.{most_links, most_messages}
+use Prim.Native.Nat.{◌-◌}
+use Rattle.scope.specs.Limits.{most_links}
 use Rattle.bound.specs.Seconds.{second_in}
-use Rattle.strips.proofs.Puts.{Passing, passing_none, passing_small, passing_more, passing_done}
+use Rattle.strips.proofs.Puts.{Passing}
 use Rattle.strips.proofs.pass.Given as goal
 
 abbrev pub invariant-loop-e : goal.invariant-loop-e

@@ -1,6 +1,5 @@
 -- `strips::robust` meets its contract: the tests of the code are those of the definition. Assumes nothing.
 use native.Mathlib.Omega.{arith}
-use borrow.Author.Rules.{rules}
 use mathlib.Core.Path.{sym}
 use Rattle.strips.proofs.Paths.{second-few}
 use Rattle.strips.proofs.Costs.{robust_none, robust_some}

@@ -1,7 +1,5 @@
 -- `strips::strip_all` meets its contract: the messages below message m are done. Assumes nothing.
-use Prim.Native.Nat.{◌-◌}
-use borrow.Author.Rules.{rules}
-use Rattle.strips.proofs.Strips.{StrippingAll, stripping_all_none, near, may-strip, may-pass, stripping_all_more, stripping_all_done}
+use Rattle.strips.proofs.Strips.{stripping_all_none, near, may-strip, may-pass, stripping_all_more, stripping_all_done}
 use Rattle.strips.proofs.strip_all.Goals as goal
 
 pub loop-m-init : goal.loop-m-init
@@ -11,23 +9,21 @@ loop-m-init c =
     c.message_index-at.ensures c.requires
 
 pub strip_message-at-requires : goal.strip_message-at-requires
-strip_message-at-requires c =
-    (
-      near _ _ c.requires.good c.requires.counted.bytes _ c.messages-n.ensures.is _ _ _ _ _ c.loop-m.invariant
-          c.loop-m-test.true,
-      may-strip _ _ c.requires.good c.requires.counted.bytes _
-          c.messages-n.ensures.is _ _ _ _ _ c.loop-m.invariant c.loop-m-test.true,
-    )
+strip_message-at-requires c = (
+  near _ _ c.requires.good c.requires.counted.bytes _ c.messages-n.ensures.is _ _ _ _ _ c.loop-m.invariant
+      c.loop-m-test.true,
+  may-strip _ _ c.requires.good c.requires.counted.bytes _
+      c.messages-n.ensures.is _ _ _ _ _ c.loop-m.invariant c.loop-m-test.true,
+)
 
 pub pass-requires : goal.pass-requires
-pass-requires c =
-    (
-      c.requires.counted.bytes.long,
-      (may-strip _ _ c.requires.good c.requires.counted.bytes _ c.messages-n.ensures.is _ _ _ _ _
-          c.loop-m.invariant c.loop-m-test.true).message,
-      may-pass _ _ c.requires.good c.requires.counted.bytes _ c.messages-n.ensures.is _ _ _ _ _ c.loop-m.invariant
-          c.loop-m-test.true,
-    )
+pass-requires c = (
+  c.requires.counted.bytes.long,
+  (may-strip _ _ c.requires.good c.requires.counted.bytes _ c.messages-n.ensures.is _ _ _ _ _
+      c.loop-m.invariant c.loop-m-test.true).message,
+  may-pass _ _ c.requires.good c.requires.counted.bytes _ c.messages-n.ensures.is _ _ _ _ _ c.loop-m.invariant
+      c.loop-m-test.true,
+)
 
 pub loop-m-preserved : goal.loop-m-preserved
 loop-m-preserved c =

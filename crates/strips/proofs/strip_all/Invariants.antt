@@ -1,6 +1,5 @@
 use Prim.Native.Nat.{◌-◌}
-use borrow.Author.Rules.{rules}
-use Rattle.strips.proofs.Strips.{StrippingAll, stripping_all_none, near, may-strip, may-pass, stripping_all_more, stripping_all_done}
+use Rattle.strips.proofs.Strips.{StrippingAll}
 use Rattle.strips.proofs.strip_all.Given as goal
 
 abbrev pub invariant-loop-m : goal.invariant-loop-m

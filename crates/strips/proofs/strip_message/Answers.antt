@@ -1,8 +1,6 @@
 -- `strips::strip_message` meets its contract: whoever strips of the places left has stripped of all. Assumes nothing.
-use Prim.Native.Nat.{◌-◌}
 use native.Mathlib.Omega.{arith}
-use borrow.Author.Rules.{rules}
-use Rattle.strips.proofs.Strips.{Stripping, stripping_none, stripping_may, stripping_more, stripping_done}
+use Rattle.strips.proofs.Strips.{stripping_none, stripping_may, stripping_more, stripping_done}
 use Rattle.strips.proofs.strip_message.Goals as goal
 
 pub loop-k-init : goal.loop-k-init

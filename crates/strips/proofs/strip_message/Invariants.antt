@@ -1,7 +1,5 @@
 use Prim.Native.Nat.{◌-◌}
-use native.Mathlib.Omega.{arith}
-use borrow.Author.Rules.{rules}
-use Rattle.strips.proofs.Strips.{Stripping, stripping_none, stripping_may, stripping_more, stripping_done}
+use Rattle.strips.proofs.Strips.{Stripping}
 use Rattle.strips.proofs.strip_message.Given as goal
 
 abbrev pub invariant-loop-k : goal.invariant-loop-k

@@ -1,6 +1,5 @@
 -- `strips::strip_place` meets its contract: a robust place marks its second path, a fragile one enters itself. Assumes nothing.
 use native.Mathlib.Omega.{arith}
-use borrow.Author.Rules.{rules}
 use mathlib.Core.Path.{refl}
 use Rattle.strips.proofs.Paths.{second-few}
 use Rattle.strips.proofs.Strips.{place_robust, place_fragile}

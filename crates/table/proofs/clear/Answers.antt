@@ -1,9 +1,5 @@
-use Prim.Native.Nat.{ℕ, ◌-◌, ◌<◌}
-use mathlib.Core.Path.{◌≡◌}
 use native.Mathlib.Omega.{arith}
-use borrow.Author.Rules.{rules}
-use lib.ListN.{length, get_or, length-set}
-use Rattle.scope.specs.Limits.{table_size}
+use lib.ListN.{length-set}
 use Rattle.table.proofs.Laws as law
 use Rattle.table.proofs.clear.Goals as goal
 

@@ -1,11 +1,8 @@
 -- `table::clear` meets its contract. The invariant: the bytes passed are 0. Assumes nothing.
 use Prim.Native.Nat.{ℕ, ◌-◌, ◌<◌}
 use mathlib.Core.Path.{◌≡◌}
-use native.Mathlib.Omega.{arith}
-use borrow.Author.Rules.{rules}
-use lib.ListN.{length, get_or, length-set}
+use lib.ListN.{length, get_or}
 use Rattle.scope.specs.Limits.{table_size}
-use Rattle.table.proofs.Laws as law
 use Rattle.table.proofs.clear.Given as goal
 
 abbrev pub invariant-loop-k : goal.invariant-loop-k

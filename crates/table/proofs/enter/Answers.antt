@@ -1,6 +1,4 @@
-use Prim.Native.Nat.{◌-◌}
 use native.Mathlib.Omega.{arith}
-use borrow.Author.Rules.{rules}
 use Rattle.table.proofs.Laws as law
 use Rattle.table.proofs.Laws.{Entering}
 use Rattle.table.proofs.enter.Goals as goal

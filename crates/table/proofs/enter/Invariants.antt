@@ -1,9 +1,6 @@
 -- `table::enter` meets its contract. The invariant `Entering`: the places left, put into the table as it is, make what is asked. Assumes
 -- nothing.
 use Prim.Native.Nat.{◌-◌}
-use native.Mathlib.Omega.{arith}
-use borrow.Author.Rules.{rules}
-use Rattle.table.proofs.Laws as law
 use Rattle.table.proofs.Laws.{Entering}
 use Rattle.table.proofs.enter.Given as goal
 

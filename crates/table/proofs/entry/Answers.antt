@@ -1,6 +1,5 @@
 -- `table::entry` meets its contract: one law of proofs/Entries for each way out. Assumes nothing.
 use mathlib.Core.Path.{sym}
-use borrow.Author.Rules.{rules}
 use Rattle.table.proofs.Entries.{no_slot, no_link_lem, entry_is, entry_end}
 use Rattle.table.proofs.entry.Goals as goal
 

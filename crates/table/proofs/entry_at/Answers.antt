@@ -1,7 +1,6 @@
 -- `table::entry_at` meets its contract: an index is that of its slot and link. Assumes nothing.
 use Prim.Native.Nat.{◌/◌, ◌%◌}
 use native.Mathlib.Omega.{arith}
-use borrow.Author.Rules.{rules}
 use Rattle.scope.specs.Limits.{most_links}
 use Rattle.table.proofs.Entries.{entry_is}
 use Rattle.table.proofs.entry_at.Goals as goal

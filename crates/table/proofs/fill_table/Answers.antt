@@ -1,9 +1,7 @@
-use Prim.Native.Nat.{◌-◌, ◌≤◌, ◌<◌}
+use Prim.Native.Nat.{◌<◌}
 use mathlib.Core.Path.{◌≡◌}
 use native.Mathlib.Omega.{arith}
-use borrow.Author.Rules.{rules}
 use Rattle.scope.specs.Plan.{message_count}
-use Rattle.table.specs.Table.{Below}
 use Rattle.table.proofs.Laws as law
 use Rattle.table.proofs.fill_table.Goals as goal
 

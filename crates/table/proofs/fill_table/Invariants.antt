@@ -1,11 +1,6 @@
 -- `table::fill_table` meets its contract. The invariant `Below`: the table holds the messages passed. Assumes nothing.
-use Prim.Native.Nat.{◌-◌, ◌≤◌, ◌<◌}
-use mathlib.Core.Path.{◌≡◌}
-use native.Mathlib.Omega.{arith}
-use borrow.Author.Rules.{rules}
-use Rattle.scope.specs.Plan.{message_count}
+use Prim.Native.Nat.{◌-◌, ◌≤◌}
 use Rattle.table.specs.Table.{Below}
-use Rattle.table.proofs.Laws as law
 use Rattle.table.proofs.fill_table.Given as goal
 
 abbrev pub invariant-loop-m : goal.invariant-loop-m

@@ -1,5 +1,4 @@
 -- `table::mark` meets its contract: one law for each way out. Assumes nothing.
-use borrow.Author.Rules.{rules}
 use Rattle.table.proofs.Laws as law
 use Rattle.table.proofs.mark.Goals as goal
 

@@ -1,5 +1,4 @@
 -- `text::goes_on` meets its contract: a test for each part of it, in the same order.
-use borrow.Author.Rules.{rules}
 use borrow.Author.Tests.{le-leb, lt-leb, lt-ltb, le-ltb}
 use Rattle.text.proofs.goes_on.Goals as goal
 

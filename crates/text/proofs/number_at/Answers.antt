@@ -1,12 +1,8 @@
 -- `text::number_at` meets its contract: the bytes that the loop has left go on with the number as those of the text do.
-use Prim.Native.Nat.{◌-◌}
 use mathlib.Core.Path.{sym, ◌∙◌}
 use native.Mathlib.Omega.{arith}
-use borrow.Author.Rules.{rules}
-use borrow.Author.Tests.{not-true, not-false}
-use lib.ListN.{length}
 use lib.Dec.{ltb}
-use Rattle.text.proofs.Going.{Going, going-first, going_more, going_stops, going-ends, goes_digit}
+use Rattle.text.proofs.Going.{going-first, going_more, going_stops, going-ends, goes_digit}
 use Rattle.text.proofs.number_at.Goals as goal
 
 pub loop-next-init : goal.loop-next-init

@@ -1,11 +1,6 @@
 use Prim.Native.Nat.{◌-◌}
-use mathlib.Core.Path.{sym, ◌∙◌}
-use native.Mathlib.Omega.{arith}
-use borrow.Author.Rules.{rules}
-use borrow.Author.Tests.{not-true, not-false}
 use lib.ListN.{length}
-use lib.Dec.{ltb}
-use Rattle.text.proofs.Going.{Going, going-first, going_more, going_stops, going-ends, goes_digit}
+use Rattle.text.proofs.Going.{Going}
 use Rattle.text.proofs.number_at.Given as goal
 
 abbrev pub invariant-loop-next : goal.invariant-loop-next

@@ -1,5 +1,4 @@
 -- `text::put_number` meets its contract: the byte comes after the number.
-use borrow.Author.Rules.{rules}
 use Rattle.text.proofs.Laid.{told-first, told-rest, then}
 use Rattle.text.proofs.put_number.Goals as goal
 

@@ -1,7 +1,7 @@
 -- `text::put_path` meets its contract: nothing, or two numbers with a space before each.
-use mathlib.Core.Path.{◌≡◌, sym, ◌∙◌}
-use borrow.Author.Rules.{rules}
-use borrow.Author.Tests.{not-true, not-false}
+use Rattle.std.proofs.Common.{◌≡◌, ℕ, Bool, true, sym, ◌∙◌}
+use Rattle.scope.specs.declared.Refusal.{Refusal}
+use Rattle.scope.specs.Outcome.{names_link}
 use Rattle.scope.specs.Lines.{path_text}
 use Rattle.text.specs.Text.{Told}
 use Rattle.text.proofs.Laid.{told-first, told-rest, then, puts_none}
@@ -9,14 +9,12 @@ use Rattle.text.proofs.Refused.{spaced_two, path_none, path_both}
 use Rattle.text.proofs.put_path.Goals as goal
 
 -- it has both, and they can be told
-both : (c : tie.Else1) → path_text c.before.before.before.args.refusal ≡
-    spaced_two c.before.before.before.args.refusal.at c.before.before.before.args.refusal.step
-both c =
-    path_both c.before.before.before.args.refusal (sym c.before.names-link.ensures ∙ not-false _ c.if1.false)
+both : (r : Refusal) {named : Bool} → named ≡ names_link r.no → named ≡ true → path_text r ≡ spaced_two r.at r.step
+both r is e = path_both r (sym is ∙ e)
 
-told : (c : tie.Else1) → Told c.before.before.before.args.at
-    (spaced_two c.before.before.before.args.refusal.at c.before.before.before.args.refusal.step)
-told c = rw (both c) at c.before.before.before.requires
+told : (r : Refusal) {named : Bool} {i : ℕ} → named ≡ names_link r.no → named ≡ true → Told i (path_text r) →
+    Told i (spaced_two r.at r.step)
+told r is e h = rw (both r is e) at h
 
 pub returns-then-not-names_link : goal.returns-then-not-names_link
 returns-then-not-names_link c =
@@ -24,23 +22,25 @@ returns-then-not-names_link c =
     (puts_none _ c.args.at)
 
 pub put_byte-place-requires : goal.put_byte-place-requires
-put_byte-place-requires c = told-first _ _ (told c.before)
+put_byte-place-requires c = told-first _ _ (told c.args.refusal c.names_link.ensures c.if-not-names_link.false c.requires)
 
 pub put_decimal-space-requires : goal.put_decimal-space-requires
 put_decimal-space-requires c =
-    told-first _ _ (told-rest c.put_byte-place.ensures _ (told s3.before.before))
+    let t = told c.args.refusal c.names_link.ensures c.if-not-names_link.false c.requires in
+    told-first _ _ (told-rest c.put_byte-place.ensures _ t)
 
 pub put_byte-step-requires : goal.put_byte-step-requires
 put_byte-step-requires c =
-    told-first _ _ (told-rest c.put_decimal-space.ensures _ (told-rest c.put_byte-place.ensures _ (told s7.before.before)))
+    let t = told c.args.refusal c.names_link.ensures c.if-not-names_link.false c.requires in
+    told-first _ _ (told-rest c.put_decimal-space.ensures _ (told-rest c.put_byte-place.ensures _ t))
 
 pub put_decimal-requires : goal.put_decimal-requires
 put_decimal-requires c =
-    told-rest c.put_byte-step.ensures _
-    (told-rest c.put_decimal-space.ensures _ (told-rest c.put_byte-place.ensures _ (told s11.before.before)))
+    let t = told c.args.refusal c.names_link.ensures c.if-not-names_link.false c.requires in
+    told-rest c.put_byte-step.ensures _ (told-rest c.put_decimal-space.ensures _ (told-rest c.put_byte-place.ensures _ t))
 
 pub returns : goal.returns
 returns c =
-    rw (both s14.before.before)
+    rw (both c.args.refusal c.names_link.ensures c.if-not-names_link.false)
     (then c.put_byte-place.ensures
     (then c.put_decimal-space.ensures (then c.put_byte-step.ensures c.put_decimal.ensures)))

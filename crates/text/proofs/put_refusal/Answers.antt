@@ -1,6 +1,5 @@
 -- `text::put_refusal` meets its contract: two words with a number after each, and the place and the step.
 use mathlib.Core.List.{[], ◌∷◌}
-use borrow.Author.Rules.{rules}
 use Rattle.text.proofs.Laid.{told-first, told-rest, then}
 use Rattle.text.proofs.put_refusal.Goals as goal
 

@@ -1,8 +1,6 @@
 -- `text::put_word` meets its contract: what the loop has left of the word is still to be laid from `next` on.
-use Prim.Native.Nat.{◌≤◌, ◌-◌}
 use borrow.Author.Rules.{rules}
-use lib.ListN.{length, drop}
-use Rattle.text.proofs.Laid.{Left, left-first, left_is, left-told, left-more, left-done, left-same, word_more, word_done}
+use Rattle.text.proofs.Laid.{left-first, left_is, left-told, left-more, left-done, left-same, word_more, word_done}
 use Rattle.text.proofs.put_word.Goals as goal
 
 pub loop-i-init : goal.loop-i-init

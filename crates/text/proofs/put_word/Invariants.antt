@@ -1,7 +1,6 @@
 use Prim.Native.Nat.{◌≤◌, ◌-◌}
-use borrow.Author.Rules.{rules}
 use lib.ListN.{length, drop}
-use Rattle.text.proofs.Laid.{Left, left-first, left_is, left-told, left-more, left-done, left-same, word_more, word_done}
+use Rattle.text.proofs.Laid.{Left}
 use Rattle.text.proofs.put_word.Given as goal
 
 abbrev pub invariant-loop-i : goal.invariant-loop-i

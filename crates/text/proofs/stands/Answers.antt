@@ -1,18 +1,11 @@
 -- `text::stands` meets its contract: what is left to compare decides the whole.
-use Prim.Native.Nat.{◌+◌, ◌-◌, ◌≤◌}
-use mathlib.Core.Path.{◌≡◌, sym, ◌∙◌}
+use mathlib.Core.Path.{sym, ◌∙◌}
 use borrow.Author.Rules.{rules}
-use native.Mathlib.Omega.{arith}
-use lib.ListN.{length, drop}
-use Rattle.text.specs.Reading.{stands}
 use Rattle.text.proofs.Word.{stands-first, stands-not, stands-next, stands-done}
 use Rattle.text.proofs.stands.Goals as goal
 
 pub loop-j-init : goal.loop-j-init
 loop-j-init c = (search rules, stands-first _ _ _)
-
-pub overflow_cast-word : goal.overflow_cast-word
-overflow_cast-word c = omega (arith, c.shared_slice_known-in-loop-j-1.given c.loop-j.j)
 
 pub returns-then-byte-word : goal.returns-then-byte-word
 returns-then-byte-word c =

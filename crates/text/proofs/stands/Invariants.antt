@@ -1,10 +1,7 @@
 use Prim.Native.Nat.{◌+◌, ◌-◌, ◌≤◌}
-use mathlib.Core.Path.{◌≡◌, sym, ◌∙◌}
-use borrow.Author.Rules.{rules}
-use native.Mathlib.Omega.{arith}
+use mathlib.Core.Path.{◌≡◌}
 use lib.ListN.{length, drop}
 use Rattle.text.specs.Reading.{stands}
-use Rattle.text.proofs.Word.{stands-first, stands-not, stands-next, stands-done}
 use Rattle.text.proofs.stands.Given as goal
 
 abbrev pub invariant-loop-j : goal.invariant-loop-j

@@ -1,5 +1,4 @@
 -- `verdict_lines::distance` meets its contract: at or above zero the number itself, below it 0 less the number in 64 bits.
-use borrow.Author.Rules.{rules}
 use Rattle.verdict_lines.proofs.Signs.{up, down, cast_up, cast_wide, fits-away, cast_away, is-away}
 use Rattle.verdict_lines.proofs.distance.Goals as goal
 

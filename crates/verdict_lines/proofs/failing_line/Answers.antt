@@ -1,5 +1,4 @@
 -- `verdict_lines::failing_line` meets its contract: k and a space, l, the numbers and a line feed.
-use borrow.Author.Rules.{rules}
 use Rattle.text.proofs.Laid.{told-first, told-rest, then}
 use Rattle.verdict_lines.proofs.Marks.{first-told, rest-told, mark-then}
 use Rattle.verdict_lines.proofs.failing_line.Goals as goal

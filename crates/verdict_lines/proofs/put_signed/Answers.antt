@@ -1,5 +1,4 @@
 -- `verdict_lines::put_signed` meets its contract: the digits of the distance, after a minus sign below zero.
-use borrow.Author.Rules.{rules}
 use Rattle.text.proofs.Laid.{told-first, told-rest, then}
 use Rattle.verdict_lines.proofs.Signs.{prints_up, prints-down}
 use Rattle.verdict_lines.proofs.put_signed.Goals as goal

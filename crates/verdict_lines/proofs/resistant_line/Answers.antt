@@ -1,5 +1,4 @@
 -- `verdict_lines::resistant_line` meets its contract: k and a space, l, and the word.
-use borrow.Author.Rules.{rules}
 use Rattle.text.proofs.Laid.{told-first, told-rest, then}
 use Rattle.verdict_lines.proofs.Marks.{first-told, rest-told, mark-then}
 use Rattle.verdict_lines.proofs.resistant_line.Goals as goal

@@ -1,6 +1,5 @@
 -- `verdict_lines::slack_line` meets its contract: the word, two numbers with a space after each, the slack and a line feed.
 use mathlib.Core.List.{[], ◌∷◌}
-use borrow.Author.Rules.{rules}
 use Rattle.text.proofs.Laid.{told-rest, then}
 use Rattle.verdict_lines.proofs.Marks.{first-told, rest-told, mark-then}
 use Rattle.verdict_lines.proofs.Signs.{signed-told, signed-puts}

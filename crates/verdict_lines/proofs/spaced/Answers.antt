@@ -1,10 +1,6 @@
 -- `verdict_lines::spaced` meets its contract: what the loop has left are the numbers from i on.
-use Prim.Native.Nat.{◌≤◌, ◌-◌}
 use borrow.Author.Rules.{rules}
-use native.Mathlib.Omega.{arith}
-use lib.ListN.{length, drop}
-use Rattle.scope.specs.Lines.{spaced}
-use Rattle.text.proofs.Laid.{Left, left-first, left_is, left-told, left-more, left-done, left-same}
+use Rattle.text.proofs.Laid.{left-first, left_is, left-told, left-more, left-done}
 use Rattle.verdict_lines.proofs.Marks.{spaced-more, spaced-done}
 use Rattle.verdict_lines.proofs.spaced.Goals as goal
 
@@ -15,25 +11,18 @@ pub put_byte-a-requires : goal.put_byte-a-requires
 put_byte-a-requires c = left-told _ _ c.requires
     (left_is (spaced-more _ _ c.loop-i-test.true) c.loop-i.invariant.1)
 
-pub overflow_cast-cuts : goal.overflow_cast-cuts
-overflow_cast-cuts c = omega (arith, c.shared_slice_known-in-loop-i-1.given c.loop-i.i)
-
 pub put_decimal-next-requires : goal.put_decimal-next-requires
 put_decimal-next-requires c =
     left-told _ _ c.requires (left-more (left_is (spaced-more _ _ c.loop-i-test.true)
     c.loop-i.invariant.1) c.put_byte-a.ensures)
 
 pub loop-i-preserved : goal.loop-i-preserved
-loop-i-preserved c =
-    (
-      search rules,
-      left-more (left-more (left_is (spaced-more _ _ c.loop-i-test.true)
-          c.loop-i.invariant.1) c.put_byte-a.ensures)
-          c.put_decimal-next.ensures,
-    )
-
-pub shape_of-out : goal.shape_of-out
-shape_of-out c = left-same c.loop-i.invariant.1
+loop-i-preserved c = (
+  search rules,
+  left-more (left-more (left_is (spaced-more _ _ c.loop-i-test.true)
+      c.loop-i.invariant.1) c.put_byte-a.ensures)
+      c.put_decimal-next.ensures,
+)
 
 pub returns : goal.returns
 returns c = left-done (left_is (spaced-done _ _ c.loop-i-test.false) c.loop-i.invariant.1)

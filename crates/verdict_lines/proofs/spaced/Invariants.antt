@@ -1,10 +1,7 @@
 use Prim.Native.Nat.{◌≤◌, ◌-◌}
-use borrow.Author.Rules.{rules}
-use native.Mathlib.Omega.{arith}
 use lib.ListN.{length, drop}
 use Rattle.scope.specs.Lines.{spaced}
-use Rattle.text.proofs.Laid.{Left, left-first, left_is, left-told, left-more, left-done, left-same}
-use Rattle.verdict_lines.proofs.Marks.{spaced-more, spaced-done}
+use Rattle.text.proofs.Laid.{Left}
 use Rattle.verdict_lines.proofs.spaced.Given as goal
 
 abbrev pub invariant-loop-i : goal.invariant-loop-i

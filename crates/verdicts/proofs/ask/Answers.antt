@@ -1,6 +1,5 @@
 -- `verdicts::ask` meets its contract: every list leaves 0 arrivals, and the search is asked for every other l.
 use Rattle.verdicts.proofs.Asking.{asks_nought, asks}
-use borrow.Author.Rules.{rules}
 use Rattle.verdicts.proofs.ask.Goals as goal
 
 pub returns-then-l-eq0 : goal.returns-then-l-eq0

@@ -4,24 +4,6 @@ use mathlib.Core.Path.{refl, sym, ◌∙◌}
 use borrow.Author.Rules.{rules}
 use Rattle.verdicts.proofs.lend.Goals as goal
 
--- the places before the slots are known, and that place before the weights are
-abbrev start : tie.After-timeout → tie.Start
-start t =
-    t.before.before.before.before.before.before.before.before.before.before.before.before.before.before.before.before.before
-
-abbrev found : tie.After-timeout → tie.After-other-ways
-found t = t.before.before.before.before.before.before.before.before.before.before
-
-abbrev entered : tie.After-timeout → tie.After-fill-table
-entered t = t.before.before.before.before.before.before.before.before
-
-abbrev filled : tie.After-timeout → tie.After-fill
-filled t = t.before.before.before
-
-abbrev timed : tie.After-weigh-all → tie.After-timeout
-timed w =
-    w.before.before.before.before.before.before.before.before.before.before.before.before.before.before.before.before.before
-
 pub other_ways-others-requires : goal.other_ways-others-requires
 other_ways-others-requires c = lies _ c.requires.good
 
@@ -35,40 +17,37 @@ fill-requires c =
 
 pub touch_sets-requires : goal.touch_sets-requires
 touch_sets-requires c =
-    may-touch _ (start t).requires.good _ c.timeout-slots.ensures.is _ (entered t).fill-table.ensures _ (start t).requires.touches
+    may-touch _ c.requires.good _ c.timeout-slots.ensures.is _ c.fill_table.ensures _ c.requires.touches
 
 pub strip_sets-requires : goal.strip_sets-requires
 strip_sets-requires c =
-    may-strip _ (start t).requires.good _ c.timeout-slots.ensures.is _ (entered t).fill-table.ensures _ _ (filled t).fill.ensures _
-    (start t).requires.strips
+    may-strip _ c.requires.good _ c.timeout-slots.ensures.is _ c.fill_table.ensures _ _ c.fill.ensures _
+    c.requires.strips
 
 pub weigh_all-requires : goal.weigh_all-requires
 weigh_all-requires c =
-    may-weigh _ (start t).requires.good _ c.timeout-slots.ensures.is _ (entered t).fill-table.ensures _ _ (filled t).fill.ensures _ _
-    (found t).other-ways.ensures (start t).requires.heavy
+    may-weigh _ c.requires.good _ c.timeout-slots.ensures.is _ c.fill_table.ensures _ _ c.fill.ensures _ _
+    c.other_ways-others.ensures c.requires.heavy
 
 pub tops_all-requires : goal.tops_all-requires
 tops_all-requires c =
-    let t = timed w in
     record {
       heavy = c.weigh_all.ensures.long;
-      few = few_slots _ (start t).pre.good _ t.timeout.ensures.is;
-      long = (start t).pre.tops;
+      few = few_slots _ c.requires.good _ c.timeout-slots.ensures.is;
+      long = c.requires.tops;
     }
 
 pub start_all-standing-requires : goal.start_all-standing-requires
 start_all-standing-requires c =
-    may-start _ (start (timed w)).requires.good _ c.messages-messages.ensures.is
+    may-start _ c.requires.good _ c.messages-messages.ensures.is
 
 pub shape_of-table : goal.shape_of-table
-shape_of-table c =
-    (entered (timed w)).fill-table.ensures.long ∙ sym (start (timed w)).requires.entries
+shape_of-table c = c.fill_table.ensures.long ∙ sym c.requires.entries
 
 pub returns : goal.returns
 returns c =
-    let t = timed w in
-    lends _ (start t).pre.good _ t.timeout.ensures.is _ _ _ _ _ _ _ _ (entered t).fill-table.ensures (filled t).fill.ensures
-    (found t).other-ways.ensures
+    lends _ c.requires.good _ c.timeout-slots.ensures.is _ _ _ _ _ _ _ _ c.fill_table.ensures c.fill.ensures
+    c.other_ways-others.ensures
     c.touch_sets.ensures
     c.strip_sets.ensures c.weigh_all.ensures
     c.tops_all.ensures _ _ _ c.links.ensures.is c.messages-messages.ensures.is

@@ -1,7 +1,6 @@
 -- `verdicts::verdict` meets its contract: refusals 1 to 10 and 14 to 19, or what `verdict_good` answers.
 use Rattle.plan.proofs.Ways.{gave, refused_as, good-row}
 use Rattle.verdicts.proofs.Ways.{bad-row}
-use borrow.Author.Rules.{rules}
 use Rattle.verdicts.proofs.verdict.Goals as goal
 
 pub verdict_good-requires : goal.verdict_good-requires

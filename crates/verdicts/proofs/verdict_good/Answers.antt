@@ -2,7 +2,6 @@
 use mathlib.Core.Path.{sym}
 use native.Mathlib.Omega.{arith}
 use Rattle.verdicts.proofs.Ways.{k_too_large, l_too_large, may-ask, too_short, resists, front, fails}
-use borrow.Author.Rules.{rules}
 use Rattle.verdicts.proofs.verdict_good.Goals as goal
 
 pub returns-then-k-gt-CUTS : goal.returns-then-k-gt-CUTS

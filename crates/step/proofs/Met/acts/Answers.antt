@@ -1,5 +1,4 @@
 -- `Met::acts` meets its contract: it is on its first path, or on its second. Assumes nothing.
-use borrow.Author.Rules.{rules}
 use Rattle.step.proofs.Turns.{met_first, met_second}
 use Rattle.step.proofs.Met.acts.Goals as goal
 

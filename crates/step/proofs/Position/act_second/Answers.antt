@@ -1,6 +1,5 @@
 -- `Position::act_second` meets its contract: one law of proofs/Steps for each kind. Assumes nothing.
 use native.Mathlib.Omega.{arith}
-use borrow.Author.Rules.{rules}
 use Rattle.step.proofs.Steps as law
 use Rattle.step.proofs.Position.act_second.Goals as goal
 

@@ -1,6 +1,5 @@
 -- `Position::meets` meets its contract: one law of proofs/Turns for each way. Assumes nothing.
 use native.Mathlib.Omega.{arith}
-use borrow.Author.Rules.{rules}
 use Rattle.cuts.specs.Down.{is_down}
 use Rattle.step.proofs.Turns as law
 use Rattle.step.proofs.Position.meets.Goals as goal

@@ -1,6 +1,5 @@
 -- `Position::past_place` meets its contract: what is left ends where it ended. Assumes nothing.
 use native.Mathlib.Omega.{arith}
-use borrow.Author.Rules.{rules}
 use Rattle.step.proofs.Steps as law
 use Rattle.step.proofs.Position.past_place.Goals as goal
 

@@ -1,7 +1,6 @@
 -- `Position::waits` meets its contract: the three tests, one after another. Assumes nothing.
 use mathlib.Core.Path.{refl, sym, ◌∙◌, ap}
 use mathlib.Core.Bool.{not}
-use borrow.Author.Rules.{rules}
 use borrow.Author.Tests.{eq-eqb, ne_eqb}
 use Rattle.scope.specs.Plan.{slot_at}
 use Rattle.cuts.specs.Down.{is_down}

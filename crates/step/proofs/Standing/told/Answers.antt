@@ -1,6 +1,5 @@
 -- `step::Standing::told` meets its contract: nothing was seen of the messages, so all go.
 use mathlib.Core.Path.{refl}
-use borrow.Author.Rules.{rules}
 use Rattle.step.proofs.Seen.{goes_unseen}
 use Rattle.step.proofs.Standing.told.Goals as goal
 

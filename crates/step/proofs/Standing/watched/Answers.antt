@@ -1,7 +1,6 @@
 -- `step::Standing::watched` meets its contract: a message does something else, and all stay; or all go.
 use mathlib.Core.Path.{refl}
 use native.Mathlib.Omega.{arith}
-use borrow.Author.Rules.{rules}
 use Rattle.step.proofs.Seen.{goes_on}
 use Rattle.step.proofs.Standing.watched.Goals as goal
 
