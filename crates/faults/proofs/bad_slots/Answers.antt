@@ -3,7 +3,6 @@ use mathlib.Core.Bool.{not}
 use native.Mathlib.Omega.{arith}
 use Rattle.rows.proofs.Parts.{timeout-is}
 use Rattle.faults.proofs.Laws as law
-use Rattle.faults.proofs.Laws.{Passing}
 use Rattle.faults.proofs.bad_slots.Goals as goal
 
 pub loop-k-init : goal.loop-k-init

@@ -1,7 +1,6 @@
 use mathlib.Core.Path.{◌∙◌, sym}
 use native.Mathlib.Omega.{arith}
 use Rattle.faults.proofs.Laws as law
-use Rattle.faults.proofs.Laws.{Passing}
 use Rattle.faults.proofs.held_below.Goals as goal
 
 pub loop-k-init : goal.loop-k-init

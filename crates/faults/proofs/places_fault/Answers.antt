@@ -4,9 +4,7 @@ use native.Mathlib.Omega.{arith}
 use Rattle.scope.specs.Plan.{plan_of, message_at, place_count}
 use Rattle.rows.specs.Lies.{PlaceLies}
 use Rattle.faults.proofs.Laws as law
-use Rattle.faults.proofs.Laws.{Passing}
 use Rattle.faults.proofs.Seconds as rule
-use Rattle.faults.proofs.Seconds.{Placing}
 use Rattle.faults.proofs.places_fault.Goals as goal
 
 pub loop-k-init : goal.loop-k-init

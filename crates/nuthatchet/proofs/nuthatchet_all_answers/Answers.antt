@@ -1,5 +1,4 @@
 -- `nuthatchet::nuthatchet_all_answers` meets its contract: the answer of `all_verdicts::all_answers`, told. Assumes nothing.
-use borrow.Author.Rules.{rules}
 use Rattle.nuthatchet.proofs.Ways.{says_all}
 use Rattle.nuthatchet.proofs.nuthatchet_all_answers.Goals as goal
 

@@ -1,5 +1,4 @@
 -- `nuthatchet::nuthatchet_explain` meets its contract: the explanation of `explanations::explain`, told. Assumes nothing.
-use borrow.Author.Rules.{rules}
 use Rattle.nuthatchet.proofs.Explanations.{few, tells-explanation}
 use Rattle.nuthatchet.proofs.nuthatchet_explain.Goals as goal
 

@@ -1,5 +1,4 @@
 -- `nuthatchet::nuthatchet_figure` meets its contract: the answer of `figures::figure`, told. Assumes nothing.
-use borrow.Author.Rules.{rules}
 use Rattle.nuthatchet.proofs.Ways.{told}
 use Rattle.nuthatchet.proofs.nuthatchet_figure.Goals as goal
 

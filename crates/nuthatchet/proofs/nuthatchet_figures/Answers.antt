@@ -1,5 +1,4 @@
 -- `nuthatchet::nuthatchet_figures` meets its contract: the answer of `figures::figures`, told. Assumes nothing.
-use borrow.Author.Rules.{rules}
 use Rattle.nuthatchet.proofs.Ways.{tells}
 use Rattle.nuthatchet.proofs.nuthatchet_figures.Goals as goal
 

@@ -1,5 +1,4 @@
 -- `nuthatchet::nuthatchet_judge` meets its contract: the answer of `plan::judge`, told. Assumes nothing.
-use borrow.Author.Rules.{rules}
 use Rattle.nuthatchet.proofs.Ways.{told}
 use Rattle.nuthatchet.proofs.nuthatchet_judge.Goals as goal
 

@@ -1,5 +1,4 @@
 -- `nuthatchet::nuthatchet_pack_text` meets its contract: the answer of `row_text::pack_text`, told. Assumes nothing.
-use borrow.Author.Rules.{rules}
 use Rattle.nuthatchet.proofs.Ways.{tells}
 use Rattle.nuthatchet.proofs.nuthatchet_pack_text.Goals as goal
 

@@ -1,5 +1,4 @@
 -- `nuthatchet::nuthatchet_read_file` meets its contract: the answer of `plan::read_file`, told. Assumes nothing.
-use borrow.Author.Rules.{rules}
 use Rattle.nuthatchet.proofs.Ways.{tells}
 use Rattle.nuthatchet.proofs.nuthatchet_read_file.Goals as goal
 

@@ -1,6 +1,5 @@
 -- `nuthatchet::nuthatchet_refusal_text` meets its contract: the answer of `listing::refusal_text`, told.
 use mathlib.Core.Path.{ap}
-use borrow.Author.Rules.{rules}
 use Rattle.scope.specs.Lines.{refused_line}
 use Rattle.listing.proofs.Printing.{prints_as}
 use Rattle.nuthatchet.proofs.Ways.{prints}

@@ -1,5 +1,4 @@
 -- `nuthatchet::nuthatchet_replay` meets its contract: the answer of `cut_replay::replay`, told. Assumes nothing.
-use borrow.Author.Rules.{rules}
 use Rattle.nuthatchet.proofs.Ways.{tells}
 use Rattle.nuthatchet.proofs.nuthatchet_replay.Goals as goal
 

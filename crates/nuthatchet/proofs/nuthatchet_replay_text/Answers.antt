@@ -1,5 +1,4 @@
 -- `nuthatchet::nuthatchet_replay_text` meets its contract: the answer of `replay_text::replay_text`, told. Assumes nothing.
-use borrow.Author.Rules.{rules}
 use Rattle.nuthatchet.proofs.Ways.{prints}
 use Rattle.nuthatchet.proofs.nuthatchet_replay_text.Goals as goal
 

@@ -1,5 +1,4 @@
 -- `nuthatchet::nuthatchet_row_text` meets its contract: the answer of `row_text::row_text`, told. Assumes nothing.
-use borrow.Author.Rules.{rules}
 use Rattle.nuthatchet.proofs.Ways.{prints}
 use Rattle.nuthatchet.proofs.nuthatchet_row_text.Goals as goal
 

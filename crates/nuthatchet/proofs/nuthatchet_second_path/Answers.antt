@@ -1,6 +1,5 @@
 -- `nuthatchet::nuthatchet_second_path` meets its contract: a part with links stands where its place is, and such a message and place are
 -- few. Assumes nothing.
-use borrow.Author.Rules.{rules}
 use Rattle.nuthatchet.proofs.Parts.{part_none, part-some, few}
 use native.Mathlib.Omega.{arith}
 use mathlib.Core.Path.{ap}

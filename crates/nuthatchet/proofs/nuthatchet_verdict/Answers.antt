@@ -1,5 +1,4 @@
 -- `nuthatchet::nuthatchet_verdict` meets its contract: the ruling of `verdicts::verdict`, told, and a failing list has a pair. Assumes nothing.
-use borrow.Author.Rules.{rules}
 use Rattle.nuthatchet.proofs.Rulings.{tells-ruling}
 use Rattle.nuthatchet.proofs.nuthatchet_verdict.Goals as goal
 

@@ -1,6 +1,5 @@
 -- `nuthatchet::tell_ruling` meets its contract: the result of each case, and the numbers of the refusal. Assumes nothing.
 use mathlib.Core.Path.{refl}
-use borrow.Author.Rules.{rules}
 use Rattle.nuthatchet.proofs.Ways.{allows}
 use Rattle.nuthatchet.proofs.tell_ruling.Goals as goal
 

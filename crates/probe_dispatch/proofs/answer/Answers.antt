@@ -1,5 +1,4 @@
 -- `probe_dispatch::answer` meets its contract: the numbers are those of the line, and the question is the one that it is.
-use borrow.Author.Rules.{rules}
 use native.Mathlib.Omega.{arith}
 use mathlib.Core.Path.{sym, ◌∙◌, ap}
 use lib.ListN.{length}

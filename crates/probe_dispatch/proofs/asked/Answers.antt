@@ -1,5 +1,4 @@
 -- `probe_dispatch::asked` meets its contract: one line for each question.
-use borrow.Author.Rules.{rules}
 use mathlib.Core.Path.{refl}
 use lib.ListN.{length}
 use Rattle.probe_dispatch.proofs.Laws.{says_is}

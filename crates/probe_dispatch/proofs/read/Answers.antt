@@ -1,5 +1,4 @@
 -- `probe_dispatch::read` meets its contract: a number and bytes stand there, or it is no question.
-use borrow.Author.Rules.{rules}
 use native.Mathlib.Omega.{arith}
 use mathlib.Core.Path.{sym}
 use lib.ListN.{length}

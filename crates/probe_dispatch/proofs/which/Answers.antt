@@ -1,5 +1,4 @@
 -- `probe_dispatch::which` meets its contract: the words before the one that stands there do not.
-use borrow.Author.Rules.{rules}
 use mathlib.Core.Path.{◌≡◌, ◌∙◌}
 use Prim.Native.Nat.{ℕ}
 use mathlib.Core.List.{List}

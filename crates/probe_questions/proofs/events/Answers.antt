@@ -3,7 +3,6 @@ use native.Mathlib.Nat.{mul-le-mul, mul-le-mul_left}
 use native.Mathlib.Omega.{arith}
 use Prim.Native.Nat.{ℕ, ◌*◌}
 use mathlib.Core.Path.{ap₂}
-use borrow.Author.Rules.{rules}
 use Rattle.probe_questions.proofs.events.Goals as goal
 
 pub overflow_mul-result-2 : goal.overflow_mul-result-2

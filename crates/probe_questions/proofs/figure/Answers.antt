@@ -1,5 +1,4 @@
 -- `probe_questions::figure` meets its contract: the line is told of the figure, with nothing lent.
-use borrow.Author.Rules.{rules}
 use mathlib.Core.Path.{refl, ◌∙◌, ap, ap₂}
 use mathlib.Core.List.{[]}
 use Rattle.scope.specs.Outcome.{Outcome}

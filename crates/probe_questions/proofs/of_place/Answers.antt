@@ -1,5 +1,4 @@
 -- `probe_questions::of_place` meets its contract: one line for each thing that is asked.
-use borrow.Author.Rules.{rules}
 use mathlib.Core.Path.{refl}
 use Rattle.probe_questions.proofs.Lines.{puts_as, placed}
 use Rattle.probe_questions.proofs.Lent.{too_few, behind}

@@ -1,5 +1,4 @@
 -- `probe_questions::second_row` meets its contract: the part is the second path.
-use borrow.Author.Rules.{rules}
 use Rattle.probe_questions.proofs.Lines.{puts_as, part-long, part-short}
 use Rattle.probe_questions.proofs.second_row.Goals as goal
 

@@ -1,5 +1,4 @@
 -- `probe_questions::slack_row` meets its contract: one line for each case of the answer.
-use borrow.Author.Rules.{rules}
 use Rattle.probe_questions.proofs.Lines.{puts_as, slots_line, no_slots_line}
 use Rattle.probe_questions.proofs.slack_row.Goals as goal
 

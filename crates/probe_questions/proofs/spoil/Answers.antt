@@ -1,5 +1,4 @@
 -- `probe_questions::spoil` meets its contract: a row, bytes, or no question.
-use borrow.Author.Rules.{rules}
 use lib.ListN.{length}
 use Rattle.probe_questions.proofs.Lines.{puts_as, spoil_none, spoil_numbers, spoil_others}
 use Rattle.probe_questions.proofs.spoil.Goals as goal

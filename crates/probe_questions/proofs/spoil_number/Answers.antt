@@ -1,5 +1,4 @@
 -- `probe_questions::spoil_number` meets its contract: the number is changed where there is one.
-use borrow.Author.Rules.{rules}
 use Prim.Native.Nat.{ℕ}
 use mathlib.Core.Path.{sym, ◌∙◌, ap}
 use mathlib.Core.List.{List}

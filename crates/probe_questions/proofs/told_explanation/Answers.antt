@@ -1,5 +1,4 @@
 -- `probe_questions::told_explanation` meets its contract: one line for each case of the explanation.
-use borrow.Author.Rules.{rules}
 use native.Mathlib.Omega.{arith}
 use Rattle.probe_questions.proofs.Lines.{puts_as, explanation_as}
 use Rattle.probe_questions.proofs.told_explanation.Goals as goal

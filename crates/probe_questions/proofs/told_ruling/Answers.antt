@@ -1,5 +1,4 @@
 -- `probe_questions::told_ruling` meets its contract: one line for each case of the ruling.
-use borrow.Author.Rules.{rules}
 use native.Mathlib.Omega.{arith}
 use Rattle.probe_questions.proofs.Lines.{puts_as, ruling_as}
 use Rattle.probe_questions.proofs.told_ruling.Goals as goal

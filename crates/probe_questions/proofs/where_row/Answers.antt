@@ -1,5 +1,4 @@
 -- `probe_questions::where_row` meets its contract: the index and the part are those of the second path.
-use borrow.Author.Rules.{rules}
 use Rattle.probe_questions.proofs.Lines.{puts_as, place_as}
 use Rattle.probe_questions.proofs.where_row.Goals as goal
 

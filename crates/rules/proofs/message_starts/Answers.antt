@@ -1,7 +1,6 @@
 use mathlib.Core.Path.{refl}
 use native.Mathlib.Omega.{arith}
 use Rattle.rules.proofs.Laws as law
-use Rattle.rules.proofs.Laws.{Noting}
 use Rattle.rules.proofs.message_starts.Goals as goal
 
 pub loop-m-init : goal.loop-m-init

@@ -1,7 +1,6 @@
 use native.Mathlib.Omega.{arith}
 use Rattle.scope.specs.Plan.{plan_of}
 use Rattle.rules.proofs.Laws as law
-use Rattle.rules.proofs.Laws.{Rounds}
 use Rattle.rules.proofs.rounds.Goals as goal
 
 pub loop-n-init : goal.loop-n-init

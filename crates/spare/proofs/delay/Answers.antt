@@ -1,7 +1,6 @@
 use Prim.Native.Nat.{◌+◌}
 use native.Mathlib.Omega.{arith}
 use Rattle.spare.proofs.Loops as law
-use Rattle.spare.proofs.Loops.{delay_at}
 use Rattle.spare.proofs.delay.Goals as goal
 
 pub loop-k-init : goal.loop-k-init

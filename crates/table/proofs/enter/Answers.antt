@@ -1,6 +1,5 @@
 use native.Mathlib.Omega.{arith}
 use Rattle.table.proofs.Laws as law
-use Rattle.table.proofs.Laws.{Entering}
 use Rattle.table.proofs.enter.Goals as goal
 
 pub loop-k-init : goal.loop-k-init
