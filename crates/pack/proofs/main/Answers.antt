@@ -13,3 +13,7 @@ packed-answer-requires c =
 pub slice_bounds-plan-end : goal.slice_bounds-plan-end
 slice_bounds-plan-end c = packs_within _ _ _ _ _ c.packed-answer.ensures _
     c.in-Gives.is
+
+pub slice_bounds-save-end-in-Gives : goal.slice_bounds-save-end-in-Gives
+slice_bounds-save-end-in-Gives c =
+    sym (length-take-le _ _ (packs_within _ _ _ _ _ c.packed-answer.ensures _ c.in-Gives.is))

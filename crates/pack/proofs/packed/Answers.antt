@@ -1,5 +1,4 @@
 -- `pack::packed` meets its contract: what came packs to what the whole text does.
-use borrow.Author.Rules.{rules}
 use Rattle.program_io.proofs.Fits.{came-whole}
 use Rattle.row_text.proofs.Enough.{packs_whole}
 use Rattle.pack.proofs.packed.Goals as goal

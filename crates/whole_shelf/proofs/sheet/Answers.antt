@@ -1,10 +1,7 @@
 -- `whole_shelf::sheet` meets its contract: the names before an index are passed.
-use Prim.Native.Nat.{◌+◌, ◌-◌}
 use native.Mathlib.Omega.{arith}
 use mathlib.Core.Path.{refl}
-use lib.ListN.{length}
-use borrow.Author.Rules.{rules}
-use Rattle.whole_shelf.proofs.Laying.{Laying, laying_first, same-room, few, may-sum, laid-all, end-within, end_after, may_lay, laying_on}
+use Rattle.whole_shelf.proofs.Laying.{laying_first, same-room, few, may-sum, laid-all, end-within, end_after, may_lay, laying_on}
 use Rattle.whole_shelf.proofs.sheet.Goals as goal
 
 pub loop-from-init : goal.loop-from-init

@@ -1,9 +1,6 @@
 use Prim.Native.Nat.{◌+◌, ◌-◌}
-use native.Mathlib.Omega.{arith}
-use mathlib.Core.Path.{refl}
 use lib.ListN.{length}
-use borrow.Author.Rules.{rules}
-use Rattle.whole_shelf.proofs.Laying.{Laying, laying_first, same-room, few, may-sum, laid-all, end-within, end_after, may_lay, laying_on}
+use Rattle.whole_shelf.proofs.Laying.{Laying}
 use Rattle.whole_shelf.proofs.sheet.Given as goal
 
 abbrev pub invariant-loop-from : goal.invariant-loop-from

@@ -1,7 +1,6 @@
 -- `whole_shelf::text` meets its contract: what came shows what all of standard input and the whole plan files show.
 use Rattle.program_io.proofs.Fits.{came-whole}
 use Rattle.whole_shelf.proofs.Program.{may_read, shown-sheet, shown-refused}
-use borrow.Author.Rules.{rules}
 use Rattle.whole_shelf.proofs.text.Goals as goal
 
 pub slice_bounds-check_names-end : goal.slice_bounds-check_names-end
@@ -13,12 +12,11 @@ slice_bounds-sheet-end c =
     came-whole _ _ _ c.requires.0
 
 pub sheet-requires : goal.sheet-requires
-sheet-requires c =
-    (
-      may_read c.args.input.now c.args.n c.args.out.now c.args.out.now c.requires.1 c.requires.2
-          _ _ c.check_names-checked.ensures c.in-Gives.is,
-      c.requires.2,
-    )
+sheet-requires c = (
+  may_read c.args.input.now c.args.n c.args.out.now c.args.out.now c.requires.1 c.requires.2
+      _ _ c.check_names-checked.ensures c.in-Gives.is,
+  c.requires.2,
+)
 
 pub returns-in-Gives : goal.returns-in-Gives
 returns-in-Gives c =
