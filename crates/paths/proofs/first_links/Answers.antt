@@ -1,6 +1,5 @@
 use native.Mathlib.Omega.{arith}
 use Rattle.paths.proofs.Laws as law
-use Rattle.paths.proofs.Laws.{Copying}
 use Rattle.paths.proofs.first_links.Goals as goal
 
 pub loop-k-init : goal.loop-k-init

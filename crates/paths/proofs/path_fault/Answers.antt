@@ -3,7 +3,7 @@ use mathlib.Core.Path.{◌∙◌, ap}
 use Rattle.scope.specs.Plan.{plan_of}
 use Rattle.rows.proofs.Parts.{link-count}
 use Rattle.paths.proofs.Walk as law
-use Rattle.paths.proofs.Walk.{Walking, OnLink}
+use Rattle.paths.proofs.Walk.{OnLink}
 use Rattle.paths.proofs.path_fault.Goals as goal
 
 pub loop-k-init : goal.loop-k-init
