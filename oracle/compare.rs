@@ -6,7 +6,7 @@ use crate::probe;
 use crate::cases::{
     deep_case, explain_case, question, replay_case, verdict_case, Made, ProgramCase, QUESTIONS,
 };
-use crate::shelf::{open_in, shelf_program};
+use crate::shelf::{by_text, open_in, shelf_program};
 use crate::shelves::shelf_case;
 use std::ffi::OsStr;
 use std::io::{BufRead, BufReader, BufWriter, Read, Write};
@@ -162,10 +162,11 @@ fn program_case(name: &str, seed: u64, case: u64) -> ProgramCase {
     }
 }
 
-/// What the program of this name prints in the folder of a case.
+/// What the program of this name prints in the folder of a case, the program `shelf` where names are
+/// text.
 fn program_text(name: &str, folder: &Path, input: &[u8]) -> Vec<u8> {
     if name == "shelf" {
-        return shelf_program(input, &|name| open_in(folder, name));
+        return shelf_program(input, &by_text(&|name| open_in(folder, name)));
     }
     let file = open_in(folder, b"plan.bin"); // "a missing file counts as empty"
     let text = match name {
@@ -287,7 +288,8 @@ fn stored_shelf(folder: &Path) -> Result<ProgramCase, String> {
 }
 
 /// Shows the stored cases of the program `shelf`: the input, how its files are opened, and what is
-/// printed. An error if this program prints something else.
+/// printed where names are text: `stdout-text`, or `stdout` where there is none. An error if this
+/// program prints something else, also where names are any bytes, which is `stdout`.
 pub fn stored_shelves(
     folder: &str,
     show: &mut dyn FnMut(&[u8], &dyn Fn(&[u8]) -> Vec<u8>, &[u8]),
@@ -299,11 +301,17 @@ pub fn stored_shelves(
         let case = stored_shelf(&stored)?;
         make_folder(&made, &case)?;
         let open = |name: &[u8]| open_in(&made, name);
-        let right = std::fs::read(stored.join("stdout")).map_err(tell)?;
-        if shelf_program(&case.input, &open) != right {
+        let of_bytes = std::fs::read(stored.join("stdout")).map_err(tell)?;
+        let of_text = match stored.join("stdout-text") {
+            path if path.exists() => std::fs::read(path).map_err(tell)?,
+            _ => of_bytes.clone(),
+        };
+        if shelf_program(&case.input, &open) != of_bytes
+            || shelf_program(&case.input, &by_text(&open)) != of_text
+        {
             return Err(format!("{}: another sheet is stored", stored.display()));
         }
-        show(&case.input, &open, &right);
+        show(&case.input, &open, &of_text);
         std::fs::remove_dir_all(&made).map_err(tell)?;
     }
     Ok(())

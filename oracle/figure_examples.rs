@@ -11,7 +11,7 @@ use crate::misfigured;
 use crate::plan::{file_of, Plan};
 use crate::questions::{self, good_plan_of_row};
 use crate::random::Random;
-use crate::shelf::{names_of, shelf_program, told_of_file};
+use crate::shelf::{by_text, names_of, shelf_program, told_of_file};
 use crate::shelves::shelf_case;
 use crate::verdict::failing_list;
 use std::cell::RefCell;
@@ -23,6 +23,7 @@ pub fn run(tests: &mut Tests) {
     by_verdict_and_game(tests);
     sheets(tests);
     names(tests);
+    names_that_are_text(tests);
     orders(tests);
     wrong_ways(tests);
 }
@@ -186,8 +187,8 @@ fn by_verdict_and_game(tests: &mut Tests) {
 /// A shelf of A, B, some long plans and bad ones.
 fn open(name: &[u8]) -> Vec<u8> {
     match name {
-        b"a" => file_of(&a()),
-        b"b" => file_of(&b()),
+        b"a" | b"\xff" => file_of(&a()),
+        b"b" | b"M\xc3\xbchle" => file_of(&b()),
         b"chain" => file_of(&chain(4)),
         b"64" => file_of(&until(16, a())),
         b"68" => file_of(&until(17, a())),
@@ -307,6 +308,67 @@ fn content_of(shelf: &ProgramCase, name: &[u8]) -> Vec<u8> {
     found.map_or(Vec::new(), |(_, made)| made.content().to_vec())
 }
 
+/// Where names are text, a file counts as empty whose name is none, and nothing else changes.
+fn names_that_are_text(tests: &mut Tests) {
+    let sheets: [(&[u8], &[u8], &[u8]); 3] = [
+        (
+            b"\xff\n",
+            b"2 1 0 0 \xff\n0 1 0\n1 0 1\n2 0 2\n3 0 2\n",
+            b"refused 2 place 0 \xff\n0 0 0\n1 0 0\n2 0 0\n3 0 0\n",
+        ),
+        (
+            b"a\n\xff\nM\xc3\xbchle",
+            b"2 1 0 0 a\n2 1 0 0 \xff\n2 2 0 0 M\xc3\xbchle\n0 3 0\n1 1 2\n2 0 6\n3 0 6\n",
+            b"2 1 0 0 a\nrefused 2 place 0 \xff\n2 2 0 0 M\xc3\xbchle\n0 2 0\n1 1 1\n2 0 4\n3 0 4\n",
+        ),
+        // Their length counts as before.
+        (b"\xff\n\n", b"refused 24 place 1\n", b"refused 24 place 1\n"),
+    ];
+    for (input, of_bytes, of_text) in sheets {
+        let name = format!("names that are no text ({:?})", String::from_utf8_lossy(input));
+        tests.holds(&name, shelf_program(input, &open) == of_bytes);
+        tests.holds(&name, shelf_program(input, &by_text(&open)) == of_text);
+    }
+    let text: [&[u8]; 10] = [
+        b"a", b" ", b"\r", b"\x7f", b"\xc2\x80", b"\xdf\xbf", b"\xe0\xa0\x80", b"\xed\x9f\xbf",
+        b"\xf0\x90\x80\x80", b"a\xf4\x8f\xbf\xbfb",
+    ];
+    // A byte that goes on or begins nothing, one that is cut off, one that takes more bytes than it
+    // needs, half of a pair, and one above the last.
+    let none: [&[u8]; 15] = [
+        b"\x80", b"a\xbf", b"\xff", b"\xfe", b"m\xfchle", b"\xc3", b"\xe2\x82", b"\xe2\x82/a", b"\xf0\x9f\x98",
+        b"\xc0\xaf", b"\xe0\x9f\xbf", b"\xf0\x8f\xbf\xbf", b"\xed\xa0\x80", b"\xed\xbf\xbf", b"\xf4\x90\x80\x80",
+    ];
+    let any = |name: &[u8]| name.to_vec();
+    tests.holds("what is text", text.iter().all(|name| by_text(&any)(name) == *name));
+    tests.holds("what is no text", none.iter().all(|name| by_text(&any)(name).is_empty()));
+    let (mut as_said, mut differ) = (true, 0);
+    for case in 0..200 {
+        let shelf = shelf_case(17, case);
+        let names = match names_of(&shelf.input) {
+            Ok(names) if names.len() < 20 => names,
+            _ => continue,
+        };
+        let open = |name: &[u8]| content_of(&shelf, name);
+        let lines_of = |sheet: Vec<u8>| -> Vec<Vec<u8>> {
+            sheet.split(|byte| *byte == b'\n').map(|line| line.to_vec()).collect()
+        };
+        let of_bytes = lines_of(shelf_program(&shelf.input, &open));
+        let of_text = lines_of(shelf_program(&shelf.input, &by_text(&open)));
+        let is_text = |name: &&[u8]| std::str::from_utf8(name).is_ok();
+        let texts: Vec<&[u8]> = names.iter().copied().filter(is_text).collect();
+        let alone = lines_of(shelf_program(&texts.join(&b'\n'), &open));
+        for (at, name) in names.iter().enumerate() {
+            let empty = [b"refused 2 place 0 ", *name].concat();
+            as_said = as_said && of_text[at] == if is_text(name) { of_bytes[at].clone() } else { empty };
+        }
+        as_said = as_said && of_text[names.len()..] == alone[texts.len()..];
+        differ += usize::from(of_text != of_bytes);
+    }
+    tests.holds("a name that is no text is of an empty file, and counts in no sum", as_said);
+    tests.holds("shelves with files whose names are no text", differ > 20);
+}
+
 /// The order of the names changes the order of their lines alone.
 fn orders(tests: &mut Tests) {
     let (mut same, mut sheets) = (true, 0);
@@ -355,12 +417,13 @@ fn wrong_ways(tests: &mut Tests) {
     tests.holds("exactly k cuts, where there are so many cables", same);
     let shelves = [
         &b""[..], b"a\n", b"a\nb", b"b\nb\n", b"68\n", b"none\n", b"path\na\n", b"a\n\n", b"\na\n",
-        b"a\r\n", b" a\n", b"a\0b\n", b"\xff\n", &b"a\n".repeat(250), &b"a\n".repeat(251),
-        &[b'x'; 255], &[b'x'; 256], &[&b"a\n".repeat(251)[..], b"\n"].concat(),
+        b"a\r\n", b" a\n", b"a\0b\n", b"\xff\n", b"M\xc3\xbchle\n", &b"a\n".repeat(250),
+        &b"a\n".repeat(251), &[b'x'; 255], &[b'x'; 256], &[&b"a\n".repeat(251)[..], b"\n"].concat(),
     ];
     for (way, name) in misfigured::WRONG_SHEETS {
         let differs = shelves.iter().any(|input| {
-            misfigured::wrong_sheet(way, input, &open, &told_of_file) != shelf_program(input, &open)
+            let right = shelf_program(input, &by_text(&open));
+            misfigured::wrong_sheet(way, input, &open, &told_of_file) != right
         });
         tests.holds(&format!("{} differs on a sheet", name), differs);
     }
@@ -374,7 +437,7 @@ fn wrong_ways(tests: &mut Tests) {
     for case in 0..300 {
         let shelf = shelf_case(1, case);
         let open = |name: &[u8]| content_of(&shelf, name);
-        let right = shelf_program(&shelf.input, &open);
+        let right = shelf_program(&shelf.input, &by_text(&open));
         for (at, (way, _)) in misfigured::WRONG_SHEETS.iter().enumerate() {
             let wrong = misfigured::wrong_sheet(*way, &shelf.input, &open, &tell);
             found[at] += usize::from(wrong != right);

@@ -47,7 +47,8 @@ oracle: document 01 once more, independent, simple and slow
   oracle deep                       the same up to k 3 whatever the size; for small plans alone
   oracle explain                    the program explain (plan.bin, a capture on standard input)
   oracle capture                    the capture of what oracle replay plays, to be explained
-  oracle shelf                      the program shelf (names of plan files on standard input)
+  oracle shelf [--names-are-text]   the program shelf (names of plan files on standard input); with
+                                    the option a file whose name is no UTF-8 counts as empty
   oracle test                       runs the examples of document 01 and more
   oracle generate SEED N            writes N random probe questions
   oracle kinds SEED N               counts event kinds and refusals in these N questions
@@ -55,7 +56,7 @@ oracle: document 01 once more, independent, simple and slow
                                     asks COMMAND these N questions and compares the answers
   oracle files SEED N DIR [NAME]    makes folders DIR/000001... with plan.bin (shelf: plan files),
                                     stdin and what the program NAME (replay, verdict, deep, explain
-                                    or shelf; replay) should print
+                                    or shelf, with --names-are-text; replay) should print
   oracle compare-program NAME SEED N [--cwd-root DIR] -- COMMAND...
                                     runs COMMAND in a folder for each of N cases and compares
                                     what it prints with the program NAME (the same)
@@ -107,11 +108,12 @@ struct Words {
     plain: Vec<String>,
     without: Vec<String>,
     root: Option<String>,
+    names_are_text: bool,
     command: Vec<String>,
 }
 
 fn words_of(arguments: &[String]) -> Result<Words, String> {
-    let mut words = Words { plain: vec![], without: vec![], root: None, command: vec![] };
+    let mut words = Words { plain: vec![], without: vec![], root: None, names_are_text: false, command: vec![] };
     let mut at = 0;
     while at < arguments.len() {
         match arguments[at].as_str() {
@@ -131,6 +133,7 @@ fn words_of(arguments: &[String]) -> Result<Words, String> {
                 at += 1;
                 words.root = Some(arguments.get(at).ok_or("--cwd-root which?")?.clone());
             }
+            "--names-are-text" => words.names_are_text = true,
             other => words.plain.push(String::from(other)),
         }
         at += 1;
@@ -173,7 +176,12 @@ fn run(arguments: &[String]) -> Result<bool, String> {
         }
         Some("shelf") => {
             let open = |name: &[u8]| shelf::open_in(std::path::Path::new(""), name);
-            print_bytes(&shelf::shelf_program(&standard_input(), &open))
+            let text = if words.names_are_text {
+                shelf::shelf_program(&standard_input(), &shelf::by_text(&open))
+            } else {
+                shelf::shelf_program(&standard_input(), &open)
+            };
+            print_bytes(&text)
         }
         Some("test") => {
             let (passed, failed) = examples::run();

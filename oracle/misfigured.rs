@@ -10,7 +10,7 @@ use crate::plan::{plan_of_file, refusal, row_of, Plan};
 use crate::probe::spaced;
 use crate::questions::good_plan_of_row;
 use crate::random::{good_plan, number_of_pairs, Random, Size};
-use crate::shelf::{totals, words_of, Told, LONGEST_NAME, MOST_NAMES};
+use crate::shelf::{by_text, totals, words_of, Told, LONGEST_NAME, MOST_NAMES};
 use crate::verdict::{every_list, failing_list};
 
 // ---------------------------------------------------------------------------- figures
@@ -363,6 +363,10 @@ pub enum SheetWay {
     EndsBeforeZero,
     /// What is no text is printed otherwise.
     AsText,
+    /// A file is opened whose name is no text.
+    OpensNoText,
+    /// A file is not opened whose name has a byte above 127, be it text.
+    OpensAsciiAlone,
     /// It is printed before the figures.
     NameFirst,
     /// It is not printed for a refused plan.
@@ -377,7 +381,7 @@ pub enum SheetWay {
     AlwaysFour,
 }
 
-pub const WRONG_SHEETS: [(SheetWay, &str); 31] = [
+pub const WRONG_SHEETS: [(SheetWay, &str); 33] = [
     (SheetWay::RefusedLosesAll, "refused-loses-all"),
     (SheetWay::RefusedLosesOne, "refused-loses-one"),
     (SheetWay::RefusedLosesNothing, "refused-loses-nothing"),
@@ -404,6 +408,8 @@ pub const WRONG_SHEETS: [(SheetWay, &str); 31] = [
     (SheetWay::Trimmed, "trimmed"),
     (SheetWay::EndsBeforeZero, "ends-before-zero"),
     (SheetWay::AsText, "as-text"),
+    (SheetWay::OpensNoText, "opens-no-text"),
+    (SheetWay::OpensAsciiAlone, "opens-ascii-alone"),
     (SheetWay::NameFirst, "name-first"),
     (SheetWay::NoNameOfRefused, "no-name-of-refused"),
     (SheetWay::SkipsMissing, "skips-missing"),
@@ -499,8 +505,8 @@ fn wrong_totals(
     right
 }
 
-/// What this way prints for a standard input, for files as `open` finds them, and for what `tell`
-/// says of each.
+/// What this way prints for a standard input, for files as `open` finds them by any name, and for
+/// what `tell` says of each. Names are text, but for the way that opens others.
 pub fn wrong_sheet(
     way: SheetWay,
     input: &[u8],
@@ -523,9 +529,12 @@ pub fn wrong_sheet(
         }
         names.truncate(line);
     }
+    let of_text = by_text(open);
     let opened = |name: &Vec<u8>| match way {
-        SheetWay::EndsBeforeZero => open(name.split(|byte| *byte == 0).next().unwrap()),
-        _ => open(name),
+        SheetWay::EndsBeforeZero => of_text(name.split(|byte| *byte == 0).next().unwrap()),
+        SheetWay::OpensNoText => open(name),
+        SheetWay::OpensAsciiAlone if !name.is_ascii() => Vec::new(),
+        _ => of_text(name),
     };
     let mut files: Vec<Vec<u8>> = names.iter().map(opened).collect();
     if way == SheetWay::SkipsMissing {

@@ -94,3 +94,12 @@ pub fn shelf_program(input: &[u8], open: &dyn Fn(&[u8]) -> Vec<u8>) -> Vec<u8> {
 pub fn open_in(folder: &Path, name: &[u8]) -> Vec<u8> {
     std::fs::read(folder.join(OsStr::from_bytes(name))).unwrap_or_default()
 }
+
+/// Files for a program that opens them by text alone: one whose name is no UTF-8 counts as empty.
+/// [2] has no such rule (README.md, "Names that are text").
+pub fn by_text<'a>(open: &'a dyn Fn(&[u8]) -> Vec<u8>) -> impl Fn(&[u8]) -> Vec<u8> + 'a {
+    move |name| match std::str::from_utf8(name) {
+        Ok(_) => open(name),
+        Err(_) => Vec::new(),
+    }
+}
