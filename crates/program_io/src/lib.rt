@@ -120,7 +120,7 @@ fn open(rt: &HostRuntime, name: &[u8]) -> io::Result<File> {
 }
 
 // Reads the file of a name until the buffer is full or the file ends, and answers how many bytes it put at the buffer's start. A file that is
-// missing or cannot be read, or whose name no file can have, counts as empty, and a line on standard error says which.
+// missing or cannot be read, or whose name is no text, which `std` opens no file by, counts as empty, and a line on standard error says which.
 pub fn read_named(rt: &HostRuntime, program: &[u8], name: &[u8], buf: &mut [u8]) -> usize
     ensures { Came (named name.now) result buf.new × IsPrefixLen result buf.new }
 {
