@@ -1,6 +1,7 @@
 // The probe: every public question of the libraries as a line of text, answered in one line, in order, until the input ends
 // (docs/TESTING.md). It is for tests, above all for the comparison with the second program. What is answered to a line is `probe_dispatch`'s;
-// here is how lines come in and answers go out, proved to be safe and to end. It leans on `probe_words` too.
+// here is how lines come in and answers go out, proved to be safe and to end. Where a read or a write fails, no answer is made up: nothing is said
+// of the buffers then, and `main` ends with that error, which is the only one. It leans on `probe_words` too.
 
 #![tactic(auto)]
 
