@@ -1,29 +1,24 @@
 -- From the highest l down: the first failing list for l is that for every l above its arrivals, and a plan that is resistant for l is so
 -- for every lower l.
-use Prim.Native.Nat.{ℕ, ◌+◌, ◌-◌, ◌*◌, ◌≤◌, ◌<◌}
-use native.Mathlib.Omega.{arith}
-use mathlib.Core.Path.{◌≡◌, refl, sym, ◌∙◌, ap, ap₂}
-use mathlib.Core.Logic.{inl, inr}
-use mathlib.Core.Bool.{Bool, true, false}
-use mathlib.Core.List.{List, [], ◌∷◌, ◌++◌}
-use lib.ListN.{length, take, drop, replicate}
+use Rattle.std.proofs.Common.{◌≡◌, refl, sym, ◌∙◌, ap, ap₂, ℕ, ◌+◌, ◌-◌, ◌*◌, ◌≤◌, ◌<◌, Bool, true, false, None, List, [], ◌∷◌, ◌++◌}
+use Rattle.std.proofs.Common.{length, drop, replicate, ltb, inl, inr, arith}
 use lib.Seq.{length-take-le}
-use lib.Dec.{ltb}
 use borrow.Author.Tests.{ltb-true, ltb-false}
 use Rattle.scope.specs.Limits.{most_messages}
 use Rattle.scope.specs.Plan.{Plan, plan_of}
 use Rattle.scope.specs.Cuts.{pairs}
 use Rattle.scope.specs.Cycle.{arrivals}
 use Rattle.scope.specs.Verdict.{Fails, Resistant, FirstFailing}
-use Rattle.search.specs.declared.Hunted.{Hunted}
-use Rattle.search.specs.Hunt.{Hunts}
+use Rattle.search.specs.declared.Found.{Found}
+use Rattle.search.specs.Hunt.{list_of, Hunted, Hunts}
 use Rattle.order.specs.Search.{NoneOf}
 use Rattle.search.proofs.Answer.{all-leave}
 use Rattle.picks.proofs.Picking.{zeros-after}
-use Rattle.verdicts.specs.declared.Opening.{Opening}
-use Rattle.verdicts.specs.Lent.{MayAskOn}
+use Rattle.board.specs.declared.Board.{Board}
+use Rattle.board.specs.Lent.{Lent}
+use Rattle.verdicts.specs.Asking.{MayAskOn}
 use Rattle.all_verdicts.specs.Answers.{answer_size, failing, Says, seven, needed, AllSaid}
-use Rattle.all_verdicts.specs.Filling.{Filled, MayFill, MayPut}
+use Rattle.all_verdicts.specs.Filling.{Filled, MayFill}
 
 lower_first : (plan : Plan) (k l m : ℕ) (cuts : List ℕ) → FirstFailing plan k l cuts → arrivals plan cuts < m → m ≤ l →
     FirstFailing plan k m cuts
@@ -34,99 +29,82 @@ lower_resistant : (plan : Plan) (k l m : ℕ) → Resistant plan k l → m ≤ l
 unfolding Resistant
 lower_resistant plan k l m r h cuts good few = let enough = r cuts good few in omega arith
 
--- the answers above l are there, and h is what was found for l
-pub record Descending (row : List ℕ) (o : Opening) (k : ℕ) (entry : List ℕ) (l : ℕ) (h : Hunted) (out : List ℕ) : Type 0 where
-  pub within : l ≤ o.sizes.messages
-  pub hunts : Hunts row l k h
+-- the answers above l are there, and no list of fewer than `low` pairs fails for l
+pub record Descending (row : List ℕ) (board : Board) (k : ℕ) (entry : List ℕ) (l low : ℕ) (out : List ℕ) : Type 0 where
+  pub within : l ≤ board.sizes.messages
+  pub few : low ≤ k
+  pub before : (i : ℕ) → i < low → NoneOf (plan_of row) (Fails (plan_of row) l) [] i
   pub same : length out ≡ length entry
   pub each : (m : ℕ) → l < m → m ≤ length (plan_of row).messages → Says (plan_of row) k m (seven m out)
   pub rest : drop (needed (plan_of row)) out ≡ drop (needed (plan_of row)) entry
 
-module _ (row table touch_sets strip_sets weights most : List ℕ) (o : Opening) (k : ℕ) (entry : List ℕ)
-    (f : MayFill row table touch_sets strip_sets weights most o k (length entry)) where
-  -- any l may be asked
-  asking : (l low : ℕ) → l ≤ o.sizes.messages → low ≤ k + 1 → ((i : ℕ) → i < low → NoneOf (plan_of row) (Fails (plan_of row) l) [] i) →
-      MayAskOn row table touch_sets strip_sets weights most o l low k
-  asking l low least within before =
-      record { lent = f.ask.lent; least = least; few = f.ask.few; within = within; before = before }
+module _ (row : List ℕ) (k : ℕ) (entry : List ℕ) (f : MayFill row k (length entry)) (board : Board) (lent : Lent row board) where
+  count : board.sizes.messages ≡ length (plan_of row).messages
+  count = lent.laid.play.messages
 
-  count : o.sizes.messages ≡ length (plan_of row).messages
-  count = f.ask.lent.play.messages
-
-  pub ask-first : (l : ℕ) → l ≡ o.sizes.messages → MayAskOn row table touch_sets strip_sets weights most o l 0 k
-  ask-first l e = asking l 0 (omega arith) (omega arith) (λ i z. absurd (omega arith))
-
-  pub descend_first : (l : ℕ) (h : Hunted) → l ≡ o.sizes.messages → Hunts row l k h → Descending row o k entry l h entry
-  descend_first l h e hunts =
+  pub descend_first : Descending row board k entry board.sizes.messages 0 entry
+  descend_first =
       record {
         within = omega arith;
-        hunts = hunts;
+        few = omega arith;
+        before = λ i z. absurd (omega arith);
         same = refl;
         each = λ m low high. absurd (omega (arith, count));
         rest = refl;
       }
 
-  module _ (l : ℕ) (h : Hunted) (out : List ℕ) (g : Descending row o k entry l h out) where
-    front : length (take (2 * h.pairs) h.numbers) ≡ 2 * h.pairs
-    front = length-take-le (2 * h.pairs) h.numbers (omega (arith, g.hunts.long, g.hunts.few, f.ask.few))
+  module _ (l low : ℕ) (out : List ℕ) (g : Descending row board k entry l low out) where
+    pub may-ask : MayAskOn row board l low k
+    may-ask = record { lent = lent; least = g.within; few = f.few; within = omega (arith, g.few); before = g.before }
 
-    pub less : h.found ≡ true → h.arrivals < l
-    less t = omega (arith, g.hunts.left t, (g.hunts.some t).answers)
+    module _ (h : Found) (is : Hunted row l k h) where
+      front : length (list_of h) ≡ 2 * h.pairs
+      front = length-take-le (2 * h.pairs) h.numbers (omega (arith, is.told.long, is.few, f.few))
 
-    pub may-put : h.found ≡ true → MayPut (length out) l h
-    may-put t =
-        record {
-          long = g.hunts.long;
-          few = omega (arith, g.hunts.few, f.ask.few);
-          less = less t;
-          low = omega (arith, g.within, f.ask.lent.many);
-          enough = omega (arith, g.same, g.within, f.enough, count);
-        }
+      pub less : h.arrivals < l
+      less = omega (arith, is.told.left, is.first.answers)
 
-    pub ask-next : (m : ℕ) → h.found ≡ true → m ≡ h.arrivals → MayAskOn row table touch_sets strip_sets weights most o m h.pairs k
-    ask-next m t e =
-        asking m h.pairs (omega (arith, less t, g.within)) (omega (arith, g.hunts.few))
-        (λ i z x long good fails. g.hunts.fewer t i z x long good (omega (arith, less t)))
+      pub room : (h.arrivals + 1 ≤ l + 1) × (l + 1 ≤ most_messages + 1) × (answer_size * (l + 1) ≤ length out)
+      room = (omega (arith, less), omega (arith, g.within, lent.laid.many), omega (arith, g.same, g.within, f.enough, count))
 
-    -- the answers that were put
-    pub descend_on : (next : Hunted) (out' : List ℕ) → h.found ≡ true → length out' ≡ length out →
-        Filled (h.arrivals + 1) (l + 1) (h.pairs + 1) h.numbers out out' → Hunts row h.arrivals k next →
-        Descending row o k entry h.arrivals next out'
-    descend_on next out' t size p n =
-        record {
-          within = omega (arith, less t, g.within);
-          hunts = n;
-          same = size ∙ g.same;
-          each = λ m low high. each m low high (ltb l m) refl;
-          rest = p.above (length (plan_of row).messages + 1) (omega (arith, g.within, count)) ∙ g.rest;
-        }
-      where
-        is : (h.pairs + 1) ∷ h.numbers ≡ failing (take (2 * h.pairs) h.numbers)
-        is =
-            let n : h.pairs ≡ pairs (take (2 * h.pairs) h.numbers) = omega (arith, front) in
-            ap₂ (λ (i : ℕ) (l : List ℕ). (i + 1) ∷ l) n
-            (zeros-after h.numbers 6 (2 * h.pairs) g.hunts.long (g.hunts.past t) ∙
-            ap (λ (j : ℕ). take (2 * h.pairs) h.numbers ++ replicate (6 - j) 0) (sym front))
+      -- the answers that were put
+      pub descend_on : (out' : List ℕ) → length out' ≡ length out → Filled (h.arrivals + 1) (l + 1) (h.pairs + 1) h.numbers out out' →
+          Descending row board k entry h.arrivals h.pairs out'
+      descend_on out' size p =
+          record {
+            within = omega (arith, less, g.within);
+            few = is.few;
+            before = λ i z x long good fails. is.fewer i z x long good (omega (arith, less));
+            same = size ∙ g.same;
+            each = λ m low high. each m low high (ltb l m) refl;
+            rest = p.above (length (plan_of row).messages + 1) (omega (arith, g.within, count)) ∙ g.rest;
+          }
+        where
+          says : (h.pairs + 1) ∷ h.numbers ≡ failing (list_of h)
+          says =
+              let n : h.pairs ≡ pairs (list_of h) = omega (arith, front) in
+              ap₂ (λ (i : ℕ) (l : List ℕ). (i + 1) ∷ l) n
+              (zeros-after h.numbers 6 (2 * h.pairs) is.told.long is.told.past ∙
+              ap (λ (j : ℕ). list_of h ++ replicate (6 - j) 0) (sym front))
 
-        each : (m : ℕ) → h.arrivals < m → m ≤ length (plan_of row).messages → (b : Bool) → ltb l m ≡ b → Says (plan_of row) k m (seven m out')
-        each m low high true b =
-            let above : l < m = ltb-true l m b in
-            rw (p.above m (omega arith)) (g.each m above high)
-        each m low high false b =
-            let under : m ≤ l = ltb-false l m b in
-            inr
-            (record {
-              cuts = take (2 * h.pairs) h.numbers;
-              first =
-                  lower_first (plan_of row) k l m (take (2 * h.pairs) h.numbers) (g.hunts.some t) (omega (arith, g.hunts.left t)) under;
-              is = p.inside m (omega arith) (omega arith) ∙ is;
-            })
+          each : (m : ℕ) → h.arrivals < m → m ≤ length (plan_of row).messages → (b : Bool) → ltb l m ≡ b → Says (plan_of row) k m (seven m out')
+          each m low high true b =
+              let above : l < m = ltb-true l m b in
+              rw (p.above m (omega arith)) (g.each m above high)
+          each m low high false b =
+              let under : m ≤ l = ltb-false l m b in
+              inr
+              (record {
+                cuts = list_of h;
+                first = lower_first (plan_of row) k l m (list_of h) is.first (omega (arith, is.told.left)) under;
+                is = p.inside m (omega arith) (omega arith) ∙ says;
+              })
 
     pub room-all : (0 ≤ l + 1) × (l + 1 ≤ most_messages + 1) × (answer_size * (l + 1) ≤ length out)
-    room-all = omega (arith, g.same, g.within, f.enough, count, f.ask.lent.many)
+    room-all = omega (arith, g.same, g.within, f.enough, count, lent.laid.many)
 
-    pub descend_done : (exit : List ℕ) → h.found ≡ false → Filled 0 (l + 1) 0 (replicate 6 0) out exit → AllSaid (plan_of row) k entry exit
-    descend_done exit t p =
+    pub descend_done : (exit : List ℕ) → Hunts row l k None → Filled 0 (l + 1) 0 (replicate 6 0) out exit → AllSaid (plan_of row) k entry exit
+    descend_done exit none p =
         record {
           each = λ m high. each m high (ltb l m) refl;
           rest = p.above (length (plan_of row).messages + 1) (omega (arith, g.within, count)) ∙ g.rest;
@@ -140,6 +118,6 @@ module _ (row table touch_sets strip_sets weights most : List ℕ) (o : Opening)
             let under : m ≤ l = ltb-false l m b in
             inl
             (record {
-              resists = lower_resistant (plan_of row) k l m (all-leave (plan_of row) k l (g.hunts.none t).1) under;
+              resists = lower_resistant (plan_of row) k l m (all-leave (plan_of row) k l none) under;
               is = p.inside m (omega arith) (omega arith);
             })

@@ -7,8 +7,8 @@ use mathlib.Core.List.{List, ◌++◌}
 use lib.ListN.{length, take, take-append-drop}
 use lib.Seq.{take-add}
 use borrow.Author.Tests.{lt-ltb, le-ltb, le-leb, lt-leb}
-use Rattle.scope.specs.declared.Answer.{Answer}
-use Rattle.scope.specs.declared.Answer.TheVariants.{Gives, Refused}
+use Rattle.scope.specs.Outcome.{Answer}
+use Rattle.std.specs.Prelude.{Ok, Err}
 use Rattle.scope.specs.declared.Refusal.{Refusal}
 use Rattle.scope.specs.Outcome.{Outcome, gives, refused, refuse, outcome_of}
 use Rattle.scope.specs.Plan.{Plan, plan_of, message_count}
@@ -20,7 +20,7 @@ use Rattle.scope.proofs.Outcomes.{same_answer}
 use Rattle.plan.specs.Answers.{GoodRow}
 use Rattle.plan.proofs.Theorems.{judged}
 use Rattle.all_verdicts.specs.Answers.{Says, failing, seven, needed, may_answer, AllSaid, After, AnswersAll}
-use Rattle.all_verdicts.specs.Filling.{MayFillAll}
+use Rattle.all_verdicts.specs.Filling.{MayFill}
 
 -- the answers
 written : (o : Outcome) (plan : Plan) (k : ℕ) (entry : List ℕ) (r : Refusal) → o ≡ refused r → After o plan k entry entry
@@ -31,9 +31,9 @@ refuses : (row : List ℕ) (k : ℕ) (entry : List ℕ) (r : Refusal) (a : Answe
     AnswersAll row k entry entry a
 refuses row k entry r a e is = record { answer = is ∙ sym e; buffer = written (may_answer row k (length entry)) (plan_of row) k entry r e }
 
-pub bad-row : (row : List ℕ) (k : ℕ) (entry : List ℕ) (r : Refusal) → judge row ≡ refused r → AnswersAll row k entry entry (Refused r)
+pub bad-row : (row : List ℕ) (k : ℕ) (entry : List ℕ) (r : Refusal) → judge row ≡ refused r → AnswersAll row k entry entry (Err r)
 unfolding may_answer
-bad-row row k entry r e = refuses row k entry r (Refused r) (rw e) refl
+bad-row row k entry r e = refuses row k entry r (Err r) (rw e) refl
 
 module _ (row : List ℕ) (k : ℕ) (entry : List ℕ) (g : GoodRow row) where
   pub k_too_large : (a : Answer) → 3 < k → outcome_of a ≡ refuse 11 0 → AnswersAll row k entry entry a
@@ -49,10 +49,10 @@ module _ (row : List ℕ) (k : ℕ) (entry : List ℕ) (g : GoodRow row) where
     too_short a h is = refuses row k entry _ a (rw (judged row g, le-ltb 3 k few, room-is, lt-leb n (length entry) h)) is
 
     module _ (enough : n ≤ length entry) where
-      pub may_fill_all : MayFillAll row k (length entry)
-      may_fill_all = record { good = g; few = few; enough = omega (arith, room-is) }
+      pub may_fill : MayFill row k (length entry)
+      may_fill = record { good = g; few = few; enough = omega (arith, room-is) }
 
-      pub answered : (exit : List ℕ) → AllSaid (plan_of row) k entry exit → AnswersAll row k entry exit (Gives n)
+      pub answered : (exit : List ℕ) → AllSaid (plan_of row) k entry exit → AnswersAll row k entry exit (Ok n)
       unfolding may_answer
       answered exit all =
           let o : may_answer row k (length entry) ≡ gives n = rw (judged row g, le-ltb 3 k few, room-is, le-leb n (length entry) enough) in

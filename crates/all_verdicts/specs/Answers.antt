@@ -1,7 +1,7 @@
 -- All answers of a plan for one k: for every l from 0 to M seven numbers, 0 where the plan is resistant, else one more than the pairs of the
 -- first failing list, then that list's numbers, and zeros.
 use Rattle.std.specs.Prelude.{ℕ, ◌+◌, ◌-◌, ◌*◌, ◌≤◌, ◌≡◌, ◌⊎◌, cond, List, ◌∷◌, ◌++◌, length, take, drop, replicate, ltb}
-use Rattle.scope.specs.declared.Answer.{Answer}
+use Rattle.scope.specs.Outcome.{Answer}
 use Rattle.scope.specs.Outcome.{Outcome, gives, refused, refuse, outcome_of, and_then, room}
 use Rattle.scope.specs.Limits.{most_cuts}
 use Rattle.scope.specs.Plan.{Plan, plan_of}

@@ -9,24 +9,46 @@
 ghost use Rattle.std.specs.Prelude.{◌≤◌, ◌<◌, length};
 ghost use Rattle.scope.specs.Limits.{longest_row};
 
-use explanations::Explanation;
-use program_io::Read;
-use scope::{Answer, Refusal};
+use scope::Refusal;
 use std::io;
 use std::rt::Env;
-use verdicts::Ruling;
 
 // The numbers of as many crossings as a cycle can have.
 const CAPTURE: usize = 3 * scope::limits::CROSSED;
 
-// What is asked: the third letter of its word, which tells questions apart (reAd, juDge, rePlay, onLy, veRdict,
-// fiGures, inFer), k and l, and how many numbers the capture has.
+// What is asked.
+#[derive(Clone, Copy)]
+enum Asks {
+    Read,
+    Judge,
+    Replay,
+    Only,
+    Verdict,
+    Figures,
+    Infer,
+}
+
+impl Asks {
+    // By the third letter of its word, which tells questions apart (reAd, juDge, rePlay, onLy, veRdict, fiGures, inFer).
+    fn of(letter: u8) -> Asks {
+        match letter {
+            b'a' => Asks::Read,
+            b'd' => Asks::Judge,
+            b'p' => Asks::Replay,
+            b'l' => Asks::Only,
+            b'g' => Asks::Figures,
+            b'f' => Asks::Infer,
+            _ => Asks::Verdict,
+        }
+    }
+}
+
+// A question: what is asked, k and l.
 #[derive(Clone, Copy)]
 struct Question {
-    what: u8,
+    asks: Asks,
     k: usize,
     l: usize,
-    given: usize,
 }
 
 // A refusal as a small number.
@@ -37,34 +59,23 @@ fn refused(r: Refusal) -> usize
 }
 
 // An answer as a small number.
-fn small(answer: Answer) -> usize
+fn small(answer: Result<usize, Refusal>) -> usize
     ensures { result < 65536 }
 {
     match answer {
-        Answer::Gives(n) => n % 65536,
-        Answer::Refused(r) => refused(r),
+        Ok(n) => n % 65536,
+        Err(r) => refused(r),
     }
 }
 
-// A verdict as a small number.
-fn ruled(ruling: Ruling) -> usize
+// A list that is found, or none, as a small number.
+fn found(list: Result<Option<usize>, Refusal>) -> usize
     ensures { result < 65536 }
 {
-    match ruling {
-        Ruling::Resistant => 0,
-        Ruling::Failing(pairs) => 1 + pairs % 16,
-        Ruling::Refused(r) => refused(r),
-    }
-}
-
-// What explains a capture as a small number.
-fn explained(explanation: Explanation) -> usize
-    ensures { result < 65536 }
-{
-    match explanation {
-        Explanation::Unexplained => 0,
-        Explanation::Listed(pairs) => 1 + pairs % 16,
-        Explanation::Refused(r) => refused(r),
+    match list {
+        Ok(None) => 0,
+        Ok(Some(pairs)) => 1 + pairs % 16,
+        Err(r) => refused(r),
     }
 }
 
@@ -74,41 +85,13 @@ fn mixed(sum: usize, numbers: &[u16]) -> usize
     ensures { result < 1000003 }
 {
     let mut all = sum;
-    let mut i = 0;
-    while i < numbers.len() {
-        all = (all * 31 + rows::number(numbers, i)) % 1000003;
-        i += 1;
+    for &n in numbers {
+        all = (all * 31 + usize::from(n)) % 1000003;
     }
     all
 }
 
-// One question of a row: its answer as a small number.
-fn ask_row(q: Question, row: &[u16], capture: &[u16], out: &mut [u16]) -> usize
-    ensures { result < 65536 }
-{
-    if q.what == b'd' {
-        return small(plan::judge(row));
-    }
-    if q.what == b'p' {
-        return small(cut_replay::replay(row, &[0, 0], out));
-    }
-    if q.what == b'l' {
-        return ruled(verdicts::verdict(row, q.k, q.l, out));
-    }
-    if q.what == b'g' {
-        return small(figures::figures(row, q.k, out));
-    }
-    if q.what == b'f' {
-        let n = q.given;
-        if capture.len() < n {
-            return 0;
-        }
-        return explained(explanations::explain(row, q.k, &capture[0..n], out));
-    }
-    small(all_verdicts::all_answers(row, q.k, out))
-}
-
-// One question of a file, or of its row, the first n numbers of what is lent.
+// One question of a file, or of its row, the first n numbers of what is lent: its answer as a small number.
 fn ask(
     q: Question,
     file: &[u8],
@@ -120,10 +103,15 @@ fn ask(
     requires { n ≤ length row.old }
     ensures { result < 65536 }
 {
-    if q.what == b'a' {
-        return small(plan::read_file(file, row));
+    match q.asks {
+        Asks::Read => small(plan::read_file(file, row)),
+        Asks::Judge => small(plan::judge(&row[..n])),
+        Asks::Replay => small(cut_replay::replay(&row[..n], &[0, 0], out)),
+        Asks::Only => found(verdicts::verdict(&row[..n], q.k, q.l, out)),
+        Asks::Verdict => small(all_verdicts::all_answers(&row[..n], q.k, out)),
+        Asks::Figures => small(figures::figures(&row[..n], q.k, out)),
+        Asks::Infer => found(explanations::explain(&row[..n], q.k, capture, out)),
     }
-    ask_row(q, &row[0..n], capture, out)
 }
 
 // The row of a file, by its form alone, so that one that breaks a rule can be judged too: how many numbers it has, 65536 where the form is
@@ -135,8 +123,8 @@ fn unpacked(file: &[u8], row: &mut [u16]) -> usize
     let answer = unpacked.answer;
     let n = unpacked.count;
     match answer {
-        Answer::Gives(_) => n,
-        Answer::Refused(_) => 65536,
+        Ok(_) => n,
+        Err(_) => 65536,
     }
 }
 
@@ -156,10 +144,8 @@ fn ask_all(
         return 0;
     }
     let mut sum = 0;
-    let mut i = 0;
-    while i < turns {
+    for _turn in 0..turns {
         sum = (sum + ask(q, file, row, n, capture, out)) % 65536;
-        i += 1;
     }
     mixed(mixed(sum, row), out)
 }
@@ -168,7 +154,7 @@ fn ask_all(
 fn number(rt: &impl Env, i: usize) -> usize {
     let mut word = [0u8; 8];
     let n = rt.arg(i, &mut word).unwrap_or(0);
-    probe_words::number(&word[..n], 0).value
+    probe_words::number(&word[..n], 0).map_or(0, |found| found.value)
 }
 
 // What the first argument asks; its last letter is k. The third one is l.
@@ -177,40 +163,29 @@ fn asked(rt: &impl Env) -> Question {
     let n = rt.arg(1, &mut name).unwrap_or(0);
     if n == 0 {
         return Question {
-            what: 0,
+            asks: Asks::Verdict,
             k: 0,
             l: 0,
-            given: 0,
         };
     }
     Question {
-        what: name[2],
-        k: (name[n - 1] % 16) as usize,
+        asks: Asks::of(name[2]),
+        k: usize::from(name[n - 1] % 16),
         l: number(rt, 3),
-        given: 0,
     }
 }
 
-// The capture on standard input, a byte a number, where it is asked about: how many numbers it has.
-fn read_capture(rt: &HostRuntime, q: Question, capture: &mut [u16]) -> usize
-    ensures { result ≤ length capture.new }
-{
-    if q.what != b'f' {
-        return 0;
-    }
+// The capture on standard input, a byte a number, where it is asked about.
+fn read_capture<'a>(rt: &HostRuntime, q: Question, capture: &'a mut [u16; CAPTURE]) -> &'a [u16] {
     let mut bytes = [0u8; CAPTURE];
-    let Read::Bytes(n) = program_io::read_input(rt, b"bench", &mut bytes) else {
-        return 0;
+    let n = match q.asks {
+        Asks::Infer => program_io::read_input(rt, b"bench", &mut bytes).unwrap_or(0),
+        _ => 0,
     };
-    if capture.len() < n {
-        return 0;
+    for (number, byte) in capture.iter_mut().zip(&bytes) {
+        *number = u16::from(*byte);
     }
-    let mut i = 0;
-    while i < n {
-        capture[i] = bits::byte(&bytes, i) as u16;
-        i += 1;
-    }
-    n
+    &capture[..n]
 }
 
 fn main(rt: HostRuntime) -> io::Result<()> {
@@ -221,19 +196,6 @@ fn main(rt: HostRuntime) -> io::Result<()> {
     let q = asked(&rt);
     let mut capture = [0u16; CAPTURE];
     let given = read_capture(&rt, q, &mut capture);
-    let all = Question {
-        what: q.what,
-        k: q.k,
-        l: q.l,
-        given,
-    };
-    let sum = ask_all(
-        all,
-        number(&rt, 2),
-        &file[..n],
-        &mut row,
-        &capture,
-        &mut out,
-    );
+    let sum = ask_all(q, number(&rt, 2), &file[..n], &mut row, given, &mut out);
     println!(rt; "{sum}")
 }

@@ -1,10 +1,5 @@
 -- The bounds of a search out of the counts: a list that fails has enough of each weight, and of two weights together.
-use Prim.Native.Nat.{ℕ, ◌+◌, ◌-◌, ◌*◌, ◌≤◌, ◌<◌}
-use native.Mathlib.Omega.{arith}
-use mathlib.Core.Path.{◌≡◌}
-use mathlib.Core.Bool.{false}
-use mathlib.Core.List.{List, ◌++◌}
-use lib.ListN.{length}
+use Rattle.std.proofs.Common.{ℕ, ◌+◌, ◌-◌, ◌*◌, ◌≤◌, ◌<◌, arith, ◌≡◌, false, List, ◌++◌, length}
 use Rattle.scope.specs.Outcome.{gives}
 use Rattle.scope.specs.Verdict.{Fails}
 use Rattle.scope.specs.Plan.{Plan}

@@ -1,20 +1,14 @@
 -- The loops that fill the tables from their last slot: from index k on they are done.
-use Prim.Native.Nat.{ℕ, zero, suc, ◌+◌, ◌-◌, ◌*◌, ◌/◌, ◌%◌, ◌≤◌, ◌<◌}
-use native.Mathlib.Omega.{arith}
-use mathlib.Core.Path.{◌≡◌, refl, ◌∙◌, ap, ap₂}
-use mathlib.Core.Bool.{Bool, true, false}
-use mathlib.Core.List.{List}
-use lib.ListN.{length, get_or, set, replicate, length-set, length-replicate, get_or-replicate, get_or-eq_default}
-use lib.Seq.{get_or-set_same, get_or-set_other}
-use lib.Dec.{ltb, eqb}
-use borrow.Author.Count.{below_more}
-use borrow.Author.Tests.{ltb-true, ltb-false, eqb-true, eqb-false}
+use Rattle.std.proofs.Common.{ℕ, zero, suc, ◌+◌, ◌-◌, ◌*◌, ◌/◌, ◌%◌, ◌≤◌, ◌<◌, arith, ◌≡◌, ◌∙◌, ap, ap₂, List, length, get_or, replicate, ltb, set, Bool, true, false, refl}
+use mir.Val.{bool_byte}
+use borrow.Rule.Slice.PartMut.{put_mid}
+use lib.ListN.{get_or-replicate}
 use Rattle.scope.specs.Limits.{most_slots, most_links, plane_size}
 use Rattle.table.specs.Table.{index_of, entry_at, at_index}
 use Rattle.sets.specs.Sums.{sum_of, one_if}
 use Rattle.losses.specs.Touch.{touched_in}
-use Rattle.bound.specs.Weights.{entries_from, below, most_on_link, ForLinks, Behind, WeighsFrom, TopOf, Tops}
-use Rattle.bound.specs.Fronts.{Larger}
+use Rattle.bound.specs.Weights.{entries_from, below, most_on_link, ForLinks}
+use Rattle.std.proofs.lemmas.Grind.{common_steps}
 use Rattle.sets.proofs.Sums.{sum_same, sum_first, tests_few}
 
 module _ (table : List ℕ) (slots : ℕ) where
@@ -34,7 +28,7 @@ module _ (table : List ℕ) (slots : ℕ) where
       let t : s + suc d ≡ s + d + 1 = omega arith in
       rw t (omega (arith, from_more (s + d) e (omega arith), entries_fall s e d (omega arith)))
 
-  next-below : (k : ℕ) → slots ≤ most_slots → k < slots * most_links →
+  pub next-below : (k : ℕ) → slots ≤ most_slots → k < slots * most_links →
       below table slots k ≡ one_if (ltb 0 (at_index table k)) + below table slots (k + most_links)
   next-below k few h =
       let s : k / most_links + 1 ≡ (k + most_links) / most_links = omega arith in
@@ -60,167 +54,49 @@ module _ (table : List ℕ) (slots : ℕ) where
       let s = k / most_links in
       omega (arith, tests_few (λ i. ltb 0 (entry_at table (s + i) (k % most_links))) (slots - s))
 
--- a loop over the links, at link e
-pub record Putting (links : List ℕ) (slots : ℕ) (weights : List ℕ) (e : ℕ) : Type 0 where
-  pub long : length weights ≡ plane_size
-  pub is : (d : ℕ) → d < e → get_or weights (index_of slots d) 0 ≡ get_or links d 0
-
-module _ (links : List ℕ) (slots : ℕ) (weights : List ℕ) where
-  pub putting_none : length weights ≡ plane_size → Putting links slots weights 0
-  putting_none l = record { long = l; is = λ d h. absurd (omega arith) }
-
-  module _ (e : ℕ) (g : Putting links slots weights e) where
-    pub putting_more : slots ≤ most_slots → e < most_links → Putting links slots (set weights (index_of slots e) (get_or links e 0)) (e + 1)
-    putting_more few h =
-        let k = index_of slots e in
-        let v = get_or links e 0 in
-        record {
-          long = length-set weights k v ∙ g.long;
-          is = below_more (λ d. get_or (set weights k v) (index_of slots d) 0 ≡ get_or links d 0) e
-              (λ d l. get_or-set_other weights k (index_of slots d) v 0 (λ q. omega arith) ∙ g.is d l)
-              (get_or-set_same weights k v 0 (omega (arith, g.long)));
-        }
-
-    pub putting_done : most_links ≤ e → Behind links slots weights
-    putting_done h = record { long = g.long; is = λ d l. g.is d (omega arith) }
+-- a test as a number
+pub counted : (b : Bool) → bool_byte b ≡ one_if b
+counted true = refl
+counted false = refl
 
 -- what the weight at an index is
 abbrev whole : List ℕ → List ℕ → ℕ → ℕ → ℕ
 whole table links slots k = below table slots k + get_or links (k % most_links) 0
 
 pub record Weighing (table links : List ℕ) (slots : ℕ) (weights : List ℕ) (k : ℕ) : Type 0 where
-  pub few : k ≤ slots * most_links
-  pub long : length weights ≡ plane_size
   pub is : (j : ℕ) → k ≤ j → j < (slots + 1) * most_links → get_or weights j 0 ≡ whole table links slots j
 
 module _ (table links : List ℕ) (slots : ℕ) (few : slots ≤ most_slots) (numbers : ForLinks links) where
   pub whole-small : (k : ℕ) → whole table links slots k ≤ most_slots + most_on_link
-  whole-small k = omega (arith, below-small table slots k, numbers.few (k % most_links))
+  whole-small k = omega (arith, below-small table slots k, numbers.few (k % most_links) (omega arith))
 
-  pub weighing_none : (weights : List ℕ) → Behind links slots weights → Weighing table links slots weights (slots * most_links)
-  weighing_none weights b =
+  -- the links' numbers put behind the last slot
+  pub weighing_none : (k : ℕ) (weights new : List ℕ) → k ≡ most_links → length weights ≡ plane_size → length links ≡ most_links → new ≡ links →
+      Weighing table links slots (put_mid (slots * most_links) k weights new) (slots * most_links)
+  weighing_none k weights new e long numbers same =
       record {
-        few = omega arith;
-        long = b.long;
-        is =
-            λ j h m.
-            let at : j ≡ index_of slots (j % most_links) = omega arith in
-            omega (
-              arith,
-              ap (λ (i : ℕ). get_or weights i 0) at,
-              b.is (j % most_links) (omega arith),
-              below-past table slots j h,
-            );
+        is = λ j h m. grind (arith, common_steps, below-past table slots j h);
       }
 
-  module _ (weights : List ℕ) (k : ℕ) (g : Weighing table links slots weights k) where
-    pub weighing_small : 0 < k → get_or weights (k - 1 + most_links) 0 ≤ most_slots + most_on_link
-    weighing_small h =
-        let next = k - 1 + most_links in
-        omega (arith, g.is next (omega arith) (omega (arith, g.few)), whole-small next)
-
-    pub weighing_more : (v : ℕ) → 0 < k → v ≡ get_or weights (k - 1 + most_links) 0 + one_if (ltb 0 (at_index table (k - 1))) →
-        Weighing table links slots (set weights (k - 1) v) (k - 1)
-    weighing_more v h e =
-        record {
-          few = omega (arith, g.few);
-          long = length-set weights (k - 1) v ∙ g.long;
-          is = λ j l m. by j l m (eqb j (k - 1)) refl;
-        }
-      where
-        here : v ≡ whole table links slots (k - 1)
-        here =
-            let link : (k - 1 + most_links) % most_links ≡ (k - 1) % most_links = omega arith in
-            omega (
-              arith,
-              e,
-              g.is (k - 1 + most_links) (omega arith) (omega (arith, g.few)),
-              ap (λ (d : ℕ). get_or links d 0) link,
-              next-below table slots (k - 1) few (omega (arith, g.few)),
-            )
-
-        by : (j : ℕ) → k - 1 ≤ j → j < (slots + 1) * most_links → (b : Bool) → eqb j (k - 1) ≡ b →
-            get_or (set weights (k - 1) v) j 0 ≡ whole table links slots j
-        by j l m true b =
-            let same : j ≡ k - 1 = eqb-true j (k - 1) b in
-            rw same (get_or-set_same weights (k - 1) v 0 (omega (arith, g.few, g.long)) ∙ here)
-        by j l m false b =
-            let other : j ≡ k - 1 → ⊥ = eqb-false j (k - 1) b in
-            get_or-set_other weights (k - 1) j v 0 other ∙ g.is j (omega (arith, other)) m
-
-    pub weighing_done : k ≤ 0 → WeighsFrom table links slots weights
-    weighing_done h = record { long = g.long; is = λ j l. g.is j (omega arith) (omega arith) }
+  -- and one index less, whose weight is that of its link a slot on and its own entry's
+  pub weighing_more : (k v : ℕ) (weights : List ℕ) → 0 < k → k ≤ slots * most_links → length weights ≡ plane_size → Weighing table links slots weights k →
+      v ≡ get_or weights (k - 1 + most_links) 0 + one_if (ltb 0 (at_index table (k - 1))) → Weighing table links slots (set weights (k - 1) v) (k - 1)
+  weighing_more k v weights some inside long g e =
+      let next = next-below table slots (k - 1) few (omega arith) in
+      let after = g.is (k - 1 + most_links) (omega arith) (omega arith) in
+      record {
+        is = λ j h m. grind (arith, common_steps, next, after, e, g.is j);
+      }
 
 -- no number for any link
-pub none_of : (links : List ℕ) → links ≡ replicate most_links 0 → (e : ℕ) → get_or links e 0 ≡ 0
-none_of links z e = ap (λ (l : List ℕ). get_or l e 0) z ∙ by (ltb e most_links) refl
-  where
-    by : (b : Bool) → ltb e most_links ≡ b → ◌≡◌ {A = ℕ} (get_or (replicate most_links 0) e 0) 0
-    by true h = get_or-replicate most_links e 0 0 (ltb-true e most_links h)
-    by false h =
-        get_or-eq_default (replicate most_links 0) 0 {n = e} (omega (arith, ltb-false e most_links h, length-replicate {A = ℕ} most_links 0))
+pub none_of : (links : List ℕ) → links ≡ replicate most_links 0 → (e : ℕ) → e < most_links → get_or links e 0 ≡ 0
+none_of links z e h = ap (λ (l : List ℕ). get_or l e 0) z ∙ get_or-replicate most_links e 0 0 h
 
 pub no_links : (links : List ℕ) → links ≡ replicate most_links 0 → ForLinks links
-no_links links e = record { long = ap length e ∙ length-replicate {A = ℕ} most_links 0; few = λ l. omega (arith, none_of links e l) }
-
--- a loop over the links of a slot, at link e
-pub record TopBelow (weights : List ℕ) (s top e : ℕ) : Type 0 where
-  pub most : (d : ℕ) → d < e → get_or weights (index_of s d) 0 ≤ top
-
-pub top_none : (weights : List ℕ) (s : ℕ) → TopBelow weights s 0 0
-top_none weights s = record { most = λ d h. absurd (omega arith) }
-
-module _ (weights : List ℕ) (s top e : ℕ) (g : TopBelow weights s top e) where
-  pub top_more : (v : ℕ) → Larger top (get_or weights (index_of s e) 0) v → TopBelow weights s v (e + 1)
-  top_more v l =
-      record { most = below_more (λ d. get_or weights (index_of s d) 0 ≤ v) e (λ d h. omega (arith, g.most d h, l.first)) l.second }
-
-  pub top_done : most_links ≤ e → TopOf weights s top
-  top_done h d l = g.most d (omega arith)
+no_links links z = record { few = λ e l. omega (arith, none_of links z e l) }
 
 -- a loop over n indices, from the last one down. `Under i v`: v is enough for index i. `top` is for each from k on, and a number that is put
 -- for each from its own index on.
-pub record Topping (Under : ℕ → ℕ → Type 0) (size n : ℕ) (most : List ℕ) (top k : ℕ) : Type 0 where
-  pub few : k ≤ n
-  pub long : length most ≡ size
+pub record Topping (Under : ℕ → ℕ → Type 0) (n : ℕ) (most : List ℕ) (top k : ℕ) : Type 0 where
   pub all : (i : ℕ) → k ≤ i → i < n → Under i top
   pub tops : (s i : ℕ) → k ≤ s → s ≤ i → i < n → Under i (get_or most s 0)
-
-module _ (Under : ℕ → ℕ → Type 0) (size n : ℕ) (most : List ℕ) where
-  pub topping_none : length most ≡ size → Topping Under size n most 0 n
-  topping_none l =
-      record {
-        few = omega arith;
-        long = l;
-        all = λ i h m. absurd (omega arith);
-        tops = λ s i h j m. absurd (omega arith);
-      }
-
-  pub topping_more : (top k : ℕ) → Topping Under size n most top k → ((i v w : ℕ) → v ≤ w → Under i v → Under i w) → n ≤ size → 0 < k →
-      (x v : ℕ) → Under (k - 1) x → Larger top x v → Topping Under size n (set most (k - 1) v) v (k - 1)
-  topping_more top k g grows room h x v t l =
-      record {
-        few = omega (arith, g.few);
-        long = length-set most (k - 1) v ∙ g.long;
-        all = λ i a b. all i a b (eqb i (k - 1)) refl;
-        tops = λ s i a b c. by s i a b c (eqb s (k - 1)) refl;
-      }
-    where
-      all : (i : ℕ) → k - 1 ≤ i → i < n → (q : Bool) → eqb i (k - 1) ≡ q → Under i v
-      all i a b true q = rw (eqb-true i (k - 1) q) (grows (k - 1) x v l.second t)
-      all i a b false q =
-          let other : i ≡ k - 1 → ⊥ = eqb-false i (k - 1) q in
-          grows i top v l.first (g.all i (omega (arith, other)) b)
-
-      by : (s i : ℕ) → k - 1 ≤ s → s ≤ i → i < n → (q : Bool) → eqb s (k - 1) ≡ q → Under i (get_or (set most (k - 1) v) s 0)
-      by s i a b c true q =
-          rw (eqb-true s (k - 1) q, get_or-set_same most (k - 1) v 0 (omega (arith, g.few, g.long)))
-          (all i (omega arith) c (eqb i (k - 1)) refl)
-      by s i a b c false q =
-          let other : s ≡ k - 1 → ⊥ = eqb-false s (k - 1) q in
-          rw (get_or-set_other most (k - 1) s v 0 other) (g.tops s i (omega (arith, other)) b c)
-
--- over the slots, once all are done
-pub tops-done : (weights : List ℕ) (slots : ℕ) (most : List ℕ) (top k : ℕ) → Topping (TopOf weights) most_slots slots most top k → k ≤ 0 →
-    Tops weights slots most
-tops-done weights slots most top k g h = record { long = g.long; later = λ s i e a b. g.tops s i (omega arith) a b e }

@@ -4,10 +4,6 @@ use Rattle.std.specs.Prelude.{ℕ, min, ◌≤◌, ◌<◌, ◌≡◌, List, len
 use Rattle.scope.specs.Limits.{most_slots, most_links, most_messages, weights_size, front_size, fronts_size}
 use Rattle.bound.specs.Bounds.{weight_in, front_of}
 
-pub record Larger (a b r : ℕ) : Type 0 where
-  pub first : a ≤ r
-  pub second : b ≤ r
-
 pub record MayFront (weights : List ℕ) (slots : ℕ) (fronts : List ℕ) : Type 0 where
   pub weigh : length weights ≡ weights_size
   pub few : slots ≤ most_slots

@@ -22,8 +22,7 @@ most_on_link = 255 * most_messages
 
 -- a number for each link, none of them large
 pub record ForLinks (links : List ℕ) : Type 0 where
-  pub long : length links ≡ most_links
-  pub few : (e : ℕ) → get_or links e 0 ≤ most_on_link
+  pub few : (e : ℕ) → e < most_links → get_or links e 0 ≤ most_on_link
 
 -- how many messages have each link on the second path of a robust place
 pub record OnLinks (seconds links : List ℕ) : Type 0 where
@@ -35,11 +34,6 @@ pub record HasRoom (table : List ℕ) (slots : ℕ) (plane : List ℕ) : Type 0 
   pub entries : length table ≡ table_size
   pub few : slots ≤ most_slots
   pub long : length plane ≡ plane_size
-
--- the links' numbers stand behind the last slot
-pub record Behind (links : List ℕ) (slots : ℕ) (weights : List ℕ) : Type 0 where
-  pub long : length weights ≡ plane_size
-  pub is : (e : ℕ) → e < most_links → get_or weights (index_of slots e) 0 ≡ get_or links e 0
 
 -- the weight at each index is how many entries come from there on, and a number for its link
 pub record WeighsFrom (table links : List ℕ) (slots : ℕ) (weights : List ℕ) : Type 0 where
@@ -88,17 +82,18 @@ entries_and table links slots s e = entries_from table slots s e + get_or links 
 abbrev pub strips_from : List ℕ → List ℕ → ℕ → ℕ → ℕ → ℕ
 strips_from fragile seconds slots s e = entries_from fragile slots s e + on_link seconds e
 
--- the third weights may be put
-pub record MayAdd (slots : ℕ) (weights : List ℕ) : Type 0 where
-  pub long : length weights ≡ weights_size
-  pub within : slots ≤ most_slots
-  pub few : (k : ℕ) → k < slots * most_links → get_or weights k 0 + get_or weights (plane_size + k) 0 < 65536
+-- the first n of two weights may be added
+pub record MayAdd (n : ℕ) (touches strips both : List ℕ) : Type 0 where
+  pub touched : length touches ≡ plane_size
+  pub stripped : length strips ≡ plane_size
+  pub long : length both ≡ plane_size
+  pub within : n ≤ plane_size
+  pub few : (k : ℕ) → k < n → get_or touches k 0 + get_or strips k 0 < 65536
 
--- they are the sums of the first and the second, which stay
-pub record Added (slots : ℕ) (old new : List ℕ) : Type 0 where
-  pub long : length new ≡ weights_size
-  pub same : (k : ℕ) → k < 2 * plane_size → get_or new k 0 ≡ get_or old k 0
-  pub sum : (k : ℕ) → k < slots * most_links → get_or new (2 * plane_size + k) 0 ≡ get_or old k 0 + get_or old (plane_size + k) 0
+-- the first n of the third are their sums
+pub record Added (touches strips : List ℕ) (n : ℕ) (both : List ℕ) : Type 0 where
+  pub long : length both ≡ plane_size
+  pub sum : (k : ℕ) → k < n → get_or both k 0 ≡ get_or touches k 0 + get_or strips k 0
 
 -- all tables may be weighed
 pub record MayWeigh (table fragile seconds others : List ℕ) (slots : ℕ) (weights : List ℕ) : Type 0 where

@@ -4,49 +4,29 @@
 
 #![tactic(auto)]
 
-ghost use Rattle.std.specs.Prelude.{◌≡◌, ◌+◌, ◌-◌, min, ◌≤◌, ◌<◌, length, ltb};
-ghost use Rattle.scope.specs.Limits.{most_slots, most_links, most_messages, seconds_size, plane_size, weights_size, tops_size, front_size, fronts_size};
-ghost use Rattle.sets.specs.Sums.{one_if};
+ghost use Rattle.std.specs.Prelude.{◌≡◌, ◌+◌, ◌-◌, ◌*◌, min, ◌≤◌, ◌<◌, length, EachIndex, slice_index};
+ghost use Rattle.scope.specs.Limits.{most_slots, most_links, seconds_size, plane_size, weights_size, tops_size, front_size, fronts_size};
 ghost use Rattle.bound.specs.Seconds.{on_link};
 ghost use Rattle.cables.specs.Others.{AreLinks};
-ghost use Rattle.bound.specs.Weights.{most_on_link, ForLinks, OnLinks, HasRoom, Behind, WeighsFrom, Weighs, MayAdd, Added};
-ghost use Rattle.bound.specs.Weights.{entries_from, entries_and, strips_from, MayAddLink, AddedLink, MayAddOthers, AddedOthers};
+ghost use Rattle.bound.specs.Weights.{most_on_link, ForLinks, OnLinks, HasRoom, WeighsFrom, Weighs, MayAdd, Added};
+ghost use Rattle.bound.specs.Weights.{entries_and, MayAddLink, AddedLink, MayAddOthers, AddedOthers};
 ghost use Rattle.bound.specs.Weights.{MayWeigh, WeighsAll, TopOf, Tops, MayTop, TopsEach, TopsAll};
 ghost use Rattle.bound.specs.Bounds.{front_of, front_in};
-ghost use Rattle.bound.specs.Fronts.{Larger, MayFront, Bucketed, RunsDown, FrontRow, Fronts};
+ghost use Rattle.bound.specs.Fronts.{MayFront, Bucketed, RunsDown, FrontRow, Fronts};
 ghost use Rattle.bound.specs.Sets.{SetsOf, StripSetsOf, Gathered, Through, MayRow, ThroughRow, MayGatherStrips};
 
-use scope::limits::{FRONT, LINKS, MESSAGES, PLANE, SLOTS, TOPS};
+use scope::limits::{FRONT, LINKS, MESSAGES, PLANE, SLOTS};
 
-// The links' numbers, behind the last slot.
-fn put_links(links: &[u16], slots: usize, weights: &mut [u16])
-    requires { ForLinks links.now × (slots ≤ most_slots) × (length weights.old ≡ plane_size) }
-    ensures { Behind links.now slots weights.new }
-{
-    let mut e = 0;
-    while e < LINKS {
-        weights[table::index(slots, e)] = links[e];
-        e += 1;
-    }
-}
-
-// One where a table has an entry, else 0.
-fn one_if(entry: u8) -> u16
-    ensures { (result ≡ one_if (ltb 0 entry)) × (result ≤ 1) }
-{
-    if entry == 0 { 0 } else { 1 }
-}
-
-// The weight of each slot and link: the entries of the table on that link from that slot on, and a number for the link.
-fn weigh_from(table: &[u8], links: &[u16], slots: usize, weights: &mut [u16])
+// The weight of each slot and link: the entries of the table on that link from that slot on, and a number for the link. The numbers stand
+// behind the last slot.
+fn weigh_from(table: &[u8], links: &[u16; LINKS], slots: usize, weights: &mut [u16])
     requires { HasRoom table.now slots weights.old × ForLinks links.now }
     ensures { WeighsFrom table.now links.now slots weights.new }
 {
-    put_links(links, slots, weights);
-    let mut k = slots * LINKS;
-    while 0 < k {
-        k -= 1;
-        weights[k] = weights[k + LINKS] + one_if(table::entry_at(table, k));
+    let end = slots * LINKS;
+    weights[end..end + LINKS].copy_from_slice(links);
+    for k in (0..end).rev() {
+        weights[k] = weights[k + LINKS] + u16::from(0 < table::entry_at(table, k));
     }
 }
 
@@ -55,11 +35,8 @@ fn add_link(plane: &mut [u16], slots: usize, e: usize, o: usize)
     requires { MayAddLink slots e o plane.old }
     ensures { AddedLink slots e o plane.old plane.new }
 {
-    let mut s = 0;
-    while s < slots {
-        let k = table::index(s, e);
-        plane[k] = plane[k] + plane[table::index(s, o)];
-        s += 1;
+    for s in 0..slots {
+        plane[table::index(s, e)] += plane[table::index(s, o)];
     }
 }
 
@@ -68,18 +45,22 @@ fn add_others(others: &[u8], slots: usize, plane: &mut [u16])
     requires { MayAddOthers others.now slots plane.old }
     ensures { AddedOthers others.now slots plane.old plane.new }
 {
-    let mut e = 0;
-    while e < LINKS {
+    for e in 0..LINKS {
         let o = cables::other(others, e);
         if e < o {
             add_link(plane, slots, e, o);
         }
-        e += 1;
     }
 }
 
 // The weight of each slot and link as before, and of the name of a cable with that of its other way.
-fn weigh_cables(table: &[u8], links: &[u16], others: &[u8], slots: usize, weights: &mut [u16])
+fn weigh_cables(
+    table: &[u8],
+    links: &[u16; LINKS],
+    others: &[u8],
+    slots: usize,
+    weights: &mut [u16],
+)
     requires { HasRoom table.now slots weights.old × ForLinks links.now × AreLinks others.now }
     ensures { Weighs (entries_and table.now links.now slots) others.now slots weights.new }
 {
@@ -87,62 +68,37 @@ fn weigh_cables(table: &[u8], links: &[u16], others: &[u8], slots: usize, weight
     add_others(others, slots, weights);
 }
 
-// Of entries alone.
-fn weigh(table: &[u8], others: &[u8], slots: usize, weights: &mut [u16])
-    requires { HasRoom table.now slots weights.old × AreLinks others.now }
-    ensures { Weighs (entries_from table.now slots) others.now slots weights.new }
-{
-    let links = [0u16; LINKS];
-    weigh_cables(table, &links, others, slots, weights);
-}
-
 // How many messages have link e on the second path of a robust place.
 fn on_link(seconds: &[u8], e: usize) -> u16
     requires { (length seconds.now ≡ seconds_size) × (e < most_links) }
     ensures { (result ≡ on_link seconds.now e) × (result ≤ most_on_link) }
 {
-    let mut sum = 0u16;
-    let mut m = 0;
-    while m < MESSAGES {
-        sum = sum + seconds[e * MESSAGES + m] as u16;
-        m += 1;
+    let mut sum = 0;
+    for &byte in &seconds[e * MESSAGES..(e + 1) * MESSAGES] {
+        sum += u16::from(byte);
     }
     sum
 }
 
 // Each link's number of them.
-fn on_links(seconds: &[u8], links: &mut [u16])
-    requires { (length seconds.now ≡ seconds_size) × ForLinks links.old }
-    ensures { OnLinks seconds.now links.new }
+fn on_links(seconds: &[u8]) -> [u16; LINKS]
+    requires { length seconds.now ≡ seconds_size }
+    ensures { OnLinks seconds.now result }
 {
-    let mut e = 0;
-    while e < LINKS {
-        links[e] = on_link(seconds, e);
-        e += 1;
+    let mut links = [0; LINKS];
+    for (e, link) in links.iter_mut().enumerate() {
+        *link = on_link(seconds, e);
     }
-}
-
-// What a pair strips: the fragile entries, and the second paths of robust places.
-fn weigh_strips(fragile: &[u8], seconds: &[u8], others: &[u8], slots: usize, weights: &mut [u16])
-    requires { (length seconds.now ≡ seconds_size) × HasRoom fragile.now slots weights.old × AreLinks others.now }
-    ensures { Weighs (strips_from fragile.now seconds.now slots) others.now slots
-        weights.new }
-{
-    let mut links = [0u16; LINKS];
-    on_links(seconds, &mut links);
-    weigh_cables(fragile, &links, others, slots, weights);
+    links
 }
 
 // Both together.
-fn weigh_both(slots: usize, weights: &mut [u16])
-    requires { MayAdd slots weights.old }
-    ensures { Added slots weights.old weights.new }
+fn weigh_both(touches: &[u16], strips: &[u16], slots: usize, both: &mut [u16])
+    requires { MayAdd (slots * most_links) touches.now strips.now both.old }
+    ensures { Added touches.now strips.now (slots * most_links) both.new }
 {
-    let end = slots * LINKS;
-    let mut k = 0;
-    while k < end {
-        weights[2 * PLANE + k] = weights[k] + weights[PLANE + k];
-        k += 1;
+    for k in 0..slots * LINKS {
+        both[k] = touches[k] + strips[k];
     }
 }
 
@@ -159,21 +115,18 @@ pub fn weigh_all(
     ensures { WeighsAll table.now fragile.now seconds.now others.now slots
         weights.new }
 {
-    weigh(table, others, slots, &mut weights[0..PLANE]);
-    weigh_strips(
-        fragile,
-        seconds,
-        others,
-        slots,
-        &mut weights[PLANE..2 * PLANE],
-    );
-    weigh_both(slots, weights);
+    let (touches, rest) = weights.split_at_mut(PLANE);
+    let (strips, both) = rest.split_at_mut(PLANE);
+    weigh_cables(table, &[0; LINKS], others, slots, touches);
+    weigh_cables(fragile, &on_links(seconds), others, slots, strips);
+    weigh_both(touches, strips, slots, both);
 }
 
-fn larger(a: u16, b: u16) -> u16
-    ensures { Larger a b result }
+// The most in a row.
+fn largest(row: &[u16]) -> u16
+    ensures { EachIndex row.now (λ e. slice_index row.now e ≤ result) }
 {
-    if a < b { b } else { a }
+    row.iter().copied().max().unwrap_or(0)
 }
 
 // The most that a pair of slot s weighs.
@@ -181,13 +134,7 @@ fn top_of(weights: &[u16], s: usize) -> u16
     requires { (length weights.now ≡ plane_size) × (s < most_slots) }
     ensures { TopOf weights.now s result }
 {
-    let mut top = 0u16;
-    let mut e = 0;
-    while e < LINKS {
-        top = larger(top, weights[table::index(s, e)]);
-        e += 1;
-    }
-    top
+    largest(&weights[s * LINKS..(s + 1) * LINKS])
 }
 
 // For each slot the most that a pair from there on weighs.
@@ -195,11 +142,9 @@ fn tops(weights: &[u16], slots: usize, most: &mut [u16])
     requires { (length weights.now ≡ plane_size) × (slots ≤ most_slots) × (length most.old ≡ most_slots) }
     ensures { Tops weights.now slots most.new }
 {
-    let mut top = 0u16;
-    let mut s = slots;
-    while 0 < s {
-        s -= 1;
-        top = larger(top, top_of(weights, s));
+    let mut top = 0;
+    for s in (0..slots).rev() {
+        top = top.max(top_of(weights, s));
         most[s] = top;
     }
 }
@@ -209,30 +154,21 @@ fn tops_each(weights: &[u16], slots: usize, most: &mut [u16])
     requires { MayTop weights.now slots most.old }
     ensures { TopsEach weights.now slots most.new }
 {
-    let mut j = 0;
-    while j < 3 {
+    for j in 0..3 {
         tops(
             &weights[j * PLANE..(j + 1) * PLANE],
             slots,
             &mut most[j * SLOTS..(j + 1) * SLOTS],
         );
-        j += 1;
     }
 }
 
-// A count of messages, of which there can be no more than so many.
-fn no_more(x: usize) -> usize
-    ensures { result ≡ min x most_messages }
-{
-    if MESSAGES < x { MESSAGES } else { x }
-}
-
-// The place for a slot and a count of messages.
+// The place for a slot and a count of messages, of which there can be no more than so many.
 fn front_of(s: usize, x: usize) -> usize
     requires { s < most_slots }
     ensures { (result ≡ front_of s x) × (result < fronts_size) }
 {
-    s * FRONT + no_more(x)
+    s * FRONT + x.min(MESSAGES)
 }
 
 // The most that one pair of slot s strips which touches at least x messages.
@@ -240,7 +176,7 @@ pub fn front(most: &[u16], s: usize, x: usize) -> usize
     requires { (length most.now ≡ tops_size) × (s < most_slots) }
     ensures { (result ≡ front_in most.now s x) × (result < 65536) }
 {
-    most[3 * SLOTS + front_of(s, x)] as usize
+    usize::from(most[3 * SLOTS + front_of(s, x)])
 }
 
 // For each count of messages the most that a link of one slot strips which touches so many; no number falls.
@@ -248,14 +184,11 @@ fn bucket(touches: &[u16], strips: &[u16], row: &mut [u16])
     requires { (length touches.now ≡ most_links) × (length strips.now ≡ most_links) × (length row.old ≡ front_size) }
     ensures { Bucketed touches.now strips.now most_links row.new }
 {
-    let mut e = 0;
-    while e < LINKS {
-        let x = no_more(touches[e] as usize);
-        let more = strips[e];
-        if row[x] < more {
-            row[x] = more;
+    for (&touched, &stripped) in touches.iter().zip(strips) {
+        let x = usize::from(touched).min(MESSAGES);
+        if row[x] < stripped {
+            row[x] = stripped;
         }
-        e += 1;
     }
 }
 
@@ -264,11 +197,9 @@ fn run_down(row: &mut [u16])
     requires { length row.old ≡ front_size }
     ensures { RunsDown row.old row.new }
 {
-    let mut top = 0u16;
-    let mut x = FRONT;
-    while 0 < x {
-        x -= 1;
-        top = larger(top, row[x]);
+    let mut top = 0;
+    for x in (0..FRONT).rev() {
+        top = top.max(row[x]);
         row[x] = top;
     }
 }
@@ -291,10 +222,8 @@ fn fronts(weights: &[u16], slots: usize, fronts: &mut [u16])
     requires { MayFront weights.now slots fronts.old }
     ensures { Fronts weights.now slots fronts.new }
 {
-    let mut s = 0;
-    while s < slots {
+    for s in 0..slots {
         front_row(weights, s, &mut fronts[s * FRONT..(s + 1) * FRONT]);
-        s += 1;
     }
 }
 
@@ -304,7 +233,7 @@ pub fn tops_all(weights: &[u16], slots: usize, most: &mut [u16])
     ensures { TopsAll weights.now slots most.new }
 {
     tops_each(weights, slots, most);
-    fronts(weights, slots, &mut most[3 * SLOTS..TOPS]);
+    fronts(weights, slots, &mut most[3 * SLOTS..]);
 }
 
 // What a list must weigh at least that leaves fewer than `least` of so many messages.
@@ -316,13 +245,12 @@ pub fn need(messages: usize, least: usize) -> usize
 }
 
 // The set of each slot and link: those in the set of the next slot, and whom the table names.
+// It goes as `weigh_from` does, but sums need a bound that sets do not.
 fn gather(table: &[u8], slots: usize, sets: &mut [u32])
     requires { HasRoom table.now slots sets.old }
     ensures { Gathered table.now slots sets.old sets.new }
 {
-    let mut k = slots * LINKS;
-    while 0 < k {
-        k -= 1;
+    for k in (0..slots * LINKS).rev() {
         sets[k] = sets::either(sets[k + LINKS], sets::named(table::entry_at(table, k)));
     }
 }
@@ -340,11 +268,9 @@ fn through(seconds: &[u8], e: usize) -> u32
     requires { (length seconds.now ≡ seconds_size) × (e < most_links) }
     ensures { Through seconds.now e result }
 {
-    let mut set = 0u32;
-    let mut m = 0;
-    while m < MESSAGES {
-        set = sets::either(set, sets::one_if(seconds[e * MESSAGES + m] != 0, m));
-        m += 1;
+    let mut set = 0;
+    for (m, &byte) in seconds[e * MESSAGES..(e + 1) * MESSAGES].iter().enumerate() {
+        set = sets::either(set, sets::one_if(byte != 0, m));
     }
     set
 }
@@ -354,10 +280,8 @@ fn through_row(seconds: &[u8], s: usize, sets: &mut [u32])
     requires { MayRow seconds.now s sets.old }
     ensures { ThroughRow seconds.now s sets.new }
 {
-    let mut e = 0;
-    while e < LINKS {
+    for e in 0..LINKS {
         sets[table::index(s, e)] = through(seconds, e);
-        e += 1;
     }
 }
 

@@ -5,6 +5,8 @@ use mathlib.Core.Bool.{Bool, true, false, cond, true≢false, and-eq-true_iff}
 use mathlib.Core.List.{List}
 use native.Mathlib.Omega.{arith}
 use borrow.Author.Tests.{lt-ltb, le-ltb, eqb-true, eq-eqb}
+use Rattle.std.proofs.Common.{Option, Some, None}
+use Rattle.std.specs.Option.{unwrap_or}
 use lib.ListN.{length, get_or, set, replicate, length-set, length-replicate, get_or-replicate}
 use lib.Seq.{get_or-set_same, get_or-set_other}
 use lib.Dec.{eqb}
@@ -22,30 +24,30 @@ use Rattle.cables.specs.Ends.{leads, lowest_from, ends_index, EndsFrom, IsOther}
 module _ (plan : Plan) where
   module _ (a b : ℕ) where
     -- the lowest from link e on: there is none, it is link e, or it is a later one
-    low-none : (e : ℕ) → length plan.links ≤ e → lowest_from plan a b e ≡ 0
+    low-none : (e : ℕ) → length plan.links ≤ e → lowest_from plan a b e ≡ None
     low-none e h =
         rw (seek-done (leads plan a b) (length plan.links) e h, le-ltb e (length plan.links) h)
 
-    low-here : (e : ℕ) → e < length plan.links → leads plan a b e ≡ true → lowest_from plan a b e ≡ e + 1
+    low-here : (e : ℕ) → e < length plan.links → leads plan a b e ≡ true → lowest_from plan a b e ≡ Some e
     low-here e h t = rw (seek_found (leads plan a b) (length plan.links) e h t, lt-ltb e (length plan.links) h)
 
     low-next : (e : ℕ) → e < length plan.links → leads plan a b e ≡ false → lowest_from plan a b e ≡ lowest_from plan a b (e + 1)
     low-next e h t = rw (seek-next (leads plan a b) (length plan.links) e h t)
 
   -- no link is put
-  pub ends-none : (e : ℕ) → length plan.links ≤ e → EndsFrom plan e (replicate ends_size 0)
+  pub ends-none : (e : ℕ) → length plan.links ≤ e → EndsFrom plan e (replicate ends_size None)
   ends-none e h =
       record {
-        size = length-replicate {A = ℕ} ends_size 0;
-        is = λ a b la lb. get_or-replicate ends_size (ends_index a b) 0 0 (omega arith) ∙ sym (low-none a b e h);
+        size = length-replicate {A = Option ℕ} ends_size None;
+        is = λ a b la lb. get_or-replicate ends_size (ends_index a b) None None (omega arith) ∙ sym (low-none a b e h);
       }
 
   -- link e is put before the links after it
-  pub ends-put : (e from to : ℕ) (table : List ℕ) → e < length plan.links → link_of plan e ≡ record { from = from; to = to } →
-      from < most_vertices → to < most_vertices → EndsFrom plan (e + 1) table → EndsFrom plan e (set table (ends_index from to) (e + 1))
+  pub ends-put : (e from to : ℕ) (table : List (Option ℕ)) → e < length plan.links → link_of plan e ≡ record { from = from; to = to } →
+      from < most_vertices → to < most_vertices → EndsFrom plan (e + 1) table → EndsFrom plan e (set table (ends_index from to) (Some e))
   ends-put e from to table h is lf lt g =
       record {
-        size = length-set table (ends_index from to) (e + 1) ∙ g.size;
+        size = length-set table (ends_index from to) (Some e) ∙ g.size;
         is = λ a b la lb. by a b la lb (leads plan a b e) refl;
       }
     where
@@ -56,14 +58,14 @@ module _ (plan : Plan) where
       to_is = ap (λ (l : Link). l.to) is
 
       by : (a b : ℕ) → a < most_vertices → b < most_vertices → (t : Bool) → leads plan a b e ≡ t →
-          get_or (set table (ends_index from to) (e + 1)) (ends_index a b) 0 ≡ lowest_from plan a b e
+          get_or (set table (ends_index from to) (Some e)) (ends_index a b) None ≡ lowest_from plan a b e
       by a b la lb true p =
           let two = (and-eq-true_iff (eqb b (link_of plan e).to) (eqb a (link_of plan e).from)).0 p in
           let first : a ≡ from = eqb-true a (link_of plan e).from two.1 ∙ from_is in
           let last : b ≡ to = eqb-true b (link_of plan e).to two.0 ∙ to_is in
-          rw (low-here a b e h p, first, last) (get_or-set_same table (ends_index from to) (e + 1) 0 (omega (arith, g.size)))
+          rw (low-here a b e h p, first, last) (get_or-set_same table (ends_index from to) (Some e) None (omega (arith, g.size)))
       by a b la lb false p =
-          get_or-set_other table (ends_index from to) (ends_index a b) (e + 1) 0 (λ same. true≢false (sym (both same) ∙ p)) ∙ g.is a b la lb ∙
+          get_or-set_other table (ends_index from to) (ends_index a b) (Some e) None (λ same. true≢false (sym (both same) ∙ p)) ∙ g.is a b la lb ∙
           sym (low-next a b e h p)
         where
           both : ends_index a b ≡ ends_index from to → leads plan a b e ≡ true
@@ -72,32 +74,25 @@ module _ (plan : Plan) where
 
   -- the lowest of all links
   low-all : (a b : ℕ) →
-      lowest_from plan a b 0 ≡ cond (some (leads plan a b) (length plan.links)) (lowest (leads plan a b) (length plan.links) + 1) 0
+      lowest_from plan a b 0 ≡ cond (some (leads plan a b) (length plan.links)) (Some (lowest (leads plan a b) (length plan.links))) None
   low-all a b =
       let all : length plan.links - 0 ≡ length plan.links = omega arith in
       rw all
 
-  -- a byte of the ends of link e reversed: no link goes back, or the one before that number does
-  module _ (e byte : ℕ) (is : byte ≡ lowest_from plan (link_of plan e).to (link_of plan e).from 0) where
+  -- what goes back from the ends of link e: no link, or the other way of it
+  module _ (e : ℕ) where
     abbrev goes_back : ℕ → Bool
     goes_back = leads plan (link_of plan e).to (link_of plan e).from
 
-    pub other_none : byte ≡ 0 → other_way plan e ≡ e
+    pub other-found : (back : Option ℕ) → back ≡ lowest_from plan (link_of plan e).to (link_of plan e).from 0 →
+        unwrap_or back e ≡ other_way plan e
     unfolding other_way
-    other_none h = by (some goes_back (length plan.links)) (sym (is ∙ low-all (link_of plan e).to (link_of plan e).from) ∙ h)
+    other-found back is =
+        rw (is ∙ low-all (link_of plan e).to (link_of plan e).from) (by (some goes_back (length plan.links)))
       where
-        by : (t : Bool) → cond t (lowest goes_back (length plan.links) + 1) 0 ≡ 0 → cond t (lowest goes_back (length plan.links)) e ≡ e
-        by true g = absurd (omega arith)
-        by false g = refl
-
-    pub other-found : (byte ≡ 0 → ⊥) → other_way plan e ≡ byte - 1
-    unfolding other_way
-    other-found h = by (some goes_back (length plan.links)) (is ∙ low-all (link_of plan e).to (link_of plan e).from)
-      where
-        by : (t : Bool) → byte ≡ cond t (lowest goes_back (length plan.links) + 1) 0 →
-            cond t (lowest goes_back (length plan.links)) e ≡ byte - 1
-        by true g = omega arith
-        by false g = absurd (h g)
+        by : (t : Bool) → unwrap_or (cond t (Some (lowest goes_back (length plan.links))) None) e ≡ cond t (lowest goes_back (length plan.links)) e
+        by true = refl
+        by false = refl
 
 -- the same of a row that its plan lies in
 module _ (row : List ℕ) (lies : PlanLies row) where
@@ -109,37 +104,25 @@ module _ (row : List ℕ) (lies : PlanLies row) where
       let to_is : to ≡ at row (6 + 2 * e) = t.is ∙ ap (at row) (omega arith) in
       (link_at row e h ∙ rw (from_is, to_is), omega (arith, from_is, lies.from e h), omega (arith, to_is, lies.to e h))
 
-  -- a loop from the last link down: it begins, it goes on, it is done
-  pub putting_first : (e : ℕ) → e ≡ link_count row → EndsFrom (plan_of row) e (replicate ends_size 0)
+  -- a loop from the last link down: it begins, it goes on
+  pub putting_first : (e : ℕ) → e ≡ link_count row → EndsFrom (plan_of row) e (replicate ends_size None)
   putting_first e h = ends-none (plan_of row) e (omega (arith, link-count row))
 
-  pub putting_next : (e from to : ℕ) (table : List ℕ) → 0 < e → e ≤ link_count row → Number row ((e - 1) * 2 + 5) from →
+  pub putting_next : (e from to : ℕ) (table : List (Option ℕ)) → 0 < e → e ≤ link_count row → Number row ((e - 1) * 2 + 5) from →
       Number row ((e - 1) * 2 + 6) to → EndsFrom (plan_of row) e table →
-      EndsFrom (plan_of row) (e - 1) (set table (ends_index from to) (e - 1 + 1))
+      EndsFrom (plan_of row) (e - 1) (set table (ends_index from to) (Some (e - 1)))
   putting_next e from to table pos few f t g =
       let back : e - 1 + 1 ≡ e = omega arith in
       let are = ends-are (e - 1) from to (omega arith) f t in
       ends-put (plan_of row) (e - 1) from to table (omega (arith, link-count row)) are.0 are.1 are.2 (rw back g)
 
-  pub putting_done : (e : ℕ) (table : List ℕ) → e ≤ 0 → EndsFrom (plan_of row) e table → EndsFrom (plan_of row) 0 table
-  putting_done e table h g = let z : 0 ≡ e = omega arith in rw z g
-
-  -- the other way of a link: it is the link itself, or the byte of the ends reversed less one
-  module _ (e from to : ℕ) (table : List ℕ) (h : e < link_count row) (f : Number row (e * 2 + 5) from) (t : Number row (e * 2 + 6) to)
-      (g : EndsFrom (plan_of row) 0 table) where
-    -- what that byte is, and that the other way is a link of so few
-    byte_is : get_or table (ends_index to from) 0 ≡ lowest_from (plan_of row) (link_of (plan_of row) e).to (link_of (plan_of row) e).from 0
-    byte_is = let are = ends-are e from to h f t in g.is to from are.2 are.1 ∙ rw are.0
-
-    other-small : other_way (plan_of row) e < most_links
-    other-small = omega (arith, other-below (plan_of row) e (omega (arith, link-count row)), link-count row, lies.links)
-
-    pub found_none : get_or table (ends_index to from) 0 ≡ 0 → IsOther (plan_of row) e e
-    found_none z =
-        let is : e ≡ other_way (plan_of row) e = sym (other_none (plan_of row) e _ byte_is z) in
-        record { is = is; below = omega (arith, other-small) }
-
-    pub found_one : (get_or table (ends_index to from) 0 ≡ 0 → ⊥) → IsOther (plan_of row) e (get_or table (ends_index to from) 0 - 1)
-    found_one z =
-        let is : get_or table (ends_index to from) 0 - 1 ≡ other_way (plan_of row) e = sym (other-found (plan_of row) e _ byte_is z) in
-        record { is = is; below = omega (arith, other-small) }
+  -- the other way of a link, read off its ends reversed
+  pub found : (e from to : ℕ) (table : List (Option ℕ)) → e < link_count row → Number row (e * 2 + 5) from → Number row (e * 2 + 6) to →
+      EndsFrom (plan_of row) 0 table → IsOther (plan_of row) e (unwrap_or (get_or table (ends_index to from) None) e)
+  found e from to table h f t g =
+      let are = ends-are e from to h f t in
+      let few : other_way (plan_of row) e < most_links =
+      omega (arith, other-below (plan_of row) e (omega (arith, link-count row)), link-count row, lies.links) in
+      let is : unwrap_or (get_or table (ends_index to from) None) e ≡ other_way (plan_of row) e =
+      other-found (plan_of row) e (get_or table (ends_index to from) None) (g.is to from are.2 are.1 ∙ rw are.0) in
+      record { is = is; below = rw is few }

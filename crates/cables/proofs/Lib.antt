@@ -1,2 +1,3 @@
 pub mod Bytes
 pub mod Ends
+pub mod Made

@@ -1,5 +1,5 @@
--- The lowest link with each two ends, as a list of bytes: that link plus one, or 0 where there is none.
-use Rattle.std.specs.Prelude.{ℕ, ◌+◌, ◌-◌, ◌*◌, ◌<◌, ◌≡◌, Bool, cond, List, length, get_or, replicate, ltb}
+-- The lowest link with each two ends, as a list.
+use Rattle.std.specs.Prelude.{ℕ, ◌+◌, ◌-◌, ◌*◌, ◌<◌, ◌≡◌, Bool, cond, Option, Some, None, List, length, get_or, replicate, ltb}
 use Rattle.scope.specs.Limits.{most_vertices, most_links, ends_size}
 use Rattle.scope.specs.Lowest.{seek}
 use Rattle.scope.specs.Plan.{Plan, link_of, link_count, plan_of}
@@ -10,27 +10,27 @@ use Rattle.rows.specs.Lies.{PlanLies}
 abbrev pub leads : Plan → ℕ → ℕ → ℕ → Bool
 leads plan a b e = reversed_ends (record { from = b; to = a }) (link_of plan e)
 
--- the lowest from link e on that does, plus one, or 0
-abbrev pub lowest_from : Plan → ℕ → ℕ → ℕ → ℕ
+-- the lowest from link e on that does
+abbrev pub lowest_from : Plan → ℕ → ℕ → ℕ → Option ℕ
 lowest_from plan a b e =
     let n = length plan.links in
     let d = seek (leads plan a b) (n - e) e in
-    cond (ltb d n) (d + 1) 0
+    cond (ltb d n) (Some d) None
 
--- where the bytes have two ends
+-- where the list has two ends
 abbrev pub ends_index : ℕ → ℕ → ℕ
 ends_index a b = a * most_vertices + b
 
--- each byte is of the links from link e on
-pub record EndsFrom (plan : Plan) (e : ℕ) (table : List ℕ) : Type 0 where
+-- it has those from link e on
+pub record EndsFrom (plan : Plan) (e : ℕ) (table : List (Option ℕ)) : Type 0 where
   pub size : length table ≡ ends_size
-  pub is : (a b : ℕ) → a < most_vertices → b < most_vertices → get_or table (ends_index a b) 0 ≡ lowest_from plan a b e
+  pub is : (a b : ℕ) → a < most_vertices → b < most_vertices → get_or table (ends_index a b) None ≡ lowest_from plan a b e
 
-pub record MayPut (row table : List ℕ) : Type 0 where
+pub record MayPut (row : List ℕ) (table : List (Option ℕ)) : Type 0 where
   pub lies : PlanLies row
-  pub clear : table ≡ replicate ends_size 0
+  pub clear : table ≡ replicate ends_size None
 
-pub record MayFind (row table : List ℕ) (e : ℕ) : Type 0 where
+pub record MayFind (row : List ℕ) (table : List (Option ℕ)) (e : ℕ) : Type 0 where
   pub lies : PlanLies row
   pub ends : EndsFrom (plan_of row) 0 table
   pub there : e < link_count row

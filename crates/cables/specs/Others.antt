@@ -1,5 +1,6 @@
 -- The other way of each link, as a list with a byte a link.
-use Rattle.std.specs.Prelude.{ℕ, zero, suc, ◌+◌, ◌<◌, ◌≡◌, cond, List, [], ◌∷◌, length, get_or, ltb}
+use Rattle.std.specs.Prelude.{ℕ, ◌<◌, ◌≡◌, cond, List, length, map, get_or, ltb}
+use Rattle.std.specs.List.{range_with_len}
 use Rattle.scope.specs.Limits.{most_links}
 use Rattle.scope.specs.Plan.{Plan}
 use Rattle.scope.specs.Cables.{other_way}
@@ -18,11 +19,6 @@ pub record OtherWays (plan : Plan) (others : List ℕ) : Type 0 where
   pub bytes : AreLinks others
   pub is : (e : ℕ) → e < length plan.links → other_in others e ≡ other_way plan e
 
--- for n links from link e on, 1 where it is the higher one of its cable, else 0
-unfoldable pub higher_from : List ℕ → ℕ → ℕ → List ℕ
-higher_from others zero e = []
-higher_from others (suc n) e = cond (ltb (other_in others e) e) 1 0 ∷ higher_from others n (e + 1)
-
--- for every link that a plan can have
-abbrev pub higher_of : List ℕ → List ℕ
-higher_of others = higher_from others most_links 0
+-- for every link that a plan can have, 1 where it is the higher one of its cable, else 0
+unfoldable pub higher_of : List ℕ → List ℕ
+higher_of others = map (λ e. cond (ltb (other_in others e) e) 1 0) (range_with_len 0 most_links)

@@ -1,7 +1,7 @@
 // Cables (document 02, [3]): the other way of each link, found once for a plan, and the links that are no cable's name. It leans on `rows`
 // for where the ends of a link stand.
 //
-// A byte for each two ends holds the lowest link that has them, plus one; so the link that goes back is one read.
+// A table holds for each two ends the lowest link that has them; so the link that goes back is one read.
 
 #![tactic(auto)]
 
@@ -12,15 +12,15 @@ ghost use Rattle.cables.specs.Others.{other_in, higher_of, OtherWays};
 ghost use Rattle.cables.specs.Ends.{MayPut, EndsFrom, MayFind, IsOther};
 
 use scope::limits::{ENDS, LINKS, VERTICES};
+use std::array;
 
 // The other way of a link, from a byte a link; a link past them is its own.
 pub fn other(others: &[u8], e: usize) -> usize
     ensures { result ≡ other_in others.now e }
 {
-    if e < others.len() {
-        others[e] as usize
-    } else {
-        e
+    match others.get(e) {
+        Some(o) => usize::from(*o),
+        None => e,
     }
 }
 
@@ -35,43 +35,29 @@ pub fn is_higher(others: &[u8], e: usize) -> bool
 pub fn higher(others: &[u8]) -> [u8; LINKS]
     ensures { result ≡ higher_of others.now }
 {
-    let mut those = [0u8; LINKS];
-    let mut e = 0;
-    while e < LINKS {
-        if is_higher(others, e) {
-            those[e] = 1;
-        }
-        e += 1;
-    }
-    those
+    array::from_fn(|e| u8::from(is_higher(others, e)))
 }
 
-// For each two ends the lowest link that has them, plus one, where the bytes are 0 before.
-fn put_ends(row: &[u16], table: &mut [u8])
+// For each two ends the lowest link that has them, where the table has none before.
+fn put_ends(row: &[u16], table: &mut [Option<u8>; ENDS])
     requires { MayPut row.now table.old }
     ensures { EndsFrom (plan_of row.now) 0 table.new }
 {
-    let mut e = rows::links(row);
-    while 0 < e {
-        e -= 1;
+    for e in (0..rows::links(row)).rev() {
         let from = rows::number(row, e * 2 + 5);
         let to = rows::number(row, e * 2 + 6);
-        table[from * VERTICES + to] = (e + 1) as u8;
+        table[from * VERTICES + to] = Some(e as u8);
     }
 }
 
 // The other way of link e.
-fn other_of(row: &[u16], table: &[u8], e: usize) -> u8
+fn other_of(row: &[u16], table: &[Option<u8>; ENDS], e: usize) -> u8
     requires { MayFind row.now table.now e }
     ensures { IsOther (plan_of row.now) e result }
 {
     let from = rows::number(row, e * 2 + 5);
     let to = rows::number(row, e * 2 + 6);
-    let back = table[to * VERTICES + from];
-    if back == 0 {
-        return e as u8;
-    }
-    back - 1
+    table[to * VERTICES + from].unwrap_or(e as u8)
 }
 
 // The other way of each link of a row's plan. A byte past its links is of no link.
@@ -79,14 +65,11 @@ pub fn other_ways(row: &[u16]) -> [u8; LINKS]
     requires { PlanLies row.now }
     ensures { OtherWays (plan_of row.now) result }
 {
-    let mut table = [0u8; ENDS];
+    let mut table = [None; ENDS];
     put_ends(row, &mut table);
-    let n = rows::links(row);
-    let mut others = [0u8; LINKS];
-    let mut e = 0;
-    while e < n {
+    let mut others = [0; LINKS];
+    for e in 0..rows::links(row) {
         others[e] = other_of(row, &table, e);
-        e += 1;
     }
     others
 }

@@ -8,14 +8,16 @@ use lib.ListN.{length, set, length-set, length-append}
 use lib.Seq.{get_or-set_same, get_or-set_other}
 use lib.Dec.{ltb, eqb}
 use borrow.Author.Tests.{eq-eqb, ne_eqb, ltb-true, ltb-false, eqb-true, eqb-false}
+use Rattle.std.proofs.Common.{Option, Some, None, MatchOption}
 use Rattle.scope.specs.Limits.{most_slots, most_links, most_messages, crossed_size}
 use Rattle.scope.specs.Plan.{Plan, plan_of}
-use Rattle.scope.specs.Capture.{triples, seen_slot, seen_link, seen_message, bad_triple, is_captured}
+use Rattle.scope.specs.Capture.{triples, seen_slot, seen_link, seen_message, bad_triple, triple_before, is_captured}
 use Rattle.scope.proofs.Bools.{or_left, or_right, and_left, and_right}
 use Rattle.scope.proofs.Some.{none, none_below}
 use Rattle.rows.proofs.Parts.{timeout-is, link-count, message-count}
+use Rattle.capture.specs.declared.Triple.{Triple}
 use Rattle.capture.specs.declared.Kept.{Kept}
-use Rattle.capture.specs.Kept.{Keeps, Fits, Clash, MayAdd, Adds, crossed_index, crossed_at, code_of, last_of}
+use Rattle.capture.specs.Kept.{Keeps, Fits, Clash, MayAdd, Adds, crossed_index, crossed_at, code_of, code, FitsTriple, FitsLast, IsLast}
 use Rattle.capture.specs.Adding.{in_range, rises_behind, Marks, spoilt, with_triple}
 use Rattle.capture.proofs.Triples as law
 use Rattle.capture.proofs.Keeping.{fits-spoilt, keeps-more, keeps-spoilt}
@@ -31,16 +33,20 @@ message-below : (plan : Plan) (a b c : ℕ) → in_range plan a b c ≡ true →
 message-below plan a b c h = ltb-true _ _ (and_right (ltb a plan.timeout && ltb b (length plan.links)) _ h)
 
 -- one test that a triple does not pass
-pub not_in_range : (plan : Plan) (k : Kept) (a b c : ℕ) → in_range plan a b c ≡ false → (in_range plan a b c && rises_behind k a b c) ≡ false
+pub not_in_range : (plan : Plan) (k : Kept) (a b c : ℕ) → in_range plan a b c ≡ false → (in_range plan a b c && rises_behind k.last a b c) ≡ false
 not_in_range plan k a b c h = rw h
 
-pub not_risen : (plan : Plan) (k : Kept) (a b c : ℕ) → rises_behind k a b c ≡ false → (in_range plan a b c && rises_behind k a b c) ≡ false
+pub not_risen : (plan : Plan) (k : Kept) (a b c : ℕ) → rises_behind k.last a b c ≡ false → (in_range plan a b c && rises_behind k.last a b c) ≡ false
 not_risen plan k a b c h = rw h (and-false (in_range plan a b c))
 
--- a triple that rises has a higher number than the last one
-risen : (k : Kept) (a b c : ℕ) → Fits k → rises_behind k a b c ≡ true → 0 < k.count → last_of k < code_of a b c
-risen k a b c f h l =
-    law.before-code k.slot k.link k.message a b c f.link f.message (rw (ne_eqb k.count 0 (λ z. omega arith)) at h)
+-- a triple that rises has a higher number than the last one, and so than those before it
+risen : (n : ℕ) (t : Triple) (a b c : ℕ) → FitsTriple n t → triple_before t.slot t.link t.message a b c ≡ true → code t < code_of a b c
+risen n t a b c f h = law.before-code t.slot t.link t.message a b c f.link f.message h
+
+older : (n : ℕ) (last : Option Triple) (a b c x : ℕ) → FitsLast n last → rises_behind last a b c ≡ true →
+    MatchOption last ⊥ (λ t. x ≤ code t) → x < code_of a b c
+older n None a b c x f h l = absurd l
+older n (Some t) a b c x f h l = omega (arith, risen n t a b c f h)
 
 -- two numbers are one where those after them are
 next-same : (b e : ℕ) → eqb b e ≡ eqb (b + 1) (e + 1)
@@ -60,30 +66,36 @@ marks-size crossed a b c crossed' again size marks = by again marks.table
     by false e = ap length e ∙ length-set crossed (crossed_index a c) (b + 1) ∙ size
 
 -- what is kept with it stays small
-fits_more : (k : Kept) (a b c : ℕ) (again : Bool) → Fits k → a < most_slots → b < most_links → c < most_messages → rises_behind k a b c ≡ true →
+fits_more : (k : Kept) (a b c : ℕ) (again : Bool) → Fits k → a < most_slots → b < most_links → c < most_messages → rises_behind k.last a b c ≡ true →
     Fits (with_triple k a b c again)
-fits_more k a b c again f early low known rises = record { slot = early; link = low; message = known; few = by (ltb 0 k.count) refl }
+fits_more k a b c again f early low known rises =
+    record { last = record { slot = early; link = low; message = known; few = by k.last f.last rises } }
   where
-    by : (t : Bool) → ltb 0 k.count ≡ t → k.count + 1 ≤ code_of a b c + 1
-    by true t =
-        let less : last_of k < code_of a b c = risen k a b c f rises (ltb-true 0 k.count t) in
-        omega (arith, f.few)
-    by false t = let z : k.count ≤ 0 = ltb-false 0 k.count t in omega arith
+    by : (last : Option Triple) → FitsLast k.count last → rises_behind last a b c ≡ true → k.count + 1 ≤ code_of a b c + 1
+    by None f h = omega arith
+    by (Some t) f h = omega (arith, f.few, risen k.count t a b c f h)
 
 module _ (plan : Plan) (capture crossed : List ℕ) (k : Kept) (keeps : Keeps plan capture crossed k) (good : k.bad ≡ false) (a b c : ℕ) where
-  bad_now : bad_triple plan (capture ++ a ∷ b ∷ c ∷ []) k.count ≡ not (in_range plan a b c && rises_behind k a b c)
-  bad_now =
-      let all = keeps.all good in
-      law.one_bad capture k.count all.long a b c plan k.slot k.link k.message all.slot all.link all.message
+  bad_now : bad_triple plan (capture ++ a ∷ b ∷ c ∷ []) k.count ≡ not (in_range plan a b c && rises_behind k.last a b c)
+  bad_now = by k.last (keeps.all good).last
+    where
+      by : (last : Option Triple) → MatchOption last (k.count ≡ 0) (IsLast capture k.count) →
+          bad_triple plan (capture ++ a ∷ b ∷ c ∷ []) k.count ≡ not (in_range plan a b c && rises_behind last a b c)
+      by None z =
+          law.one_bad capture k.count (keeps.all good).long a b c plan 0 0 0 (λ l. absurd (omega arith)) (λ l. absurd (omega arith))
+          (λ l. absurd (omega arith)) ∙ rw (eq-eqb k.count 0 z)
+      by (Some t) is =
+          law.one_bad capture k.count (keeps.all good).long a b c plan t.slot t.link t.message (λ _. is.slot) (λ _. is.link) (λ _. is.message) ∙
+          rw (ne_eqb k.count 0 (λ z. omega (arith, is.some)))
 
   -- it is bad
-  pub one_spoilt : (in_range plan a b c && rises_behind k a b c) ≡ false → Keeps plan (capture ++ a ∷ b ∷ c ∷ []) crossed (spoilt k)
+  pub one_spoilt : (in_range plan a b c && rises_behind k.last a b c) ≡ false → Keeps plan (capture ++ a ∷ b ∷ c ∷ []) crossed (spoilt k)
   one_spoilt h =
       keeps-spoilt plan capture crossed k keeps good (a ∷ b ∷ c ∷ [])
       (omega (arith, length-append capture (a ∷ b ∷ c ∷ []), (keeps.all good).long)) (bad_now ∙ ap not h)
 
   -- it is good
-  module _ (crossed' : List ℕ) (again : Bool) (range : in_range plan a b c ≡ true) (rises : rises_behind k a b c ≡ true)
+  module _ (crossed' : List ℕ) (again : Bool) (range : in_range plan a b c ≡ true) (rises : rises_behind k.last a b c ≡ true)
       (early : a < most_slots) (low : b < most_links) (known : c < most_messages) (marks : Marks crossed a b c crossed' again) where
     captured : (i e m : ℕ) → is_captured (capture ++ a ∷ b ∷ c ∷ []) i e m ≡ (is_captured capture i e m || (eqb a i && eqb b e && eqb c m))
     captured = law.one_captured capture k.count (keeps.all good).long a b c
@@ -95,21 +107,18 @@ module _ (plan : Plan) (capture crossed : List ℕ) (k : Kept) (keeps : Keeps pl
     here : is_captured (capture ++ a ∷ b ∷ c ∷ []) a b c ≡ true
     here = captured a b c ∙ rw (eq-eqb a a refl, eq-eqb b b refl, eq-eqb c c refl) (or-true (is_captured capture a b c))
 
-    last : (i e m : ℕ) → is_captured (capture ++ a ∷ b ∷ c ∷ []) i e m ≡ true → (0 < k.count + 1) × (code_of i e m ≤ code_of a b c)
-    last i e m h = by (is_captured capture i e m) refl
+    most : (i e m : ℕ) → is_captured (capture ++ a ∷ b ∷ c ∷ []) i e m ≡ true → code_of i e m ≤ code_of a b c
+    most i e m h = by (is_captured capture i e m) refl
       where
-        by : (t : Bool) → is_captured capture i e m ≡ t → (0 < k.count + 1) × (code_of i e m ≤ code_of a b c)
-        by true t =
-            let old = (keeps.all good).last i e m t in
-            let less : last_of k < code_of a b c = risen k a b c keeps.fits rises old.0 in
-            (omega arith, omega (arith, old.1))
+        by : (t : Bool) → is_captured capture i e m ≡ t → code_of i e m ≤ code_of a b c
+        by true t = omega (arith, older k.count k.last a b c (code_of i e m) keeps.fits.last rises ((keeps.all good).most i e m t))
         by false t =
             let same : ((eqb a i && eqb b e) && eqb c m) ≡ true = rw (captured i e m, t) at h in
             let both : (eqb a i && eqb b e) ≡ true = and_left (eqb a i && eqb b e) (eqb c m) same in
             let p : a ≡ i = eqb-true a i (and_left (eqb a i) (eqb b e) both) in
             let q : b ≡ e = eqb-true b e (and_right (eqb a i) (eqb b e) both) in
             let r : c ≡ m = eqb-true c m (and_right (eqb a i && eqb b e) (eqb c m) same) in
-            (omega arith, omega arith)
+            omega arith
 
     -- where no link was marked before, this one is
     marked : (k.twice || again) ≡ false → (i e m : ℕ) → i < most_slots → m < most_messages →
@@ -181,9 +190,9 @@ module _ (plan : Plan) (capture crossed : List ℕ) (k : Kept) (keeps : Keeps pl
               early = slot-below plan a b c range;
               known = message-below plan a b c range;
               differ = λ z.
-                  let old = (keeps.all good).last a b c (rw z before) in
-                  let less : last_of k < code_of a b c = risen k a b c keeps.fits rises old.0 in
-                  omega (arith, old.1);
+                  let less : code_of a b c < code_of a b c =
+                  older k.count k.last a b c (code_of a b c) keeps.fits.last rises ((keeps.all good).most a b c (rw z before)) in
+                  omega arith;
               here = here;
               there = still a (cell - 1) c before;
             }
@@ -198,11 +207,14 @@ module _ (plan : Plan) (capture crossed : List ℕ) (k : Kept) (keeps : Keeps pl
       place = λ h. absurd (false≢true h);
       all = λ _. record {
         long = law.one_long capture k.count (keeps.all good).long a b c;
-        slot = λ _. ap (seen_slot (capture ++ a ∷ b ∷ c ∷ [])) (omega arith) ∙ law.slot_is capture k.count (keeps.all good).long a b c;
-        link = λ _. ap (seen_link (capture ++ a ∷ b ∷ c ∷ [])) (omega arith) ∙ law.link-is capture k.count (keeps.all good).long a b c;
-        message = λ _. ap (seen_message (capture ++ a ∷ b ∷ c ∷ [])) (omega arith) ∙
-            law.message-is capture k.count (keeps.all good).long a b c;
-        last = last;
+        last = record {
+          some = omega arith;
+          slot = ap (seen_slot (capture ++ a ∷ b ∷ c ∷ [])) (omega arith) ∙ law.slot_is capture k.count (keeps.all good).long a b c;
+          link = ap (seen_link (capture ++ a ∷ b ∷ c ∷ [])) (omega arith) ∙ law.link-is capture k.count (keeps.all good).long a b c;
+          message = ap (seen_message (capture ++ a ∷ b ∷ c ∷ [])) (omega arith) ∙
+              law.message-is capture k.count (keeps.all good).long a b c;
+        };
+        most = most;
         marks = marked;
         clash = clashes;
       };
@@ -230,7 +242,7 @@ module _ (row crossed : List ℕ) (k : Kept) (may : MayAdd row crossed k) (a b c
     keeps = λ capture w keeps. keeps-more (plan_of row) capture crossed k keeps w h (a ∷ b ∷ c ∷ []);
   }
 
-  pub adds-bad : (r : Kept) → k.bad ≡ false → (in_range (plan_of row) a b c && rises_behind k a b c) ≡ false → r ≡ spoilt k →
+  pub adds-bad : (r : Kept) → k.bad ≡ false → (in_range (plan_of row) a b c && rises_behind k.last a b c) ≡ false → r ≡ spoilt k →
       Adds (plan_of row) a b c crossed k crossed r
   adds-bad r good h e = rw e record {
     size = may.size;
@@ -245,7 +257,7 @@ module _ (row crossed : List ℕ) (k : Kept) (may : MayAdd row crossed k) (a b c
     omega (arith, message-below (plan_of row) a b c h, message-count row, may.small.messages),
   )
 
-  pub adds-good : (crossed' : List ℕ) (again : Bool) → k.bad ≡ false → in_range (plan_of row) a b c ≡ true → rises_behind k a b c ≡ true →
+  pub adds-good : (crossed' : List ℕ) (again : Bool) → k.bad ≡ false → in_range (plan_of row) a b c ≡ true → rises_behind k.last a b c ≡ true →
       Marks crossed a b c crossed' again → Adds (plan_of row) a b c crossed k crossed' (with_triple k a b c again)
   adds-good crossed' again good range rises marks =
       let small = in_table range in record {

@@ -21,10 +21,8 @@ module _ (plan : Plan) where
   keeps-all : KeepsAll plan [] (replicate crossed_size 0) nothing_kept
   keeps-all = record {
     long = refl;
-    slot = λ l. absurd (omega arith);
-    link = λ l. absurd (omega arith);
-    message = λ l. absurd (omega arith);
-    last = λ i e m h. absurd (false≢true (sym (captured-none i e m) ∙ h));
+    last = refl;
+    most = λ i e m h. false≢true (sym (captured-none i e m) ∙ h);
     marks = λ _ i e m l g. captured-none i e m ∙
         sym (rw (get_or-replicate {A = ℕ} crossed_size (crossed_index i m) 0 0 (omega arith)) (ne_eqb 0 (e + 1) (λ z. omega arith)));
     clash = λ h. absurd (false≢true h);
@@ -33,17 +31,17 @@ module _ (plan : Plan) where
   keeps-none : Keeps plan [] (replicate crossed_size 0) nothing_kept
   keeps-none = record {
     size = length-replicate {A = ℕ} crossed_size 0;
-    fits = record { slot = omega arith; link = omega arith; message = omega arith; few = omega arith };
+    fits = record { last = refl };
     bad = sym (none (bad_triple plan []) (triples []) (λ i l. absurd (omega arith)));
     place = λ h. absurd (false≢true h);
     all = λ _. keeps-all;
   }
 
 pub begins : Begins nothing_kept
-begins = record { fits = record { slot = omega arith; link = omega arith; message = omega arith; few = omega arith }; keeps = keeps-none }
+begins = record { fits = record { last = refl }; keeps = keeps-none }
 
 pub fits-spoilt : (k : Kept) → Fits k → Fits (spoilt k)
-fits-spoilt k f = record { slot = f.slot; link = f.link; message = f.message; few = f.few }
+fits-spoilt k f = record { last = f.last }
 
 module _ (plan : Plan) (capture crossed : List ℕ) (k : Kept) (keeps : Keeps plan capture crossed k) where
   -- refusal 23 of a capture, or how many triples it has

@@ -1,5 +1,5 @@
 pub mod Triples
 pub mod Keeping
 pub mod Adding
-pub mod Tests
 pub mod Walk
+pub mod Sizes

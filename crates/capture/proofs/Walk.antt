@@ -1,62 +1,53 @@
--- A walk over a capture, triple by triple: what is kept of the first j of them.
-use Prim.Native.Nat.{ℕ, suc, ◌+◌, ◌*◌, ◌/◌, ◌≤◌, ◌<◌}
-use mathlib.Core.Path.{◌≡◌, ◌∙◌, ap}
-use mathlib.Core.Bool.{true}
-use mathlib.Core.List.{List, [], ◌∷◌, ◌++◌}
-use native.Mathlib.Numerals.{add-one}
-use native.Mathlib.Omega.{arith}
-use lib.ListN.{length, get_or, take, drop, replicate, length-replicate, take-append-drop, length-drop}
-use lib.Seq.{take-add, drop-cons, take_all, length-take-le}
+-- A walk over a capture, triple by triple: what is kept of those before the rest.
+use Rattle.std.proofs.Common.{◌≡◌, ℕ, ◌<◌, true, List, [], ◌∷◌, ◌++◌, length, get_or, replicate, min, refl, sym, ◌∙◌, ap, append-nil, append_assoc, arith, length-append}
 use Rattle.scope.specs.Limits.{crossed_size}
 use Rattle.scope.specs.Plan.{Plan}
 use Rattle.capture.specs.declared.Kept.{Kept}
 use Rattle.capture.specs.Kept.{Keeps, Whole, Begins, Adds, Ends}
 use Rattle.capture.proofs.Keeping.{keeps-more}
 
-pub zeros : (crossed : List ℕ) → crossed ≡ replicate crossed_size 0 → length crossed ≡ crossed_size
-zeros crossed e = ap length e ∙ length-replicate {A = ℕ} crossed_size 0
+-- a list of three numbers, and one that is empty
+three : (xs : List ℕ) → length xs ≡ 3 → xs ≡ get_or xs 0 0 ∷ get_or xs 1 0 ∷ get_or xs 2 0 ∷ []
+three [] h = absurd (omega arith)
+three (a ∷ []) h = absurd (omega arith)
+three (a ∷ b ∷ []) h = absurd (omega arith)
+three (a ∷ b ∷ c ∷ []) h = refl
+three (a ∷ b ∷ c ∷ d ∷ xs) h = absurd (omega arith)
+
+empty : (xs : List ℕ) → length xs ≡ 0 → xs ≡ []
+empty [] h = refl
+empty (a ∷ xs) h = absurd (omega arith)
 
 module _ (plan : Plan) (capture : List ℕ) where
-  pub walk_first : (crossed : List ℕ) (k : Kept) → crossed ≡ replicate crossed_size 0 → Begins k → Keeps plan (take (3 * 0) capture) crossed k
-  walk_first crossed k e b = rw e (b.keeps plan)
+  -- the triples before the rest are kept
+  pub record Walking (rest crossed : List ℕ) (k : Kept) : Type 0 where
+    pub front : List ℕ
+    pub joined : front ++ rest ≡ capture
+    pub whole : Whole front
+    pub keeps : Keeps plan front crossed k
 
-  whole : (j : ℕ) → 3 * j ≤ length capture → Whole (take (3 * j) capture)
-  whole j h = omega (arith, length-take-le (3 * j) capture h)
+  -- it begins, it goes on, the next triple is unfinished or bad
+  pub walk_first : (rest crossed : List ℕ) (k : Kept) → rest ≡ capture → crossed ≡ replicate crossed_size 0 → Begins k → Walking rest crossed k
+  walk_first rest crossed k all e b = record { front = []; joined = all; whole = refl; keeps = rw e (b.keeps plan) }
 
-  -- the first triples, and one more
-  more : (j : ℕ) → 3 * j + 3 ≤ length capture →
-      take (3 * (j + 1)) capture ≡ take (3 * j) capture ++ get_or capture (3 * j) 0 ∷ get_or capture (3 * j + 1) 0 ∷ get_or capture (3 * j + 2) 0 ∷ []
-  more j h =
-      let e : 3 * (j + 1) ≡ 3 * j + 3 = omega arith in
-      let one : drop (3 * j) capture ≡ get_or capture (3 * j) 0 ∷ drop (3 * j + 1) capture =
-      drop-cons capture (3 * j) 0 (omega arith) ∙ rw (add-one (3 * j)) in
-      let f : suc (3 * j + 1) ≡ 3 * j + 2 = omega arith in
-      let two : drop (3 * j + 1) capture ≡ get_or capture (3 * j + 1) 0 ∷ drop (3 * j + 2) capture =
-      drop-cons capture (3 * j + 1) 0 (omega arith) ∙ rw f in
-      let three : drop (3 * j + 2) capture ≡ get_or capture (3 * j + 2) 0 ∷ drop (suc (3 * j + 2)) capture =
-      drop-cons capture (3 * j + 2) 0 (omega arith) in
-      rw (e, take-add (3 * j) 3 capture, one, two, three)
+  module _ (rest crossed : List ℕ) (k : Kept) (w : Walking rest crossed k) (piece rest' crossed' : List ℕ) (r : Kept)
+      (cut : rest ≡ piece ++ rest') where
+    pub walk_next : (a b c : ℕ) → length piece ≡ 3 → a ≡ get_or piece 0 0 → b ≡ get_or piece 1 0 → c ≡ get_or piece 2 0 →
+        Adds plan a b c crossed k crossed' r → Walking rest' crossed' r
+    walk_next a b c h p q s adds =
+        let e : piece ≡ a ∷ b ∷ c ∷ [] = rw (p, q, s) (three piece h) in record {
+          front = w.front ++ piece;
+          joined = append_assoc w.front piece rest' ∙ ap (λ xs. w.front ++ xs) (sym cut) ∙ w.joined;
+          whole = omega (arith, w.whole, length-append w.front piece);
+          keeps = rw e (adds.keeps w.front w.whole w.keeps);
+        }
 
-  module _ (j a b c : ℕ) (crossed crossed' : List ℕ) (k r : Kept) (n : ℕ) (count : n ≡ length capture / 3) (h : j < n)
-      (p : a ≡ get_or capture (3 * j) 0) (q : b ≡ get_or capture (3 * j + 1) 0) (s : c ≡ get_or capture (3 * j + 2) 0)
-      (adds : Adds plan a b c crossed k crossed' r) (keeps : Keeps plan (take (3 * j) capture) crossed k) where
-    pub walk_next : Keeps plan (take (3 * (j + 1)) capture) crossed' r
-    walk_next = rw (more j (omega arith), ← p, ← q, ← s) (adds.keeps (take (3 * j) capture) (whole j (omega arith)) keeps)
+    pub walk_end : length piece ≡ min 3 (length rest) → 0 < length rest → length piece < 3 → Ends k r → Keeps plan capture crossed r
+    walk_end least some few ends =
+        let none : rest' ≡ [] = empty rest' (omega (arith, ap length cut, length-append piece rest')) in
+        let all : rest ≡ piece = cut ∙ rw none (append-nil piece) in
+        let end : Keeps plan (w.front ++ piece) crossed r = ends.keeps plan w.front crossed w.whole w.keeps piece (omega (arith, ap length all)) few in
+        rw (ap (λ xs. w.front ++ xs) (sym all) ∙ w.joined) at end
 
-    -- it is bad, and what stands behind it decides nothing
-    pub walk_bad : r.bad ≡ true → Keeps plan capture crossed' r
-    walk_bad t =
-        rw (take-append-drop (3 * (j + 1)) capture) at
-        (keeps-more plan (take (3 * (j + 1)) capture) crossed' r walk_next (whole (j + 1) (omega arith)) t (drop (3 * (j + 1)) capture))
-
-  -- all complete triples were kept
-  module _ (j n : ℕ) (crossed : List ℕ) (k : Kept) (count : n ≡ length capture / 3) (last : j ≡ n)
-      (keeps : Keeps plan (take (3 * j) capture) crossed k) where
-    pub walk_done : length capture ≡ 3 * n → Keeps plan capture crossed k
-    walk_done h = rw (take_all (3 * j) capture (omega arith)) at keeps
-
-    pub walk_end : (r : Kept) → (length capture ≡ 3 * n → ⊥) → Ends k r → Keeps plan capture crossed r
-    walk_end r h e =
-        rw (take-append-drop (3 * j) capture) at
-        (e.keeps plan (take (3 * j) capture) crossed (whole j (omega arith)) keeps (drop (3 * j) capture)
-        (omega (arith, length-drop (3 * j) capture, h)) (omega (arith, length-drop (3 * j) capture)))
+  pub walk_bad : (rest crossed : List ℕ) (k : Kept) → Walking rest crossed k → k.bad ≡ true → Keeps plan capture crossed k
+  walk_bad rest crossed k w h = rw w.joined at (keeps-more plan w.front crossed k w.keeps w.whole h rest)

@@ -1,10 +1,11 @@
 -- What is kept of a capture: a few numbers, and a table with a byte for each slot and message: the link that the message crosses in
 -- that slot, plus one, or 0 where it crosses none.
-use Rattle.std.specs.Prelude.{ℕ, ◌+◌, ◌-◌, ◌*◌, ◌%◌, ◌≤◌, ◌<◌, ◌≡◌, true, false, List, [], ◌∷◌, ◌++◌, length, get_or, replicate, eqb}
+use Rattle.std.specs.Prelude.{ℕ, ◌+◌, ◌-◌, ◌*◌, ◌%◌, ◌≤◌, ◌<◌, ◌≡◌, true, false, Option, MatchOption, List, [], ◌∷◌, ◌++◌, length, get_or, replicate, eqb}
 use Rattle.scope.specs.Limits.{most_slots, most_links, most_messages, crossed_size}
 use Rattle.scope.specs.Lowest.{lowest, some}
 use Rattle.scope.specs.Plan.{Plan, link_count, message_count, timeout_of}
 use Rattle.scope.specs.Capture.{triples, seen_slot, seen_link, seen_message, bad_triple, is_captured}
+use Rattle.capture.specs.declared.Triple.{Triple}
 use Rattle.capture.specs.declared.Kept.{Kept}
 
 -- where the table has a slot and a message, and what it has there
@@ -18,16 +19,21 @@ crossed_at crossed i m = get_or crossed (crossed_index i m) 0
 abbrev pub code_of : ℕ → ℕ → ℕ → ℕ
 code_of i e m = (i * most_links + e) * most_messages + m
 
--- that of the last triple kept
-abbrev pub last_of : Kept → ℕ
-last_of k = code_of k.slot k.link k.message
+abbrev pub code : Triple → ℕ
+code t = code_of t.slot t.link t.message
 
--- the numbers kept are small: triples rise, so that there are no more than a plan has slots, links and messages for
+-- the numbers of the last of n triples are small, and triples rise, so that there are no more than a plan has slots, links and messages for
+pub record FitsTriple (n : ℕ) (t : Triple) : Type 0 where
+  pub slot : t.slot < most_slots
+  pub link : t.link < most_links
+  pub message : t.message < most_messages
+  pub few : n ≤ code t + 1
+
+abbrev pub FitsLast : ℕ → Option Triple → Type 0
+FitsLast n last = MatchOption last (n ≡ 0) (FitsTriple n)
+
 pub record Fits (k : Kept) : Type 0 where
-  pub slot : k.slot < most_slots
-  pub link : k.link < most_links
-  pub message : k.message < most_messages
-  pub few : k.count ≤ last_of k + 1
+  pub last : FitsLast k.count k.last
 
 -- a message that was seen on two links in one slot
 pub record Clash (plan : Plan) (capture : List ℕ) : Type 0 where
@@ -41,13 +47,18 @@ pub record Clash (plan : Plan) (capture : List ℕ) : Type 0 where
   pub here : is_captured capture slot link message ≡ true
   pub there : is_captured capture slot other message ≡ true
 
+-- t is the last of the n triples of a capture
+pub record IsLast (capture : List ℕ) (n : ℕ) (t : Triple) : Type 0 where
+  pub some : 0 < n
+  pub slot : seen_slot capture (n - 1) ≡ t.slot
+  pub link : seen_link capture (n - 1) ≡ t.link
+  pub message : seen_message capture (n - 1) ≡ t.message
+
 -- what is kept of a capture without a bad triple
 pub record KeepsAll (plan : Plan) (capture crossed : List ℕ) (k : Kept) : Type 0 where
   pub long : length capture ≡ 3 * k.count
-  pub slot : 0 < k.count → seen_slot capture (k.count - 1) ≡ k.slot
-  pub link : 0 < k.count → seen_link capture (k.count - 1) ≡ k.link
-  pub message : 0 < k.count → seen_message capture (k.count - 1) ≡ k.message
-  pub last : (i e m : ℕ) → is_captured capture i e m ≡ true → (0 < k.count) × (code_of i e m ≤ last_of k)
+  pub last : MatchOption k.last (k.count ≡ 0) (IsLast capture k.count)
+  pub most : (i e m : ℕ) → is_captured capture i e m ≡ true → MatchOption k.last ⊥ (λ t. code_of i e m ≤ code t)
   pub marks : k.twice ≡ false → (i e m : ℕ) → i < most_slots → m < most_messages → is_captured capture i e m ≡ eqb (crossed_at crossed i m) (e + 1)
   pub clash : k.twice ≡ true → Clash plan capture
 

@@ -10,17 +10,22 @@ ghost use Rattle.scope.specs.Plan.{plan_of};
 ghost use Rattle.capture.specs.Kept.{Keeps, Small, Begins, Adds, Ends, MayAdd};
 ghost use Rattle.capture.specs.Adding.{in_range, rises_behind, spoilt, Marks};
 
-use rows::number;
 use scope::limits::MESSAGES;
 
-// How many triples were kept and the last of them, zeros where there is none; whether some message was seen on two links in one slot;
-// and whether the next triple is bad, after which no more is kept.
-#[derive(Clone, Copy)]
-pub struct Kept {
-    pub count: usize,
+// A message that was seen on a link in a slot: by slot, in one slot by link, and on one link by message.
+#[derive(Clone, Copy, PartialEq, PartialOrd)]
+pub struct Triple {
     pub slot: usize,
     pub link: usize,
     pub message: usize,
+}
+
+// How many triples were kept and the last of them; whether some message was seen on two links in one slot; and whether the next triple
+// is bad, after which no more is kept.
+#[derive(Clone, Copy)]
+pub struct Kept {
+    pub count: usize,
+    pub last: Option<Triple>,
     pub twice: bool,
     pub bad: bool,
 }
@@ -31,9 +36,7 @@ pub fn none() -> Kept
 {
     Kept {
         count: 0,
-        slot: 0,
-        link: 0,
-        message: 0,
+        last: None,
         twice: false,
         bad: false,
     }
@@ -43,9 +46,7 @@ pub fn none() -> Kept
 fn spoil(kept: Kept) -> Kept
     ensures { result ≡ spoilt kept }
 {
-    let mut k = kept;
-    k.bad = true;
-    k
+    Kept { bad: true, ..kept }
 }
 
 // The capture ends with one or two numbers of a triple.
@@ -56,44 +57,32 @@ pub fn unfinished(kept: Kept) -> Kept
 }
 
 // The plan has this slot, link and message.
-fn in_range(row: &[u16], slot: usize, link: usize, message: usize) -> bool
-    ensures { result ≡ in_range (plan_of row.now) slot link message }
+#[tactic(auto, using(crate::proofs::Sizes::sizes))]
+fn in_range(row: &[u16], next: Triple) -> bool
+    ensures { result ≡ in_range (plan_of row.now) next.slot next.link next.message }
 {
-    if rows::timeout(row) <= slot {
-        return false;
-    }
-    if rows::links(row) <= link {
-        return false;
-    }
-    message < rows::messages(row)
+    next.slot < rows::timeout(row)
+        && next.link < rows::links(row)
+        && next.message < rows::messages(row)
 }
 
 // A triple comes after the last one that was kept, or is the first.
-fn rises(kept: Kept, slot: usize, link: usize, message: usize) -> bool
-    ensures { result ≡ rises_behind kept slot link message }
+fn rises(last: Option<Triple>, next: Triple) -> bool
+    ensures { result ≡ rises_behind last next.slot next.link next.message }
 {
-    if kept.count == 0 {
-        return true;
-    }
-    if kept.slot != slot {
-        return kept.slot < slot;
-    }
-    if kept.link != link {
-        return kept.link < link;
-    }
-    kept.message < message
+    last.is_none_or(|last| last < next)
 }
 
 // A message crosses a link in a slot: whether it was seen on a link there before, which then stays.
-fn mark(crossed: &mut [u8], slot: usize, link: usize, message: usize) -> bool
-    requires { (length crossed.old ≡ crossed_size) × (slot < most_slots) × (link < most_links) × (message < most_messages) }
-    ensures { Marks crossed.old slot link message crossed.new result }
+fn mark(crossed: &mut [u8], next: Triple) -> bool
+    requires { (length crossed.old ≡ crossed_size) × (next.slot < most_slots) × (next.link < most_links) × (next.message < most_messages) }
+    ensures { Marks crossed.old next.slot next.link next.message crossed.new result }
 {
-    let k = slot * MESSAGES + message;
+    let k = next.slot * MESSAGES + next.message;
     if crossed[k] != 0 {
         return true;
     }
-    crossed[k] = (link + 1) as u8;
+    crossed[k] = (next.link + 1) as u8;
     false
 }
 
@@ -112,18 +101,18 @@ pub fn add(
     if kept.bad {
         return kept;
     }
-    if !in_range(row, slot, link, message) {
-        return spoil(kept);
-    }
-    if !rises(kept, slot, link, message) {
-        return spoil(kept);
-    }
-    let again = mark(crossed, slot, link, message);
-    Kept {
-        count: kept.count + 1,
+    let next = Triple {
         slot,
         link,
         message,
+    };
+    if !in_range(row, next) || !rises(kept.last, next) {
+        return spoil(kept);
+    }
+    let again = mark(crossed, next);
+    Kept {
+        count: kept.count + 1,
+        last: Some(next),
         twice: kept.twice | again,
         bad: false,
     }
@@ -134,21 +123,22 @@ pub fn keep(row: &[u16], capture: &[u16], crossed: &mut [u8]) -> Kept
     requires { Small row.now × (crossed.old ≡ replicate crossed_size 0) }
     ensures { Keeps (plan_of row.now) capture.now crossed.new result }
 {
-    let n = capture.len() / 3;
     let mut kept = none();
-    let mut j = 0;
-    while j < n {
-        let slot = number(capture, 3 * j);
-        let link = number(capture, 3 * j + 1);
-        let message = number(capture, 3 * j + 2);
-        kept = add(row, kept, crossed, slot, link, message);
+    for triple in capture.chunks(3) {
+        let &[slot, link, message] = triple else {
+            return unfinished(kept);
+        };
+        kept = add(
+            row,
+            kept,
+            crossed,
+            usize::from(slot),
+            usize::from(link),
+            usize::from(message),
+        );
         if kept.bad {
             return kept;
         }
-        j += 1;
     }
-    if capture.len() == 3 * n {
-        return kept;
-    }
-    unfinished(kept)
+    kept
 }

@@ -6,17 +6,16 @@
 
 #![tactic(auto)]
 
-ghost use Rattle.std.specs.Prelude.{◌<◌, ◌≤◌, ◌≡◌, [], ◌∷◌};
+ghost use Rattle.std.specs.Prelude.{◌≤◌, ◌≡◌, [], ◌∷◌};
 ghost use Rattle.scope.specs.Plan.{plan_of};
-ghost use Rattle.capture_lines.specs.Rest.{fresh, with_digit, with_number, is_fresh, step_of, SmallLine};
+ghost use Rattle.capture_lines.specs.Rest.{with_digit, with_number, is_fresh, step_of, SmallLine};
 ghost use Rattle.capture_lines.specs.Reads.{MayRead, Feeds, Starts, Finishes};
 
-use bits::byte;
 use capture::Kept;
 use text::goes_on;
 
-// A line that is being read: how many of its numbers are, whether a digit of the next is and what its digits say, and the last two numbers.
-#[derive(Clone, Copy)]
+// A line that is being read, which by default is none: how many of its numbers are, whether a digit of the next is and what its digits say, and the last two numbers.
+#[derive(Clone, Copy, Default)]
 pub struct Line {
     pub numbers: usize,
     pub begun: bool,
@@ -40,67 +39,54 @@ pub enum Step {
     Out,
 }
 
-fn no_line() -> Line
-    ensures { result ≡ fresh }
-{
-    Line {
-        numbers: 0,
-        begun: false,
-        value: 0,
-        older: 0,
-        newer: 0,
-    }
-}
-
-// The line with a digit more.
-fn with_digit(line: Line, b: usize) -> Line
-    requires { SmallLine line × (48 ≤ b) × (b < 256) }
-    ensures { result ≡ with_digit line b }
-{
-    Line {
-        numbers: line.numbers,
-        begun: true,
-        value: line.value * 10 + (b - 48),
-        older: line.older,
-        newer: line.newer,
-    }
-}
-
-// The line with its number ended.
-fn with_number(line: Line) -> Line
-    requires { SmallLine line }
-    ensures { result ≡ with_number line }
-{
-    Line {
-        numbers: line.numbers + 1,
-        begun: false,
-        value: 0,
-        older: line.newer,
-        newer: line.value,
-    }
-}
-
-// What a byte does to a line: a digit goes on with its number, a space ends the first two, a line feed the third.
-fn after_byte(line: Line, b: usize) -> Step
-    requires { SmallLine line × (b < 256) }
-    ensures { result ≡ step_of line b }
-{
-    if goes_on(63, line.begun, line.value, b) {
-        return Step::On(with_digit(line, b));
-    }
-    if !line.begun {
-        return Step::Out;
-    }
-    if line.numbers < 2 {
-        if b == 32 {
-            return Step::On(with_number(line));
+impl Line {
+    // The line with a digit more.
+    fn with_digit(self, b: u8) -> Line
+        requires { SmallLine self × (48 ≤ b) }
+        ensures { result ≡ with_digit self b }
+    {
+        Line {
+            begun: true,
+            value: self.value * 10 + (b - b'0') as usize,
+            ..self
         }
-        return Step::Out;
     }
-    if b == 10 {
-        return Step::End;
+
+    // The line with its number ended.
+    fn with_number(self) -> Line
+        requires { SmallLine self }
+        ensures { result ≡ with_number self }
+    {
+        Line {
+            numbers: self.numbers + 1,
+            begun: false,
+            value: 0,
+            older: self.newer,
+            newer: self.value,
+        }
     }
-    Step::Out
+
+    // What a byte does to the line: a digit goes on with its number, a space ends the first two, a line feed the third.
+    fn after_byte(self, b: u8) -> Step
+        requires { SmallLine self }
+        ensures { result ≡ step_of self b }
+    {
+        if goes_on(63, self.begun, self.value, b) {
+            return Step::On(self.with_digit(b));
+        }
+        match (self.begun, self.numbers, b) {
+            (true, 0 | 1, b' ') => Step::On(self.with_number()),
+            (true, 2, b'\n') => Step::End,
+            _ => Step::Out,
+        }
+    }
+
+    // Nothing of the line is read.
+    fn is_fresh(self) -> bool
+        ensures { result ≡ is_fresh self }
+    {
+        self.numbers == 0 && !self.begun
+    }
 }
 
 // Nothing is read yet.
@@ -109,13 +95,13 @@ pub fn begin() -> Reading
 {
     Reading {
         kept: capture::none(),
-        line: no_line(),
+        line: Line::default(),
     }
 }
 
 // One byte more.
-fn read_byte(row: &[u16], reading: Reading, crossed: &mut [u8], b: usize) -> Reading
-    requires { MayRead row.now crossed.old reading × (b < 256) }
+fn read_byte(row: &[u16], reading: Reading, crossed: &mut [u8], b: u8) -> Reading
+    requires { MayRead row.now crossed.old reading }
     ensures { Feeds (plan_of row.now) (b ∷ []) crossed.old reading crossed.new result }
 {
     let kept = reading.kept;
@@ -123,16 +109,15 @@ fn read_byte(row: &[u16], reading: Reading, crossed: &mut [u8], b: usize) -> Rea
     if kept.bad {
         return reading;
     }
-    let step = after_byte(line, b);
-    match step {
+    match line.after_byte(b) {
         Step::On(next) => Reading { kept, line: next },
         Step::End => Reading {
             kept: capture::add(row, kept, crossed, line.older, line.newer, line.value),
-            line: no_line(),
+            line: Line::default(),
         },
         Step::Out => Reading {
             kept: capture::unfinished(kept),
-            line: no_line(),
+            line: Line::default(),
         },
     }
 }
@@ -143,19 +128,10 @@ pub fn feed(row: &[u16], reading: Reading, crossed: &mut [u8], piece: &[u8]) -> 
     ensures { Feeds (plan_of row.now) piece.now crossed.old reading crossed.new result }
 {
     let mut r = reading;
-    let mut i = 0;
-    while i < piece.len() {
-        r = read_byte(row, r, crossed, byte(piece, i));
-        i += 1;
+    for &b in piece {
+        r = read_byte(row, r, crossed, b);
     }
     r
-}
-
-// Nothing of the line is read.
-fn is_fresh(line: Line) -> bool
-    ensures { result ≡ is_fresh line }
-{
-    line.numbers == 0 && !line.begun
 }
 
 // The text has ended: in the midst of a line it is out of form.
@@ -166,7 +142,7 @@ pub fn finish(reading: Reading) -> Kept
     if kept.bad {
         return kept;
     }
-    if is_fresh(reading.line) {
+    if reading.line.is_fresh() {
         return kept;
     }
     capture::unfinished(kept)

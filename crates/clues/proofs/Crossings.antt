@@ -4,12 +4,12 @@ use native.Mathlib.Omega.{arith}
 use mathlib.Core.Path.{◌≡◌, refl, sym, ◌∙◌, ap}
 use mathlib.Core.Bool.{Bool, true, false, cond, ◌&&◌, ◌||◌}
 use lib.Dec.{eqb}
-use borrow.Author.Tests.{eqb-true, eqb-false, eq-eqb, ne_eqb, lt-ltb, le-ltb}
+use borrow.Author.Tests.{eqb-true, eqb-false, eq-eqb, ne_eqb, lt-ltb}
 use Rattle.scope.specs.Slot.{Event}
 use Rattle.laws.specs.Message.{crosses}
 use Rattle.laws.specs.Named.{SameCrossing}
 use Rattle.clues.specs.declared.Clue.TheVariants.{Link, Dead}
-use Rattle.step.specs.Events.{an_event, crossing_of}
+use Rattle.step.specs.Events.{crossing_of}
 use Rattle.clues.specs.Clues.{may_name, clue_of, Foremost, Says}
 
 eqb_suc : (a b : ℕ) → eqb (a + 1) (b + 1) ≡ eqb a b
@@ -46,16 +46,6 @@ crossing_same v w same = same_number (crossing_of v) (crossing_of w) (λ e. sym 
 -- kinds 1 to 3 may name a link
 pub may-name : (v : Event) → 0 < v.kind → v.kind ≤ 3 → may_name v ≡ true
 may-name v low high = rw (lt-ltb 0 v.kind low, lt-ltb v.kind 4 (omega arith))
-
--- what the code finds, by the kind
-pub names-link : (k n : ℕ) → 1 ≤ k → k ≤ 3 → Link n ≡ clue_of (an_event k n)
-names-link k n low high = rw (lt-ltb 0 k (omega arith), lt-ltb k 4 (omega arith))
-
-pub names-none : (k n : ℕ) → k < 1 → Dead ≡ clue_of (an_event k n)
-names-none k n low = rw (le-ltb 0 k (omega arith))
-
-pub names_none_above : (k n : ℕ) → 3 < k → Dead ≡ clue_of (an_event k n)
-names_none_above k n high = rw (lt-ltb 0 k (omega arith), le-ltb k 4 (omega arith))
 
 -- what the foremost message that differs says
 pub says-differs : (event : ℕ → Event) (seen : ℕ → ℕ) (n m : ℕ) → Foremost event seen n m → Says event seen n (clue_of (event m))

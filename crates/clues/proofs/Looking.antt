@@ -1,5 +1,5 @@
 -- One slot against the table: what is told of it are the events of the replay, under every list that cuts what is down.
-use Prim.Native.Nat.{ℕ, ◌+◌, ◌-◌, ◌*◌, ◌≤◌, ◌<◌}
+use Prim.Native.Nat.{ℕ, ◌+◌, ◌-◌, ◌*◌, ◌<◌}
 use native.Mathlib.Omega.{arith}
 use mathlib.Core.Path.{◌≡◌, sym, ◌∙◌, ap, subst, fun_ext}
 use mathlib.Core.Bool.{Bool, true, not}
@@ -20,11 +20,11 @@ use Rattle.cuts.specs.Down.{is_down}
 use Rattle.step.specs.declared.Slot.{Slot}
 use Rattle.step.specs.declared.Time.{Time}
 use Rattle.step.specs.declared.Standing.{Standing}
-use Rattle.step.specs.declared.Watched.{Watched}
-use Rattle.step.specs.Events.{an_event, crossing_of}
+use Rattle.step.specs.declared.Differing.{Differing}
+use Rattle.step.specs.Events.{event_of, crossing_of}
 use Rattle.step.specs.Stand.{positions_of}
-use Rattle.step.specs.Slot.{down_now, all_in, MayGo, GoesOn}
-use Rattle.step.specs.Seen.{as_seen, event_at, Watches}
+use Rattle.step.specs.Slot.{down_now, all_in, MayGo}
+use Rattle.step.specs.Seen.{as_seen, event_at, Differs, StandsAsSeen}
 use Rattle.cycle.proofs.Agree.{slot_same}
 use Rattle.capture.specs.Kept.{crossed_at}
 use Rattle.picks.specs.declared.Sizes.{Sizes}
@@ -32,7 +32,6 @@ use Rattle.picks.specs.Picks.{StandAt}
 use Rattle.picks.proofs.Playing.{advanced}
 use Rattle.clues.specs.declared.Clue.{Clue}
 use Rattle.clues.specs.declared.Clue.TheVariants.{Nothing, Link, Dead}
-use Rattle.clues.specs.declared.Seen.{Seen}
 use Rattle.clues.specs.Clues.{event_in, MatchesIn, Foremost, Says, clue_of, MayLook, Shows, Looked}
 use Rattle.clues.proofs.Crossings.{says-differs}
 
@@ -86,23 +85,13 @@ module _ (row table crossed : List ℕ) (z : Sizes) (ps : Standing) (may : MayLo
     pub slot_small : i.0 < most_slots
     slot_small = omega (arith, at, may.early, may.play.short)
 
-    module _ (down seen : List ℕ) (w : Watched) (part : seen ≡ seen_in crossed i.0)
-        (watched : Watches row table down seen z.messages i.0 ps w) where
+    module _ (down seen : List ℕ) (part : seen ≡ seen_in crossed i.0) where
       -- in the slot that begins at the time
-      here : Watches row table down (seen_in crossed ps.time.0) z.messages ps.time.0 ps w
-      here =
-          subst (λ (j : ℕ). Watches row table down (seen_in crossed j) z.messages j ps w) at
-          (subst (λ (l : List ℕ). Watches row table down l z.messages i.0 ps w) part watched)
-
       abbrev does_in : List Moved
       does_in = all_in row table down ps.time.0 z.messages ps.positions
 
       is_other : ℕ → Bool
       is_other m = not (as_seen (seen_in crossed ps.time.0) m (event_at does_in m))
-
-      most : w.alike ≤ z.messages
-      unfolding is_other
-      most = omega (arith, here.alike, seek-most is_other z.messages 0)
 
       seen_of : (m : ℕ) → m < z.messages →
           as_seen (seen_in crossed ps.time.0) m (event_at does_in m) ≡ eqb (crossing_of (event_at does_in m)) (crossed_at crossed ps.time.0 m)
@@ -112,20 +101,20 @@ module _ (row table crossed : List ℕ) (z : Sizes) (ps : Standing) (may : MayLo
 
       module _ (cuts : List ℕ) (stand : StandAt row z.messages cuts ps.time.0 ps)
           (are : (e : ℕ) → is_down down e ≡ is_cut (plan_of row) cuts ps.time.0 e) where
-        alike : (m : ℕ) → m < w.alike → crossing_of (event_in (plan_of row) cuts ps.time.0 m) ≡ crossed_at crossed ps.time.0 m
+        alike : (m : ℕ) → m < lowest is_other z.messages →
+            crossing_of (event_in (plan_of row) cuts ps.time.0 m) ≡ crossed_at crossed ps.time.0 m
         unfolding is_other
         alike m l =
-            let low : m < lowest is_other z.messages = omega (arith, here.alike) in
             ap crossing_of (sym (event-is down cuts stand are m)) ∙
-            eqb-true _ _ (sym (seen_of m (omega (arith, most))) ∙ not-false _ (seek-low is_other z.messages 0 m (omega arith) low))
+            eqb-true _ _ (sym (seen_of m (omega (arith, seek-most is_other z.messages 0))) ∙ not-false _ (seek-low is_other z.messages 0 m (omega arith) l))
 
-        foremost : w.alike < z.messages →
-            Foremost (event_in (plan_of row) cuts ps.time.0) (crossed_at crossed ps.time.0) z.messages w.alike
+        foremost : lowest is_other z.messages < z.messages →
+            Foremost (event_in (plan_of row) cuts ps.time.0) (crossed_at crossed ps.time.0) z.messages (lowest is_other z.messages)
         unfolding is_other
         foremost l =
-            let m = w.alike in
-            let low : lowest is_other z.messages < 0 + z.messages = omega (arith, here.alike) in
-            let other : is_other m ≡ true = subst (λ (k : ℕ). is_other k ≡ true) (sym here.alike) (seek_is is_other z.messages 0 low) in
+            let m = lowest is_other z.messages in
+            let low : lowest is_other z.messages < 0 + z.messages = omega arith in
+            let other : is_other m ≡ true = seek_is is_other z.messages 0 low in
             record {
               there = l;
               alike = alike;
@@ -137,41 +126,49 @@ module _ (row table crossed : List ℕ) (z : Sizes) (ps : Standing) (may : MayLo
       SaysUnder cuts n = Says (event_in (plan_of row) cuts ps.time.0) (crossed_at crossed ps.time.0) n
 
       -- a message differs
-      pub looked-other : (r : Seen) → w.alike < z.messages → r.clue ≡ clue_of (an_event w.kind w.number) → Looked row crossed z down ps r
-      looked-other r l is cuts stand are =
-          let f = foremost cuts stand are l in
-          let v : an_event w.kind w.number ≡ event_in (plan_of row) cuts ps.time.0 w.alike =
-          here.event ∙ event-is down cuts stand are w.alike in
-          let says : SaysUnder cuts z.messages r.clue =
-          subst (SaysUnder cuts z.messages) (sym (is ∙ ap clue_of v)) (says-differs _ _ z.messages w.alike f) in
+      pub looked-other : (v : Differing) → Differs seen z.messages (all_in row table down i.0 z.messages ps.positions) v → (r : Clue) →
+          r ≡ clue_of (event_of v.event) → Looked row crossed z down ps r
+      unfolding is_other
+      looked-other v other r is cuts stand are =
+          let h : Differs (seen_in crossed ps.time.0) z.messages does_in v =
+          subst (λ (j : ℕ). Differs (seen_in crossed j) z.messages (all_in row table down j z.messages ps.positions) v) at
+          (subst (λ (l : List ℕ). Differs l z.messages (all_in row table down i.0 z.messages ps.positions) v) part other) in
+          let m = lowest is_other z.messages in
+          let f = foremost cuts stand are h.there in
+          let same : event_of v.event ≡ event_in (plan_of row) cuts ps.time.0 m = h.event ∙ event-is down cuts stand are m in
+          let says : SaysUnder cuts z.messages r =
+          subst (SaysUnder cuts z.messages) (sym (is ∙ ap clue_of same)) (says-differs _ _ z.messages m f) in
           record {
-            says = subst (λ (n : ℕ). SaysUnder cuts n r.clue) may.play.messages says;
-            stand = λ none. absurd (f.differs (subst (SaysUnder cuts z.messages) none says w.alike l));
+            says = subst (λ (n : ℕ). SaysUnder cuts n r) may.play.messages says;
+            stand = λ next none. absurd (f.differs (subst (SaysUnder cuts z.messages) none says m h.there));
           }
 
       -- none does
-      pub looked-same : (r : Seen) → z.messages ≤ w.alike → r.clue ≡ Nothing → r.next ≡ w.next → Looked row crossed z down ps r
-      looked-same r l is next cuts stand are =
-          let all : w.alike ≡ z.messages = omega (arith, most) in
-          let says : SaysUnder cuts z.messages Nothing = λ m h. alike cuts stand are m (omega arith) in
+      pub looked-same : (next : Standing) → StandsAsSeen row table down seen z.messages i.0 ps next → Looked row crossed z down ps (Nothing next)
+      unfolding is_other
+      looked-same next all cuts stand are =
+          let h : StandsAsSeen row table down (seen_in crossed ps.time.0) z.messages ps.time.0 ps next =
+          subst (λ (j : ℕ). StandsAsSeen row table down (seen_in crossed j) z.messages j ps next) at
+          (subst (λ (l : List ℕ). StandsAsSeen row table down l z.messages i.0 ps next) part all) in
+          let says : SaysUnder cuts z.messages (Nothing next) = λ m l. alike cuts stand are m (omega (arith, h.alike)) in
           record {
-            says =
-                subst (λ (n : ℕ). SaysUnder cuts n r.clue) may.play.messages (subst (SaysUnder cuts z.messages) (sym is) says);
-            stand = λ none.
-                advanced row table z may.play cuts down ps.time.0 ps r.next may.early are stand
-                (subst (GoesOn row table down z.messages ps.time.0 ps) (sym next) (here.goes all));
+            says = subst (λ (n : ℕ). SaysUnder cuts n (Nothing next)) may.play.messages says;
+            stand = λ q e.
+                let same : next ≡ q = cc in
+                subst (StandAt row z.messages cuts (ps.time.0 + 1)) same
+                (advanced row table z may.play cuts down ps.time.0 ps next may.early are stand h.goes);
           }
 
 -- what a clue says of a list
-module _ (row crossed : List ℕ) (n : ℕ) (cuts : List ℕ) (s : ℕ) (r : Seen) (shows : Shows row crossed n cuts s r) where
+module _ (row crossed : List ℕ) (n : ℕ) (cuts : List ℕ) (s : ℕ) (r : Clue) (shows : Shows row crossed n cuts s r) where
   abbrev SaysOf : Clue → Type 0
   SaysOf = Says (event_in (plan_of row) cuts s) (crossed_at crossed s) (length (plan_of row).messages)
 
-  pub shown_nothing : r.clue ≡ Nothing → MatchesIn (plan_of row) crossed cuts s
-  shown_nothing is = subst SaysOf is shows.says
+  pub shown_nothing : (next : Standing) → r ≡ Nothing next → MatchesIn (plan_of row) crossed cuts s
+  shown_nothing next is = subst SaysOf is shows.says
 
-  pub shown-link : (x : ℕ) → r.clue ≡ Link x → MatchesIn (plan_of row) crossed cuts s → ⊥
+  pub shown-link : (x : ℕ) → r ≡ Link x → MatchesIn (plan_of row) crossed cuts s → ⊥
   shown-link x is all = let h : SaysOf (Link x) = subst SaysOf is shows.says in h.1.differs (all h.0 h.1.there)
 
-  pub shown_dead : r.clue ≡ Dead → MatchesIn (plan_of row) crossed cuts s → ⊥
+  pub shown_dead : r ≡ Dead → MatchesIn (plan_of row) crossed cuts s → ⊥
   shown_dead is all = let h : SaysOf Dead = subst SaysOf is shows.says in h.1.differs (all h.0 h.1.there)

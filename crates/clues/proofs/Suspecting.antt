@@ -32,11 +32,8 @@ use Rattle.picks.specs.Picks.{cuts_of, StandAt}
 use Rattle.picks.proofs.Picking.{down-more}
 use Rattle.clues.specs.declared.Clue.{Clue}
 use Rattle.clues.specs.declared.Clue.TheVariants.{Nothing, Link, Dead}
-use Rattle.clues.specs.declared.Seen.{Seen}
 use Rattle.step.specs.Events.{crossing_of}
-use Rattle.clues.specs.declared.Suspicion.{Suspicion}
 use Rattle.clues.specs.Clues.{event_in, MatchesIn, MatchesBefore, Matches, Foremost, Says, MayLook, Shows, Looked, MaySuspect}
-use Rattle.clues.specs.Clues.{Suspected}
 use Rattle.clues.proofs.Crossings.{same_crossing_lem, crossing_same, may-name}
 use Rattle.clues.proofs.Lists.{matches-more, within_more, Apart, apart_more, too_many}
 use Rattle.clues.proofs.Looking.{shown_nothing}
@@ -121,7 +118,7 @@ module _ (row table crossed : List ℕ) (z : Sizes) (ps : Standing) (p : Picked)
     pub may_look : MayLook row table crossed z qs
     may_look = record { play = may.play; stand = g.stand.next.stand; early = omega (arith, g.stand.time); size = may.size }
 
-    module _ (r : Seen) (looked : Looked row crossed z down qs r) where
+    module _ (r : Clue) (looked : Looked row crossed z down qs r) where
       shows : Shows row crossed z.messages g.cuts i r
       shows =
           subst (λ (j : ℕ). Shows row crossed z.messages g.cuts j r) g.stand.time
@@ -129,8 +126,8 @@ module _ (row table crossed : List ℕ) (z : Sizes) (ps : Standing) (p : Picked)
           (λ e. g.are qs.time.0 e (omega (arith, g.stand.time))))
 
       -- the slot has the crossings of the table
-      pub suspects_on : r.clue ≡ Nothing → Suspecting row crossed z p down r.next named (i + 1)
-      suspects_on is =
+      pub suspects_on : (next : Standing) → r ≡ Nothing next → Suspecting row crossed z p down next named (i + 1)
+      suspects_on next is =
           record {
             cuts = g.cuts;
             long = g.long;
@@ -138,7 +135,7 @@ module _ (row table crossed : List ℕ) (z : Sizes) (ps : Standing) (p : Picked)
             early = omega arith;
             size = g.size;
             are = λ j e h. g.are j e (omega arith);
-            stand = shows.stand is;
+            stand = shows.stand next is;
             before = λ j h. by j h (ltb j i) refl;
             within = g.within;
             apart = g.apart;
@@ -149,7 +146,7 @@ module _ (row table crossed : List ℕ) (z : Sizes) (ps : Standing) (p : Picked)
           by j h true e = g.before j (ltb-true j i e)
           by j h false e =
               let at : i ≡ j = omega (arith, ltb-false j i e) in
-              subst (MatchesIn (plan_of row) crossed g.cuts) at (shown_nothing row crossed z.messages g.cuts i r shows is)
+              subst (MatchesIn (plan_of row) crossed g.cuts) at (shown_nothing row crossed z.messages g.cuts i r shows next is)
 
       -- what the foremost message that differs says of an answer
       convicts : (x : List ℕ) → Answer row crossed p x → (m : ℕ) →
@@ -170,13 +167,13 @@ module _ (row table crossed : List ℕ) (z : Sizes) (ps : Standing) (p : Picked)
       SaysOf = Says (event_in (plan_of row) g.cuts i) (crossed_at crossed i) (length (plan_of row).messages)
 
       -- no answer, where that message can name no link
-      pub suspects_dead : r.clue ≡ Dead → (j : ℕ) → NoneOf (plan_of row) (Matches (plan_of row) crossed) (cuts_of p) j
-      suspects_dead is j x long good matches =
+      pub suspects_dead : r ≡ Dead → (n j : ℕ) → j ≤ n → NoneOf (plan_of row) (Matches (plan_of row) crossed) (cuts_of p) j
+      suspects_dead is n j few x long good matches =
           let h : SaysOf Dead = subst SaysOf is shows.says in
           let v = convicts x (record { good = good; matches = matches }) h.0 h.1 in
           true≢false (sym (may-name (event_in (plan_of row) g.cuts i h.0) v.waits_or_crosses.0 v.waits_or_crosses.1) ∙ h.2)
 
-      module _ (e : ℕ) (is : r.clue ≡ Link e) where
+      module _ (e : ℕ) (is : r ≡ Link e) where
         says : SaysOf (Link e)
         says = subst SaysOf is shows.says
 
@@ -277,15 +274,3 @@ pub record Suspects (row table crossed : List ℕ) (z : Sizes) (n : ℕ) (down�
   pub of : (p : Picked) → MaySuspect row table crossed z qs₀ p → p.down ≡ down₀ → p.slot ≡ i₀ →
       Suspecting row crossed z p down qs named i
   pub few : named ≤ n
-
--- what is answered where lists are given up
-pub suspects_given_up : (row crossed : List ℕ) (p : Picked) (n : ℕ) (r : Suspicion) → r.hopeless ≡ true →
-    ((j : ℕ) → j ≤ n → NoneOf (plan_of row) (Matches (plan_of row) crossed) (cuts_of p) j) → Suspected row crossed p n r
-suspects_given_up row crossed p n r t none =
-    record {
-      none = λ u. none;
-      few = λ f. absurd (true≢false (sym t ∙ f));
-      fewer = λ f. absurd (true≢false (sym t ∙ f));
-      whole = λ f. absurd (true≢false (sym t ∙ f));
-      only = λ f. absurd (true≢false (sym t ∙ f));
-    }

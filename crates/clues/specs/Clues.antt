@@ -1,6 +1,6 @@
 -- The crossings of a replay against a table of crossings: what one slot says of the cuts, and what a table says of a list. The table has a
 -- byte for each slot and message: the link that the message crosses in the slot, plus one, or 0.
-use Rattle.std.specs.Prelude.{ℕ, ◌+◌, ◌*◌, ◌≤◌, ◌<◌, ◌≡◌, Bool, true, false, cond, ◌&&◌, List, ◌∷◌, ◌++◌, length, ltb}
+use Rattle.std.specs.Prelude.{ℕ, ◌+◌, ◌*◌, ◌≤◌, ◌<◌, ◌≡◌, Bool, true, false, cond, ◌&&◌, List, ◌∷◌, ◌++◌, Option, MatchOption, length, ltb}
 use Rattle.scope.specs.Limits.{crossed_size}
 use Rattle.scope.specs.Outcome.{gives}
 use Rattle.scope.specs.Plan.{Plan, plan_of}
@@ -20,7 +20,6 @@ use Rattle.picks.specs.declared.Picked.{Picked}
 use Rattle.picks.specs.Picks.{cuts_of, Playable, Holding, StandAt}
 use Rattle.clues.specs.declared.Clue.{Clue}
 use Rattle.clues.specs.declared.Clue.TheVariants.{Nothing, Link, Dead}
-use Rattle.clues.specs.declared.Seen.{Seen}
 use Rattle.clues.specs.declared.Suspicion.{Suspicion}
 
 -- message m's event in slot i of the replay under a list
@@ -54,7 +53,7 @@ pub record Foremost (event : ℕ → Event) (seen : ℕ → ℕ) (n m : ℕ) : T
 -- what the events of n messages say of the cuts, against the crossings that were seen: nothing, where they are the same; else the event of
 -- the foremost message that differs names a link, or can name none
 abbrev pub Says : (ℕ → Event) → (ℕ → ℕ) → ℕ → Clue → Type 0
-Says event seen n Nothing = (m : ℕ) → m < n → crossing_of (event m) ≡ seen m
+Says event seen n (Nothing next) = (m : ℕ) → m < n → crossing_of (event m) ≡ seen m
 Says event seen n (Link x) = (m : ℕ) × Foremost event seen n m × (may_name (event m) ≡ true) × ((event m).number ≡ x)
 Says event seen n Dead = (m : ℕ) × Foremost event seen n m × (may_name (event m) ≡ false)
 
@@ -70,12 +69,12 @@ pub record MayLook (row table crossed : List ℕ) (z : Sizes) (ps : Standing) : 
   pub size : length crossed ≡ crossed_size
 
 -- what slot s says under a list, and where the messages stand after it, where it says nothing
-pub record Shows (row crossed : List ℕ) (n : ℕ) (cuts : List ℕ) (s : ℕ) (r : Seen) : Type 0 where
-  pub says : Says (event_in (plan_of row) cuts s) (crossed_at crossed s) (length (plan_of row).messages) r.clue
-  pub stand : r.clue ≡ Nothing → StandAt row n cuts (s + 1) r.next
+pub record Shows (row crossed : List ℕ) (n : ℕ) (cuts : List ℕ) (s : ℕ) (r : Clue) : Type 0 where
+  pub says : Says (event_in (plan_of row) cuts s) (crossed_at crossed s) (length (plan_of row).messages) r
+  pub stand : (next : Standing) → r ≡ Nothing next → StandAt row n cuts (s + 1) next
 
 -- that of the slot that begins now, under any list under which the messages stand as they do and which cuts in that slot what is down
-abbrev pub Looked : List ℕ → List ℕ → Sizes → List ℕ → Standing → Seen → Type 0
+abbrev pub Looked : List ℕ → List ℕ → Sizes → List ℕ → Standing → Clue → Type 0
 Looked row crossed z down ps r =
     (cuts : List ℕ) → StandAt row z.messages cuts ps.time.0 ps →
     ((e : ℕ) → is_down down e ≡ is_cut (plan_of row) cuts ps.time.0 e) → Shows row crossed z.messages cuts ps.time.0 r
@@ -89,12 +88,16 @@ pub record MaySuspect (row table crossed : List ℕ) (z : Sizes) (ps : Standing)
   pub before : MatchesBefore (plan_of row) crossed (cuts_of p) p.slot
   pub size : length crossed ≡ crossed_size
 
--- hopeless: no list with at most n pairs more matches. Else none does with fewer pairs more than links are named; the first pair more of one
--- that does with as many cuts a link that is down; and where none is named, the pairs picked match
-pub record Suspected (row crossed : List ℕ) (p : Picked) (n : ℕ) (r : Suspicion) : Type 0 where
-  pub none : r.hopeless ≡ true → (j : ℕ) → j ≤ n → NoneOf (plan_of row) (Matches (plan_of row) crossed) (cuts_of p) j
-  pub few : r.hopeless ≡ false → r.named ≤ n
-  pub fewer : r.hopeless ≡ false → (j : ℕ) → j < r.named → NoneOf (plan_of row) (Matches (plan_of row) crossed) (cuts_of p) j
-  pub whole : r.hopeless ≡ false → r.named ≡ 0 → Matches (plan_of row) crossed (cuts_of p)
-  pub only : r.hopeless ≡ false → (s e : ℕ) (x : List ℕ) → length x + 2 ≡ 2 * r.named → is_down r.down e ≡ false →
+-- no list matches with fewer pairs more than links are named; the first pair more of one that does with as many cuts a link that is down; and
+-- where none is named, the pairs picked match
+pub record Names (row crossed : List ℕ) (p : Picked) (n : ℕ) (r : Suspicion) : Type 0 where
+  pub few : r.named ≤ n
+  pub fewer : (j : ℕ) → j < r.named → NoneOf (plan_of row) (Matches (plan_of row) crossed) (cuts_of p) j
+  pub whole : r.named ≡ 0 → Matches (plan_of row) crossed (cuts_of p)
+  pub only : (s e : ℕ) (x : List ℕ) → length x + 2 ≡ 2 * r.named → is_down r.down e ≡ false →
       Not (plan_of row) (Matches (plan_of row) crossed) (cuts_of p ++ s ∷ e ∷ x)
+
+-- nothing: no list with at most n pairs more matches; else so much is known of those that do
+abbrev pub Suspected : List ℕ → List ℕ → Picked → ℕ → Option Suspicion → Type 0
+Suspected row crossed p n r =
+    MatchOption r ((j : ℕ) → j ≤ n → NoneOf (plan_of row) (Matches (plan_of row) crossed) (cuts_of p) j) (λ v. Names row crossed p n v)

@@ -6,74 +6,54 @@
 
 #![tactic(auto)]
 
-ghost use Rattle.std.specs.Prelude.{◌+◌, ◌*◌, ◌<◌, ◌≡◌, true};
-ghost use Rattle.step.specs.Events.{an_event};
+ghost use Rattle.std.specs.Prelude.{◌+◌, ◌*◌, ◌<◌, ◌≡◌};
+ghost use Rattle.step.specs.Events.{event_of};
 ghost use Rattle.clues.specs.Clues.{clue_of, MayLook, Looked, MaySuspect, Suspected};
 
 use picks::{Picked, Sizes};
 use scope::limits::{LINKS, MESSAGES};
-use step::Standing;
+use step::{Event, Standing};
 
-// What a slot says of the cuts: nothing, where its crossings are those of the table; a link that is cut; or that there is no list.
+// What a slot says of the cuts: nothing, where its crossings are those of the table, and then where the messages stand after it; a link that
+// is cut; or that there is no list.
 #[derive(Clone, Copy)]
 pub enum Clue {
-    Nothing,
+    Nothing(Standing),
     Link(usize),
     Dead,
 }
 
-// What a slot says, and where the messages stand after it, where it says nothing.
-#[derive(Clone, Copy)]
-pub struct Seen {
-    pub clue: Clue,
-    pub next: Standing,
-}
-
-// What the table says of the lists that go on from here: that none has its crossings; else how many links are named, and what is down with
+// What the table says of the lists that go on from here, where one may have its crossings: how many links are named, and what is down with
 // all that are.
 #[derive(Clone, Copy)]
 pub struct Suspicion {
-    pub hopeless: bool,
     pub named: usize,
     pub down: [u8; LINKS],
 }
 
 // What the event of the foremost message that differs says.
-fn clue_of(kind: u16, number: u16) -> Clue
-    ensures { result ≡ clue_of (an_event kind number) }
+fn clue_of(event: Event) -> Clue
+    ensures { result ≡ clue_of (event_of event) }
 {
-    match kind {
-        1..=3 => Clue::Link(number as usize),
+    match event {
+        Event::Waits(link) | Event::Crosses(link) | Event::CrossesSecond(link) => {
+            Clue::Link(link as usize)
+        }
         _ => Clue::Dead,
     }
 }
 
 // The slot that begins now, under what is down: what it says, and where the messages stand after it.
-pub fn look(row: &[u16], table: &[u8], crossed: &[u8], z: Sizes, down: &[u8], ps: Standing) -> Seen
+pub fn look(row: &[u16], table: &[u8], crossed: &[u8], z: Sizes, down: &[u8], ps: Standing) -> Clue
     requires { MayLook row.now table.now crossed.now z ps }
     ensures { Looked row.now crossed.now z down.now ps result }
 {
-    let time = ps.time();
-    let i = time.begins(z.timeout);
+    let i = ps.time().begins(z.timeout);
     let from = i.number() * MESSAGES;
     let end = from + MESSAGES;
-    let seen = ps.watched(i, z.messages, row, table, down, &crossed[from..end]);
-    let next = seen.next;
-    if seen.alike < z.messages {
-        let clue = clue_of(seen.kind, seen.number);
-        return Seen { clue, next };
-    }
-    let clue = Clue::Nothing;
-    Seen { clue, next }
-}
-
-fn given_up() -> Suspicion
-    ensures { result.hopeless ≡ true }
-{
-    Suspicion {
-        hopeless: true,
-        named: 0,
-        down: [0u8; LINKS],
+    match ps.watched(i, z.messages, row, table, down, &crossed[from..end]) {
+        Ok(next) => Clue::Nothing(next),
+        Err(other) => clue_of(other.event),
     }
 }
 
@@ -89,39 +69,31 @@ pub fn suspect(
     ps: Standing,
     p: Picked,
     n: usize,
-) -> Suspicion
+) -> Option<Suspicion>
     requires { MaySuspect row.now table.now crossed.now z ps p }
     ensures { Suspected row.now crossed.now p n result }
 {
-    let others = z.others;
     let mut down = p.down;
     let mut qs = ps;
     let mut named = 0;
     let mut i = p.slot;
     while i < z.timeout {
-        let seen = look(row, table, crossed, z, &down, qs);
-        let clue = seen.clue;
-        match clue {
-            Clue::Nothing => {
-                let rs = seen.next;
-                qs = rs;
+        match look(row, table, crossed, z, &down, qs) {
+            Clue::Nothing(next) => {
+                qs = next;
                 i += 1;
             }
             Clue::Link(x) => {
                 if named == n {
-                    return given_up();
+                    return None;
                 }
-                let other = cables::other(&others, x);
+                let other = cables::other(&z.others, x);
                 down[x] = 1;
                 down[other] = 1;
                 named += 1;
             }
-            Clue::Dead => return given_up(),
+            Clue::Dead => return None,
         }
     }
-    Suspicion {
-        hopeless: false,
-        named,
-        down,
-    }
+    Some(Suspicion { named, down })
 }

@@ -5,11 +5,9 @@ use mathlib.Core.Bool.{Bool, true, false, cond, ◌&&◌}
 use mathlib.Core.List.{List}
 use native.Mathlib.Omega.{arith}
 use lib.Dec.{ltb, leb, eqb}
-use borrow.Author.Tests.{lt-ltb, le-ltb, le-leb, lt-leb, eq-eqb, ne_eqb, leb-true, ltb-true}
+use borrow.Author.Tests.{lt-ltb, le-ltb, le-leb, lt-leb, eq-eqb, ne_eqb, leb-true}
 use Rattle.scope.specs.Lines.{byte_at, is_digit, number_size, has_word, cut_word, is_cut_line, slot_index, space_index, link_index, feed_index}
-use Rattle.scope.proofs.Bools.{and_left, and_right}
 use Rattle.text.specs.Reading.{stands}
-use Rattle.cut_lines.specs.Reads.{End}
 
 -- the size and the value of a number whose bytes are a and b
 abbrev pub size_of : ℕ → ℕ → ℕ
@@ -118,88 +116,37 @@ module _ (text : List ℕ) (i : ℕ) where
   pub no_word : has_word text i ≡ false → is_cut_line text i ≡ false
   no_word h = five_1 (has_word text i) slot space link feed h
 
-  module _ (a : ℕ) (p : a ≡ number_size text (i + 4)) where
-    pub no_slot : a ≡ 0 → is_cut_line text i ≡ false
-    no_slot h = five_2 (has_word text i) slot space link feed (le-ltb 0 (number_size text (i + 4)) (omega arith))
+  pub no_slot : number_size text (i + 4) ≡ 0 → is_cut_line text i ≡ false
+  no_slot h = five_2 (has_word text i) slot space link feed (le-ltb 0 (number_size text (i + 4)) (omega arith))
 
-    pub no_space : (s : ℕ) → s ≡ byte_at text (i + 4 + a) → (s ≡ 32 → ⊥) → is_cut_line text i ≡ false
-    no_space s q n =
-        let h : s ≡ byte_at text (space_index text i) = q ∙ ap (λ (k : ℕ). byte_at text (i + 4 + k)) p in
-        five_3 (has_word text i) slot space link feed (ne_eqb (byte_at text (space_index text i)) 32 (λ e. n (h ∙ e)))
+  module _ (n : ℕ) (p : n ≡ space_index text i) where
+    link-is : n + 1 ≡ link_index text i
+    link-is = ap (◌+ 1) p
 
-    module _ (b : ℕ) (q : b ≡ number_size text (i + 4 + a + 1)) where
-      link-is : i + 4 + a + 1 ≡ link_index text i
-      link-is = ap (λ (k : ℕ). i + 4 + k + 1) p
+    pub no_space : (s : ℕ) → s ≡ byte_at text n → (s ≡ 32 → ⊥) → is_cut_line text i ≡ false
+    no_space s q not =
+        let h : s ≡ byte_at text (space_index text i) = q ∙ ap (byte_at text) p in
+        five_3 (has_word text i) slot space link feed (ne_eqb (byte_at text (space_index text i)) 32 (λ e. not (h ∙ e)))
 
-      size-link : b ≡ number_size text (link_index text i)
-      size-link = q ∙ ap (λ (k : ℕ). number_size text k) link-is
+    pub no_link_lem : number_size text (n + 1) ≡ 0 → is_cut_line text i ≡ false
+    no_link_lem h =
+        let z : number_size text (link_index text i) ≡ 0 = rw link-is at h in
+        five_4 (has_word text i) slot space link feed (le-ltb 0 (number_size text (link_index text i)) (omega arith))
 
-      pub feed_is : i + 4 + a + 1 + b ≡ feed_index text i
-      feed_is = ap (λ (k : ℕ). k + b) link-is ∙ ap (λ (k : ℕ). link_index text i + k) size-link
+    module _ (m : ℕ) (q : m ≡ n + 1 + number_size text (n + 1)) where
+      pub feed_is : m ≡ feed_index text i
+      feed_is = q ∙ ap (λ (k : ℕ). k + number_size text k) link-is
 
-      pub no_link_lem : b ≡ 0 → is_cut_line text i ≡ false
-      no_link_lem h =
-          let z : number_size text (link_index text i) ≡ 0 = sym size-link ∙ h in
-          five_4 (has_word text i) slot space link feed (le-ltb 0 (number_size text (link_index text i)) (omega arith))
+      pub no_feed : (f : ℕ) → f ≡ byte_at text m → (f ≡ 10 → ⊥) → is_cut_line text i ≡ false
+      no_feed f r not =
+          let h : f ≡ byte_at text (feed_index text i) = r ∙ ap (byte_at text) feed_is in
+          five_5 (has_word text i) slot space link feed (ne_eqb (byte_at text (feed_index text i)) 10 (λ e. not (h ∙ e)))
 
-      module _ (f : ℕ) (r : f ≡ byte_at text (i + 4 + a + 1 + b)) where
-        byte_feed : f ≡ byte_at text (feed_index text i)
-        byte_feed = r ∙ ap (λ (k : ℕ). byte_at text k) feed_is
-
-        pub no_feed : (f ≡ 10 → ⊥) → is_cut_line text i ≡ false
-        no_feed n = five_5 (has_word text i) slot space link feed (ne_eqb (byte_at text (feed_index text i)) 10 (λ e. n (byte_feed ∙ e)))
-
-        pub is-line : has_word text i ≡ true → (a ≡ 0 → ⊥) → byte_at text (i + 4 + a) ≡ 32 → (b ≡ 0 → ⊥) → f ≡ 10 → is_cut_line text i ≡ true
-        is-line w n s m e =
-            let one : 0 < number_size text (i + 4) = omega arith in
-            let at : byte_at text (space_index text i) ≡ 32 = sym (ap (λ (k : ℕ). byte_at text (i + 4 + k)) p) ∙ s in
-            let size : b ≡ number_size text (link_index text i) = size-link in
-            let two : 0 < number_size text (link_index text i) = omega arith in
-            let end : byte_at text (feed_index text i) ≡ 10 = sym byte_feed ∙ e in
-            five_all (has_word text i) slot space link feed w
-            (lt-ltb 0 (number_size text (i + 4)) one)
-            (eq-eqb (byte_at text (space_index text i)) 32 at)
-            (lt-ltb 0 (number_size text (link_index text i)) two)
-            (eq-eqb (byte_at text (feed_index text i)) 10 end)
-
--- the index after a line, as `line_end` tells it
-module _ (text : List ℕ) (i r : ℕ) (p : r ≡ cond (is_cut_line text i) (feed_index text i + 1) 0) where
-  pub end_none : r ≡ 0 → is_cut_line text i ≡ false
-  end_none z = by (is_cut_line text i) refl p
-    where
-      by : (t : Bool) → is_cut_line text i ≡ t → r ≡ cond t (feed_index text i + 1) 0 → is_cut_line text i ≡ false
-      by true e q = absurd (omega arith)
-      by false e q = e
-
-  pub end_line : (r ≡ 0 → ⊥) → is_cut_line text i ≡ true
-  end_line n = by (is_cut_line text i) refl p
-    where
-      by : (t : Bool) → is_cut_line text i ≡ t → r ≡ cond t (feed_index text i + 1) 0 → is_cut_line text i ≡ true
-      by true e q = e
-      by false e q = absurd (n q)
-
-  pub end_is : (r ≡ 0 → ⊥) → r ≡ feed_index text i + 1
-  end_is n = p ∙ rw (end_line n)
-
-pub is-end : (text : List ℕ) (i r : ℕ) → is_cut_line text i ≡ true → r ≡ feed_index text i + 1 →
-    r ≡ cond (is_cut_line text i) (feed_index text i + 1) 0
-is-end text i r e q = q ∙ rw e
-
-pub no_end : (text : List ℕ) (i : ℕ) → is_cut_line text i ≡ false → End text i 0
-no_end text i e = record { is = rw e; near = omega arith }
-
--- both numbers of a line have bytes
-module _ (text : List ℕ) (i : ℕ) (h : is_cut_line text i ≡ true) where
-  four : (has_word text i && slot text i && space text i && link text i) ≡ true
-  four = and_left (has_word text i && slot text i && space text i && link text i) (feed text i) h
-
-  pub link-some : (a : ℕ) → a ≡ number_size text (i + 4) → 0 < number_size text (i + 4 + a + 1)
-  link-some a p =
-      let e : i + 4 + a + 1 ≡ link_index text i = ap (λ (k : ℕ). i + 4 + k + 1) p in
-      rw e (ltb-true 0 (number_size text (link_index text i)) (and_right (has_word text i && slot text i && space text i) (link text i) four))
-
-  pub slot-some : 0 < number_size text (i + 4)
-  slot-some =
-      let three = and_left (has_word text i && slot text i && space text i) (link text i) four in
-      let two = and_left (has_word text i && slot text i) (space text i) three in
-      ltb-true 0 (number_size text (slot_index i)) (and_right (has_word text i) (slot text i) two)
+      pub is-line : has_word text i ≡ true → 0 < number_size text (i + 4) → byte_at text n ≡ 32 → 0 < number_size text (n + 1) →
+          byte_at text m ≡ 10 → is_cut_line text i ≡ true
+      is-line w one s two e =
+          five_all (has_word text i) slot space link feed w
+          (lt-ltb 0 (number_size text (i + 4)) one)
+          (eq-eqb (byte_at text (space_index text i)) 32 (sym (ap (byte_at text) p) ∙ s))
+          (lt-ltb 0 (number_size text (link_index text i)) (rw link-is at two))
+          (eq-eqb (byte_at text (feed_index text i)) 10 (sym (ap (byte_at text) feed_is) ∙ e))

@@ -1,5 +1,5 @@
 -- Laws of the cuts of a text: the end, a line, a line of another form; and how a loop writes them.
-use Prim.Native.Nat.{ℕ, zero, suc, ◌+◌, ◌-◌, ◌*◌, ◌/◌, ◌≤◌, ◌<◌}
+use Prim.Native.Nat.{ℕ, zero, suc, ◌+◌, ◌*◌, ◌/◌, ◌≤◌, ◌<◌}
 use mathlib.Core.Path.{◌≡◌, refl, sym, ◌∙◌, ap}
 use mathlib.Core.Bool.{Bool, true, false, cond}
 use mathlib.Core.List.{List, [], ◌∷◌, ◌++◌}
@@ -55,17 +55,15 @@ module _ (text : List ℕ) where
       by true false r = omega arith
       by false u r = omega arith
 
-  -- a loop that has n lines left, at index i
-  pub line-more : (n i j s e : ℕ) → 0 < n → i < length text → is_cut_line text i ≡ true → j ≡ feed_index text i + 1 →
-      s ≡ number_at text (i + 4) → e ≡ number_at text (link_index text i) → cuts_from n text i ≡ (s ∷ e ∷ []) ++ cuts_from (n - 1) text j
-  line-more n i j s e g h t p q r =
-      let m : n ≡ suc (n - 1) = omega arith in
-      ap (λ (k : ℕ). cuts_from k text i) m ∙ cuts-line (n - 1) i h t ∙ rw (p, q, r)
+  -- a loop that has n lines left, at index i, and m lines behind that one
+  module _ (n m i : ℕ) where
+    pub line-more : (j s e : ℕ) → n ≡ suc m → i < length text → is_cut_line text i ≡ true → j ≡ feed_index text i + 1 →
+        s ≡ number_at text (slot_index i) → e ≡ number_at text (link_index text i) →
+        cuts_from n text i ≡ (s ∷ e ∷ []) ++ cuts_from m text j
+    line-more j s e g h t p q r = ap (λ (k : ℕ). cuts_from k text i) g ∙ cuts-line m i h t ∙ rw (p, q, r)
 
-  pub line-bad : (n i : ℕ) → 0 < n → i < length text → is_cut_line text i ≡ false → cuts_from n text i ≡ (0 ∷ []) ++ []
-  line-bad n i g h t =
-      let m : n ≡ suc (n - 1) = omega arith in
-      ap (λ (k : ℕ). cuts_from k text i) m ∙ cuts-bad (n - 1) i h t
+    pub line-bad : n ≡ suc m → i < length text → is_cut_line text i ≡ false → cuts_from n text i ≡ (0 ∷ []) ++ []
+    line-bad g h t = ap (λ (k : ℕ). cuts_from k text i) g ∙ cuts-bad m i h t
 
 -- a number and a pair, stored
 pub puts_two : (b : List ℕ) (n x y : ℕ) → Puts (x ∷ y ∷ []) b (set (set b n x) (n + 1) y) n (n + 2)

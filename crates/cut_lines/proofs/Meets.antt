@@ -144,33 +144,38 @@ module _ (text : List ℕ) (i : ℕ) where
         by true false e f = meets_two (ltb-true 0 size e) (ltb-false r.value 10 f)
 
 -- so `number` tells it
+pub number_none : (text : List ℕ) (i : ℕ) → size_at 63 text i ≡ 0 → number_size text i ≡ 0
+number_none text i z = size_none (byte_at text i) (byte_at text (i + 1)) (no_digit text i z)
+
 module _ (text : List ℕ) (i : ℕ) (r : Number) (p : Reads 63 text i r) where
-  pub found-cut : r.next ≡ i + 1 → is_digit (byte_at text (i + 1)) ≡ true → Found text i (record { value = 0; next = i })
+  pub found-cut : r.next ≡ i + 1 → is_digit (byte_at text (i + 1)) ≡ true → number_size text i ≡ 0
   found-cut e d = by (meets text i r p)
     where
-      none-there : number_size text i ≡ 0 → Found text i (record { value = 0; next = i })
-      none-there s = record { next = omega arith; value = λ h. absurd (omega arith); near = omega arith; small = omega arith }
-
-      by : Meets text i r → Found text i (record { value = 0; next = i })
-      by (none s n) = none-there s
-      by (cut_off s n u) = none-there s
+      by : Meets text i r → number_size text i ≡ 0
+      by (none s n) = s
+      by (cut_off s n u) = s
       by (one s n v u) = absurd (let z : true ≡ false = sym d ∙ u in let y : ◌≡◌ {A = ℕ} 0 1 = cc in omega arith)
       by (two s n v) = absurd (omega arith)
 
-  pub found_one : r.next ≡ i + 1 → is_digit (byte_at text (i + 1)) ≡ false → Found text i r
-  found_one e d = by (meets text i r p)
-    where
-      by : Meets text i r → Found text i r
-      by (none s n) = absurd (omega arith)
-      by (cut_off s n u) = absurd (let z : true ≡ false = sym u ∙ d in let y : ◌≡◌ {A = ℕ} 0 1 = cc in omega arith)
-      by (one s n v u) = record { next = omega arith; value = λ h. v; near = omega arith; small = p.small }
-      by (two s n v) = absurd (omega arith)
+  -- where there is a number that is not cut off
+  module _ (some : 0 < size_at 63 text i) where
+    begins : r.next ≡ i → ⊥
+    begins e = let n = p.next in omega arith
 
-  pub found-other : (r.next ≡ i + 1 → ⊥) → Found text i r
-  found-other e = by (meets text i r p)
-    where
-      by : Meets text i r → Found text i r
-      by (none s n) = record { next = omega arith; value = λ h. absurd (omega arith); near = omega arith; small = p.small }
-      by (cut_off s n u) = absurd (e n)
-      by (one s n v u) = absurd (e n)
-      by (two s n v) = record { next = omega arith; value = λ h. v; near = omega arith; small = p.small }
+    pub found_one : r.next ≡ i + 1 → is_digit (byte_at text (i + 1)) ≡ false → Found text i r
+    found_one e d = by (meets text i r p)
+      where
+        by : Meets text i r → Found text i r
+        by (none s n) = absurd (begins n)
+        by (cut_off s n u) = absurd (let z : true ≡ false = sym u ∙ d in let y : ◌≡◌ {A = ℕ} 0 1 = cc in omega arith)
+        by (one s n v u) = record { some = omega arith; next = omega arith; value = v; near = omega arith; small = p.small }
+        by (two s n v) = absurd (omega arith)
+
+    pub found-other : (r.next ≡ i + 1 → ⊥) → Found text i r
+    found-other e = by (meets text i r p)
+      where
+        by : Meets text i r → Found text i r
+        by (none s n) = absurd (begins n)
+        by (cut_off s n u) = absurd (e n)
+        by (one s n v u) = absurd (e n)
+        by (two s n v) = record { some = omega arith; next = omega arith; value = v; near = omega arith; small = p.small }

@@ -9,7 +9,7 @@ use lib.ListN.{length, get_or, take, drop, length-append, get_or-append}
 use lib.Seq.{get_or-append-add, get_or-take, get_or-drop}
 use lib.Dec.{ltb}
 use borrow.Author.Tests.{le-leb, ltb-true, ltb-false}
-use Rattle.scope.specs.Lines.{byte_at, decimal, is_digit, number_at, number_size, has_word, cut_word, cut_line, is_cut_line, slot_index}
+use Rattle.scope.specs.Lines.{byte_at, decimal, is_digit, number_at, number_size, has_word, cut_word, cut_line, is_cut_line, slot_index, space_index}
 use Rattle.scope.specs.Lines.{link_index, feed_index, cuts_from, cuts_of, cut_lines}
 use Rattle.text.proofs.Decimal.{decimal-small, decimal_large}
 use Rattle.cut_lines.proofs.Forms.{size_one, size_two, value_one, value_two, is-line, feed_is}
@@ -142,12 +142,16 @@ module _ (text : List ℕ) (i : ℕ) where
       let link : link_index text i ≡ i + 4 + length (decimal s) + 1 = ap (λ (k : ℕ). i + 4 + k + 1) one.size in
       let some = decimal-some s g in
       let more = decimal-some e f in
-      let feed = feed_is text i (length (decimal s)) (sym one.size) (length (decimal e)) (sym two.size) in
+      let gap-at : i + 4 + length (decimal s) ≡ space_index text i = ap (λ (k : ℕ). i + 4 + k) (sym one.size) in
+      let feed-at : i + 4 + length (decimal s) + 1 + length (decimal e) ≡
+      i + 4 + length (decimal s) + 1 + number_size text (i + 4 + length (decimal s) + 1) =
+      ap (λ (k : ℕ). i + 4 + length (decimal s) + 1 + k) (sym two.size) in
+      let feed = feed_is text i _ gap-at _ feed-at in
       let size = line-size s e in
+      let slot-size = one.size in
+      let link-size = two.size in
       record {
-        is =
-            is-line text i (length (decimal s)) (sym one.size) (length (decimal e)) (sym two.size) 10 (sym end)
-            (word_here (after_word s e) h) (λ z. omega arith) gap (λ z. omega arith) refl;
+        is = is-line text i _ gap-at _ feed-at (word_here (after_word s e) h) (omega arith) gap (omega arith) end;
         slot = one.value;
         link = ap (λ (k : ℕ). number_at text k) link ∙ two.value;
         end = omega arith;

@@ -2,14 +2,14 @@
 use Prim.Native.Nat.{ℕ, ◌+◌, ◌*◌, ◌≤◌, ◌<◌}
 use mathlib.Core.Path.{◌≡◌, refl, sym, ◌∙◌, ap}
 use mathlib.Core.List.{List, ◌++◌}
-use native.Mathlib.Nat.{mul_comm, mul_assoc, mul-le-mul}
+use native.Mathlib.Nat.{mul_comm, mul_assoc}
 use native.Mathlib.Omega.{arith}
 use lib.ListN.{length, drop, length-map}
 use borrow.Author.Tests.{le-leb, lt-leb}
-use Rattle.scope.specs.declared.Answer.{Answer}
-use Rattle.scope.specs.declared.Answer.TheVariants.{Gives, Refused}
+use Rattle.scope.specs.Outcome.{Answer}
+use Rattle.std.specs.Prelude.{Ok, Err}
 use Rattle.scope.specs.declared.Refusal.{Refusal}
-use Rattle.scope.specs.Limits.{most_slots, most_messages, longest_row}
+use Rattle.scope.specs.Limits.{most_slots, longest_row}
 use Rattle.scope.specs.Outcome.{outcome_of, gives, refused, refuse}
 use Rattle.scope.specs.Plan.{Plan, message_count, timeout_of, plan_of}
 use Rattle.scope.specs.Cuts.{check_cuts, is_cut}
@@ -60,27 +60,19 @@ row-length row cuts =
     ∙ ap (λ k. (plan_of row).timeout * (2 * k)) (length-map (plan_of row).messages S.on_first ∙ message-count row)
     ∙ ap (λ k. k * (2 * message_count row)) (timeout-is row)
 
-pub few-numbers : (row : List ℕ) → GoodRow row → (t n : ℕ) → t ≡ timeout_of row → n ≡ message_count row →
-    t * (2 * n) ≤ most_slots * (2 * most_messages)
-few-numbers row j t n e f =
-    let l = good-lies row j in
-    let a : t ≤ most_slots = omega (arith, l.timeout) in
-    let b : 2 * n ≤ 2 * most_messages = omega (arith, l.messages) in
-    mul-le-mul a b
-
 -- refusals 1 to 10 and 14 to 19, and 12
-pub replay-bad : (row cuts entry : List ℕ) (r : Refusal) → judge row ≡ refused r → Replays row cuts entry entry (Refused r)
+pub replay-bad : (row cuts entry : List ℕ) (r : Refusal) → judge row ≡ refused r → Replays row cuts entry entry (Err r)
 unfolding replay
 replay-bad row cuts entry r e =
     let o : replay row cuts (length entry) ≡ refused r = rw e in
-    refuses _ _ entry r (Refused r) o refl
+    refuses _ _ entry r (Err r) o refl
 
 pub replay-cuts : (row cuts entry : List ℕ) (r : Refusal) → GoodRow row → check_cuts (plan_of row) cuts ≡ refused r →
-    Replays row cuts entry entry (Refused r)
+    Replays row cuts entry entry (Err r)
 unfolding replay
 replay-cuts row cuts entry r j e =
     let o : replay row cuts (length entry) ≡ refused r = rw (judged row j, e) in
-    refuses _ _ entry r (Refused r) o refl
+    refuses _ _ entry r (Err r) o refl
 
 module _ (row cuts entry : List ℕ) (good : Checked row cuts) (needed : ℕ) (n : needed ≡ timeout_of row * (2 * message_count row)) where
   -- refusal 13
@@ -122,7 +114,7 @@ module _ (row cuts entry : List ℕ) (good : Checked row cuts) (needed : ℕ) (n
         ∙ ap (λ u. events (order_of (plan_of row)) (is_cut (plan_of row) cuts) (table_of (plan_of row)) 0 u
         (start (plan_of row))) (sym (timeout-is row))
 
-    pub replay-gives : Replays row cuts entry exit (Gives count)
+    pub replay-gives : Replays row cuts entry exit (Ok count)
     unfolding replay
     replay-gives =
         let l : length (event_row (plan_of row) cuts) ≡ needed = row-length row cuts ∙ sym n in

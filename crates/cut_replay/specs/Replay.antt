@@ -1,6 +1,6 @@
 -- The promise of the replay: its answer, and what the lent buffer has after it, follow from what goes in.
 use Rattle.std.specs.Prelude.{ℕ, ◌≡◌, List, length}
-use Rattle.scope.specs.declared.Answer.{Answer}
+use Rattle.scope.specs.Outcome.{Answer}
 use Rattle.scope.specs.Outcome.{gives}
 use Rattle.scope.specs.Plan.{plan_of}
 use Rattle.scope.specs.Cuts.{check_cuts}

@@ -7,22 +7,26 @@
 ghost use Rattle.std.specs.Prelude.{◌*◌, ◌≡◌};
 ghost use Rattle.scope.specs.Plan.{message_count, timeout_of, plan_of};
 ghost use Rattle.cables.specs.Others.{OtherWays};
-ghost use Rattle.plan.specs.Answers.{GoodRow};
 ghost use Rattle.cut_replay.specs.Replay.{Checked, Replays};
 
+use plan::Good;
 use scope::limits::TABLE;
-use scope::{Answer, refuse};
+use scope::{Refusal, refuse};
 
 // How many numbers the row of events takes.
-fn event_numbers(row: &[u16]) -> usize
-    requires { GoodRow row.now }
+pub fn event_numbers(row: &[u16]) -> usize
     ensures { result ≡ timeout_of row.now * (2 * message_count row.now) }
 {
     rows::timeout(row) * (2 * rows::messages(row))
 }
 
 // The replay of a good row under a good cut list: refusal 13, or the arrivals.
-fn replay_cut(row: &[u16], others: &[u8], cuts: &[u16], events: &mut [u16]) -> Answer
+fn replay_cut(
+    row: &[u16],
+    others: &[u8],
+    cuts: &[u16],
+    events: &mut [u16],
+) -> Result<usize, Refusal>
     requires { Checked row.now cuts.now × OtherWays (plan_of row.now) others.now }
     ensures { Replays row.now cuts.now events.old events.new result }
 {
@@ -33,30 +37,23 @@ fn replay_cut(row: &[u16], others: &[u8], cuts: &[u16], events: &mut [u16]) -> A
     let mut table = [0u8; TABLE];
     table::fill_table(row, &mut table);
     let count = cycle::play(row, &table, others, cuts, events);
-    Answer::Gives(count)
+    Ok(count)
 }
 
 // The replay of a row that is known to be good: refusal 12, or what `replay_cut` gives.
-pub fn replay_good(row: &[u16], cuts: &[u16], events: &mut [u16]) -> Answer
-    requires { GoodRow row.now }
-    ensures { Replays row.now cuts.now events.old events.new result }
+pub fn replay_good(good: Good<'_>, cuts: &[u16], events: &mut [u16]) -> Result<usize, Refusal>
+    ensures { Replays good.entry.row.now cuts.now events.old events.new result }
 {
-    let others = cables::other_ways(row);
-    let checked = cuts::check(row, &others, cuts);
-    match checked {
-        Answer::Refused(refusal) => Answer::Refused(refusal),
-        Answer::Gives(_) => replay_cut(row, &others, cuts, events),
-    }
+    let others = cables::other_ways(good.row);
+    cuts::check(good.row, &others, cuts)?;
+    replay_cut(good.row, &others, cuts, events)
 }
 
 // The replay of a row under a cut list: a refusal, or the number of messages at their targets at time t, with the row of events at
 // the front of `events`: "slot by slot, message by message, kind then number".
-pub fn replay(row: &[u16], cuts: &[u16], events: &mut [u16]) -> Answer
+pub fn replay(row: &[u16], cuts: &[u16], events: &mut [u16]) -> Result<usize, Refusal>
     ensures { Replays row.now cuts.now events.old events.new result }
 {
-    let judged = plan::judge(row);
-    match judged {
-        Answer::Refused(refusal) => Answer::Refused(refusal),
-        Answer::Gives(_) => replay_good(row, cuts, events),
-    }
+    let good = plan::judged(row)?;
+    replay_good(good, cuts, events)
 }

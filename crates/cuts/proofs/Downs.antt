@@ -1,24 +1,21 @@
 -- Laws of what is down in a slot: one more link, one more pair, and all pairs.
-use Prim.Native.Nat.{ℕ, ◌+◌, ◌≤◌, ◌<◌}
+use Prim.Native.Nat.{ℕ, ◌+◌, ◌<◌}
 use mathlib.Core.Path.{◌≡◌, refl, sym, ◌∙◌, ap}
 use mathlib.Core.Bool.{Bool, true, false, cond, ◌&&◌, ◌||◌, or-false, or-true, or_assoc, and-true, and-false}
 use mathlib.Core.List.{List}
 use native.Mathlib.Omega.{arith}
-use lib.ListN.{length, replicate, get_or-replicate, length-replicate, length-set, get_or-eq_default}
+use lib.ListN.{length, replicate, get_or-replicate, length-replicate, length-set}
 use lib.Seq.{get_or-set_same, get_or-set_other}
 use lib.Dec.{ltb, leb, eqb}
-use borrow.Author.Tests.{le-ltb, le-leb, lt-leb, ltb-true, ltb-false, eqb-true, eqb-false}
+use borrow.Author.Tests.{le-ltb, eqb-true, eqb-false}
 use Rattle.scope.specs.Limits.{most_links}
 use Rattle.scope.specs.Lowest.{seek, some}
-use Rattle.scope.specs.Cuts.{cut_slot, cut_link, pairs}
+use Rattle.scope.specs.Cuts.{cut_slot, cut_link}
 use Rattle.scope.proofs.Some.{some_more}
 use Rattle.cables.specs.Others.{other_in}
-use Rattle.cuts.specs.Down.{is_down, with_link, with_cable, with_pair, DownIn}
+use Rattle.cuts.specs.Down.{is_down, with_link, with_cable, with_pair}
 
 -- a link past the list is whole
-pub down-past : (down : List ℕ) (e : ℕ) → length down ≤ e → is_down down e ≡ false
-down-past down e h = ap (ltb 0) (get_or-eq_default down 0 h)
-
 -- one more link is down: it alone
 link-down : (down : List ℕ) (d e : ℕ) → e < length down → is_down (with_link down d) e ≡ (is_down down e || eqb d e)
 link-down down d e l = by (eqb d e) refl
@@ -35,15 +32,6 @@ module _ (others down : List ℕ) where
       link-down (with_link down d) (other_in others d) e (rw (length-set down d 1) l) ∙
       ap (λ x. x || eqb (other_in others d) e) (link-down down d e l) ∙ or_assoc (is_down down e) (eqb d e) (eqb (other_in others d) e)
 
-  -- the two ways to put a pair
-  module _ (at link i : ℕ) where
-    pub put-down : (o : ℕ) (one both : List ℕ) → at ≤ i → one ≡ with_link down link → o ≡ other_in others link → both ≡ with_link one o →
-        both ≡ with_pair others down at link i
-    put-down o one both h p q r = rw (le-leb at i h, r, p, q)
-
-    pub put-later : i < at → down ≡ with_pair others down at link i
-    put-later h = rw (lt-leb at i h)
-
 module _ (others cuts : List ℕ) (i : ℕ) where
   -- pair j takes link e down
   abbrev cut_by : ℕ → ℕ → Bool
@@ -54,7 +42,7 @@ module _ (others cuts : List ℕ) (i : ℕ) where
     pub long : length down ≡ most_links
     pub is : (e : ℕ) → e < most_links → is_down down e ≡ some (cut_by e) j
 
-  -- it begins, it goes on, it is done
+  -- it begins, it goes on
   pub told_none : Told 0 (replicate {A = ℕ} most_links 0)
   unfolding seek
   told_none =
@@ -83,10 +71,3 @@ module _ (others cuts : List ℕ) (i : ℕ) where
   pub told_more : (j : ℕ) (down new : List ℕ) (at link : ℕ) → Told j down → at ≡ cut_slot cuts j → link ≡ cut_link cuts j →
       new ≡ with_pair others down at link i → Told (j + 1) new
   told_more j down new at link t p q e = rw (e, p, q) (more j down t)
-
-  pub told-all : (j : ℕ) (down : List ℕ) → j ≡ pairs cuts → Told j down → DownIn others cuts i down
-  told-all j down e t = record { long = t.long; is = λ k. by k (ltb k most_links) refl }
-    where
-      by : (k : ℕ) (b : Bool) → ltb k most_links ≡ b → is_down down k ≡ (b && some (cut_by k) (pairs cuts))
-      by k true b = t.is k (ltb-true k most_links b) ∙ ap (some (cut_by k)) e
-      by k false b = let l : most_links ≤ k = ltb-false k most_links b in down-past down k (omega (arith, t.long))

@@ -1,2 +1,3 @@
 pub mod Downs
 pub mod Pairs
+pub mod Ranges

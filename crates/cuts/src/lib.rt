@@ -10,29 +10,43 @@ ghost use Rattle.scope.specs.Outcome.{outcome_of};
 ghost use Rattle.scope.specs.Plan.{plan_of};
 ghost use Rattle.scope.specs.Cuts.{pairs, falls, check_cuts};
 ghost use Rattle.cables.specs.Others.{OtherWays};
-ghost use Rattle.cuts.specs.Pairs.{is_twice, is_bad};
+ghost use Rattle.cuts.specs.Pairs.{IsPair, is_twice, is_bad};
 ghost use Rattle.cuts.specs.Down.{is_down, with_link, with_pair, DownIn};
 
 use rows::number;
 use scope::limits::LINKS;
-use scope::{Answer, refuse};
+use scope::{Refusal, refuse};
+
+// A pair of a cut list: by slot, and in one slot by link.
+#[derive(Clone, Copy, PartialEq, PartialOrd)]
+struct Pair {
+    slot: usize,
+    link: usize,
+}
+
+// Pair i, with zeros past the list's end.
+fn pair_at(cuts: &[u16], i: usize) -> Pair
+    requires { i < 2 ^ 61 }
+    ensures { IsPair cuts.now i result }
+{
+    Pair {
+        slot: number(cuts, 2 * i),
+        link: number(cuts, 2 * i + 1),
+    }
+}
 
 // A link is down: its byte is not 0. One past the list is whole.
 pub fn is_down(down: &[u8], link: usize) -> bool
     ensures { result ≡ is_down down.now link }
 {
-    if link < down.len() {
-        0 < down[link]
-    } else {
-        false
-    }
+    down.get(link).is_some_and(|d| 0 < *d)
 }
 
 // How many pairs there are, an odd last number among them.
 fn count(cuts: &[u16]) -> usize
     ensures { result ≡ pairs cuts.now }
 {
-    cuts.len() / 2 + cuts.len() % 2
+    cuts.len().div_ceil(2)
 }
 
 // One more link is down.
@@ -44,13 +58,13 @@ fn put_link(down: &mut [u8], link: usize)
     }
 }
 
-// One more pair, of slot `at`: if it is not later than `slot`, its link is down, and the other way of it.
-fn put_pair(down: &mut [u8], others: &[u8], at: usize, link: usize, slot: usize)
-    ensures { down.new ≡ with_pair others.now down.old at link slot }
+// One more pair: if it is not later than `slot`, its link is down, and the other way of it.
+fn put_pair(down: &mut [u8], others: &[u8], pair: Pair, slot: usize)
+    ensures { down.new ≡ with_pair others.now down.old pair.slot pair.link slot }
 {
-    if at <= slot {
-        put_link(down, link);
-        put_link(down, cables::other(others, link));
+    if pair.slot <= slot {
+        put_link(down, pair.link);
+        put_link(down, cables::other(others, pair.link));
     }
 }
 
@@ -58,14 +72,9 @@ fn put_pair(down: &mut [u8], others: &[u8], at: usize, link: usize, slot: usize)
 pub fn down_in(others: &[u8], cuts: &[u16], slot: usize) -> [u8; LINKS]
     ensures { DownIn others.now cuts.now slot result }
 {
-    let mut down = [0u8; LINKS];
-    let n = count(cuts);
-    let mut j = 0;
-    while j < n {
-        let at = number(cuts, 2 * j);
-        let link = number(cuts, 2 * j + 1);
-        put_pair(&mut down, others, at, link, slot);
-        j += 1;
+    let mut down = [0; LINKS];
+    for j in 0..count(cuts) {
+        put_pair(&mut down, others, pair_at(cuts, j), slot);
     }
     down
 }
@@ -75,18 +84,7 @@ fn falls_at(cuts: &[u16], i: usize) -> bool
     requires { i < 2 ^ 61 }
     ensures { result ≡ falls cuts.now i }
 {
-    if i == 0 {
-        return false;
-    }
-    let slot = number(cuts, 2 * i);
-    let before = number(cuts, 2 * (i - 1));
-    if before < slot {
-        return false;
-    }
-    if slot < before {
-        return true;
-    }
-    number(cuts, 2 * i + 1) <= number(cuts, 2 * (i - 1) + 1)
+    0 < i && pair_at(cuts, i) <= pair_at(cuts, i - 1)
 }
 
 // Pair i names a link that an earlier pair names.
@@ -94,15 +92,8 @@ fn twice(cuts: &[u16], i: usize) -> bool
     requires { i < 2 ^ 61 }
     ensures { result ≡ is_twice cuts.now i }
 {
-    let link = number(cuts, 2 * i + 1);
-    let mut j = 0;
-    while j < i {
-        if number(cuts, 2 * j + 1) == link {
-            return true;
-        }
-        j += 1;
-    }
-    false
+    let link = pair_at(cuts, i).link;
+    (0..i).any(|j| pair_at(cuts, j).link == link)
 }
 
 // Pair i is bad.
@@ -110,22 +101,13 @@ fn bad_pair(timeout: usize, links: usize, others: &[u8], cuts: &[u16], i: usize)
     requires { i < 2 ^ 61 }
     ensures { result ≡ is_bad timeout links others.now cuts.now i }
 {
-    if cuts.len() == 2 * i + 1 {
-        return true;
-    }
-    if number(cuts, 2 * i) >= timeout {
-        return true;
-    }
-    if number(cuts, 2 * i + 1) >= links {
-        return true;
-    }
-    if falls_at(cuts, i) {
-        return true;
-    }
-    if twice(cuts, i) {
-        return true;
-    }
-    cables::is_higher(others, number(cuts, 2 * i + 1))
+    let Pair { slot, link } = pair_at(cuts, i);
+    cuts.len() == 2 * i + 1
+        || timeout <= slot
+        || links <= link
+        || falls_at(cuts, i)
+        || twice(cuts, i)
+        || cables::is_higher(others, link)
 }
 
 // The first bad pair, or how many pairs there are.
@@ -133,26 +115,17 @@ fn first_bad(timeout: usize, links: usize, others: &[u8], cuts: &[u16]) -> usize
     ensures { result ≡ lowest (is_bad timeout links others.now cuts.now) (pairs cuts.now) }
 {
     let n = count(cuts);
-    let mut i = 0;
-    while i < n {
-        if bad_pair(timeout, links, others, cuts, i) {
-            return i;
-        }
-        i += 1;
-    }
-    i
+    (0..n)
+        .find(|i| bad_pair(timeout, links, others, cuts, *i))
+        .unwrap_or(n)
 }
 
 // Refusal 12 of a cut list, for the plan of a row and the other ways of its links, or how many pairs it has.
-pub fn check(row: &[u16], others: &[u8], cuts: &[u16]) -> Answer
+pub fn check(row: &[u16], others: &[u8], cuts: &[u16]) -> Result<usize, Refusal>
     requires { OtherWays (plan_of row.now) others.now }
     ensures { outcome_of result ≡ check_cuts (plan_of row.now) cuts.now }
 {
     let n = count(cuts);
     let i = first_bad(rows::timeout(row), rows::links(row), others, cuts);
-    if i < n {
-        refuse(12, i)
-    } else {
-        Answer::Gives(n)
-    }
+    if i < n { refuse(12, i) } else { Ok(n) }
 }

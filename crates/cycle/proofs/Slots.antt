@@ -1,6 +1,6 @@
 -- Laws of one slot and of all slots.
 use Prim.Native.Nat.{ℕ, zero, suc, ◌+◌, ◌-◌, ◌*◌, ◌≤◌, ◌<◌}
-use mathlib.Core.Path.{◌≡◌, refl, sym, ◌∙◌, ap}
+use mathlib.Core.Path.{◌≡◌, sym, ◌∙◌, ap}
 use mathlib.Core.Bool.{Bool}
 use mathlib.Core.List.{List, [], ◌++◌, map, append_assoc, append-nil}
 use native.Mathlib.Nat.{zero-mul, suc-mul}
@@ -77,22 +77,6 @@ module _ (row : List ℕ) (n : ℕ) (rank : ℕ → ℕ) (down : ℕ → ℕ →
     pub written : take at out ++ events rank down owner i (t - i) (positions_of row n new) ≡ events rank down owner 0 t (positions_of row n old)
     pub rest : drop at out ≡ drop at buffer
     pub ends : positions rank down owner i (t - i) (positions_of row n new) ≡ positions rank down owner 0 t (positions_of row n old)
-
-  pub running_none : (i : ℕ) (ps : List Position) (out : List ℕ) → i ≡ 0 → Stand row n ps → length ps ≡ most_messages → t ≤ 65536 →
-      length (events rank down owner 0 t (positions_of row n ps)) ≤ length out → Running i 0 ps ps out out
-  running_none i ps out e s l k h =
-      let z : t - 0 ≡ t = omega arith in
-      record {
-        early = omega arith;
-        short = k;
-        stand = s;
-        long = l;
-        same = refl;
-        enough = rw (e, z) (omega arith);
-        written = rw (e, z);
-        rest = refl;
-        ends = rw (e, z);
-      }
 
   module _ (i at : ℕ) (old new : List Position) (buffer out : List ℕ) (g : Running i at old new buffer out) where
     told : length (numbers (slot rank down owner i (positions_of row n new))) ≡ 2 * n

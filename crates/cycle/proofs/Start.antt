@@ -18,7 +18,9 @@ use Rattle.step.proofs.Left.{after-least}
 use Rattle.step.proofs.Steps.{home-is}
 use Rattle.rows.proofs.Index.{messages-next}
 use Rattle.step.specs.Stand.{home, positions_of, Become}
-use Rattle.step.proofs.Tried.{map_snoc, positions-more}
+use Rattle.step.proofs.Tried.{map_snoc}
+use Rattle.std.specs.Prelude.{count_by}
+use Rattle.std.proofs.lemmas.List.Recursion.{is_count_by}
 use Rattle.cycle.specs.Play.{MayStart}
 
 -- at the beginning of a first path
@@ -126,18 +128,13 @@ module _ (row : List ℕ) (n : ℕ) where
             stand = record { few = s.may.few; fit = λ k g. s.fit k (omega arith) };
           }
 
--- one more message that is at its target, or is not
-arrived_snoc : (ps : List S.Position) (p : S.Position) → arrived (ps ++ (p ∷ [])) ≡ arrived ps + cond (S.at_target p) 1 0
-unfolding arrived
-arrived_snoc [] p = omega arith
-arrived_snoc (q ∷ ps) p = rw (arrived_snoc ps p) (omega arith)
+one_more : (b : Bool) (n : ℕ) → cond b 1 0 + n ≡ cond b (1 + n) n
+one_more true n = refl
+one_more false n = omega arith
 
-pub arrived-none : (row : List ℕ) (ps : List Position) → 0 ≡ arrived (positions_of row 0 ps)
+-- as many have arrived as there are records at their targets
+pub arrived_count : (row : List ℕ) (ps : List Position) → arrived (map (position_of row) ps) ≡ count_by (λ (p : Position). eqb p.left 0) ps
 unfolding arrived
-arrived-none row ps = refl
-
-pub arrived-more : (row : List ℕ) (ps : List Position) (j count one : ℕ) → j < length ps → count ≡ arrived (positions_of row j ps) →
-    one ≡ cond (eqb (get_or ps j home).left 0) 1 0 → count + one ≡ arrived (positions_of row (j + 1) ps)
-arrived-more row ps j count one h e f =
-    let p = get_or ps j home in
-    rw (positions-more row j ps h, arrived_snoc (positions_of row j ps) (position_of row p), ← e, f, home-is row p.at p.left p.turned)
+arrived_count row =
+    is_count_by (λ (ps : List Position). arrived (map (position_of row) ps)) (λ (p : Position). eqb p.left 0) refl
+    (λ p ps. rw (← home-is row p.at p.left p.turned) (one_more (eqb p.left 0) (arrived (map (position_of row) ps))))

@@ -6,7 +6,7 @@
 
 #![tactic(auto)]
 
-ghost use Rattle.std.specs.Prelude.{ℕ, ◌≤◌, ◌≡◌, cond, List, map, length, eqb};
+ghost use Rattle.std.specs.Prelude.{ℕ, ◌≤◌, ◌≡◌, List, map, length};
 ghost use Rattle.scope.specs.Limits.{most_messages};
 ghost use Rattle.scope.specs.Plan.{messages_at, first_message};
 ghost use Rattle.scope.specs.Slot.{on_first};
@@ -18,35 +18,15 @@ ghost use Rattle.cycle.specs.Play.{do_in, ends_with, tells, MayStart, Begins, Do
 use scope::limits::MESSAGES;
 use step::{Position, Slot, Standing};
 
-// One where a position is at its target, else 0.
-fn home_one(p: Position) -> usize
-    ensures { (result ≡ cond (eqb p.left 0) 1 0) × (result ≤ 1) }
-{
-    if p.is_home() { 1 } else { 0 }
-}
-
-// How many of the first n records are at their targets.
-fn count_records(ps: [Position; MESSAGES], n: usize) -> usize
-    requires { n ≤ most_messages }
-    ensures { (row : List ℕ) → result ≡ arrived (positions_of row n ps) }
-{
-    let mut count = 0;
-    let mut j = 0;
-    while j < n {
-        let p = ps[j];
-        count += home_one(p);
-        j += 1;
-    }
-    count
-}
-
 // How many of the first n messages are at their targets.
 pub fn count_home(standing: Standing, n: usize) -> usize
     requires { n ≤ most_messages }
     ensures { (row : List ℕ) → result ≡ arrived (positions_of row n standing.positions) }
 {
-    let ps = standing.positions();
-    count_records(ps, n)
+    standing.positions()[..n]
+        .iter()
+        .filter(|p| p.is_home())
+        .count()
 }
 
 // The first records of n messages.
@@ -60,17 +40,13 @@ fn first_records(row: &[u16], n: usize) -> [Position; MESSAGES]
         turned: false,
     }; MESSAGES];
     let mut at = rows::links(row) * 2 + 5;
-    let mut m = 0;
-    while m < n {
-        let left = rows::place_count(row, at);
-        let p = Position {
+    for m in 0..n {
+        ps[m] = Position {
             at: (at + 1) as u16,
-            left: left as u16,
+            left: rows::place_count(row, at) as u16,
             turned: false,
         };
-        ps[m] = p;
         at = rows::after_message(row, at);
-        m += 1;
     }
     ps
 }
@@ -125,16 +101,12 @@ fn run(
 {
     let mut standing = first;
     let mut at = 0;
-    loop {
-        let time = standing.time();
-        if timeout <= time.number() {
-            return standing;
-        }
-        let i = time.begins(timeout);
-        let next = run_slot(standing, i, n, row, table, others, cuts, &mut out[at..]);
-        standing = next;
+    while standing.time().number() < timeout {
+        let i = standing.time().begins(timeout);
+        standing = run_slot(standing, i, n, row, table, others, cuts, &mut out[at..]);
         at += 2 * n;
     }
+    standing
 }
 
 // A whole cycle of the plan of a row: how many messages arrive, with the row of events at the front of `out`.

@@ -3,7 +3,8 @@ use Prim.Native.Nat.{ℕ, ◌+◌}
 use mathlib.Core.Path.{◌≡◌, sym, subst}
 use mathlib.Core.List.{List, [], ◌++◌}
 use lib.ListN.{length, take}
-use Rattle.scope.specs.declared.Answer.{Answer}
+use Rattle.std.proofs.Common.{Option, Some, None}
+use Rattle.scope.specs.Outcome.{Answer}
 use Rattle.scope.specs.declared.Refusal.{Refusal}
 use Rattle.scope.specs.Limits.{crossed_size, plan_room, longest_row}
 use Rattle.scope.specs.Outcome.{gives, refused}
@@ -19,11 +20,7 @@ use Rattle.explain_text.specs.Room.{explain_room}
 use Rattle.explain_text.proofs.Theorems.{shown-refused, shown_given}
 use Rattle.program_io.specs.Pieces.{Piece}
 use Rattle.program_io.proofs.Pieces.{none_came}
-use Rattle.explain.specs.Shown.{Going, MayStart, WholeInput, Captured, ShowsRow, whatever, of, Shows}
-use Rattle.explain.specs.declared.Input.{Input}
-use Rattle.explain.specs.declared.Input.TheVariants.{Whole}
-use Rattle.explain.specs.declared.Told.{Told}
-use Rattle.explain.specs.declared.Told.TheVariants.{Text, Nothing}
+use Rattle.explain.specs.Shown.{Going, MayStart, WholeInput, ShowsRow, whatever, of, Shows}
 
 -- before the first turn
 pub going-first : (plan : Plan) (row crossed : List ℕ) (r : Reading) → MayStart row crossed → length crossed ≡ crossed_size → Starts r →
@@ -58,17 +55,13 @@ module _ (plan : Plan) (crossed : List ℕ) (r : Reading) (turn n : ℕ) (piece 
     keeps = f plan g.before crossed g.reads;
   }
 
-pub whole_of : (plan : Plan) (crossed : List ℕ) (i : Input) (kept : Kept) → i ≡ Whole kept → Captured plan crossed i →
-    WholeInput plan crossed kept
-whole_of plan crossed i kept e h = rw e at h
-
 -- what is shown of a plan file, by what is shown of its row
 module _ (plan : List ℕ) (p : ℕ) (entry exit : List ℕ) (l : length plan ≡ plan_room) where
   pub shows-refused : (r : Refusal) → read_file (take p plan) longest_row ≡ refused r → (a : Answer) → length entry ≡ explain_room →
-      Prints (refused_line r) entry exit a → Shows plan p entry exit (Text a)
+      Prints (refused_line r) entry exit a → Shows plan p entry exit (Some a)
   shows-refused r e a room q file f = whatever (shown-refused plan p file l f r e room q)
 
-  pub shows_given : (n : ℕ) → read_file (take p plan) longest_row ≡ gives n → (row : List ℕ) → row ≡ row_of (take p plan) → (t : Told) →
+  pub shows_given : (n : ℕ) → read_file (take p plan) longest_row ≡ gives n → (row : List ℕ) → row ≡ row_of (take p plan) → (t : Option Answer) →
       ShowsRow row entry exit t → Shows plan p entry exit t
-  shows_given n e row is (Text a) s = λ file f. of s.input s.came (shown_given plan p file l f n e row is s.input s.shows)
-  shows_given n e row is Nothing s = tt
+  shows_given n e row is (Some a) s = λ file f. of s.input s.came (shown_given plan p file l f n e row is s.input s.shows)
+  shows_given n e row is None s = tt

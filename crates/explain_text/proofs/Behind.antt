@@ -1,5 +1,5 @@
 -- One text behind another in a lent buffer: the second is laid behind the first one's place, and where it found room, the first in front of it.
-use Prim.Native.Nat.{ℕ, ◌+◌, ◌-◌, ◌≤◌, ◌<◌}
+use Prim.Native.Nat.{ℕ, ◌+◌, ◌-◌, ◌≤◌, ◌<◌, min}
 use mathlib.Core.Path.{◌≡◌, refl, sym, ◌∙◌, ap}
 use mathlib.Core.Bool.{Bool, true, false, cond}
 use mathlib.Core.List.{List, [], ◌++◌, append_assoc, append-nil}
@@ -9,8 +9,8 @@ use lib.ListN.{length, take, drop, length-append, length-drop, take-append-drop,
 use lib.Seq.{drop_at, drop-drop, length-take-le, take_all}
 use lib.Dec.{leb}
 use borrow.Author.Tests.{le-leb, lt-leb, leb-true, leb-false}
-use Rattle.scope.specs.declared.Answer.{Answer}
-use Rattle.scope.specs.declared.Answer.TheVariants.{Gives, Refused}
+use Rattle.scope.specs.Outcome.{Answer}
+use Rattle.std.specs.Prelude.{Ok, Err}
 use Rattle.scope.specs.declared.Refusal.{Refusal}
 use Rattle.scope.specs.Outcome.{Outcome, outcome_of, gives, refused, refuse, room}
 use Rattle.scope.specs.Questions.{after}
@@ -39,15 +39,15 @@ room-refused n lent r e = by (leb n lent) refl e
         place-of (refused q) = q.place
 
 module _ (front back entry tail : List ℕ) (from : ℕ) (a : Answer) (some : 0 < length back)
-    (is : from ≡ length front - (length front - length entry)) (p : Prints back (drop from entry) tail a) where
+    (is : from ≡ min (length front) (length entry)) (p : Prints back (drop from entry) tail a) where
   split : take from entry ++ drop from entry ≡ entry
   split = take-append-drop from entry
 
   size : length (front ++ back) ≡ length front + length back
   size = length-append front back
 
-  pub behind_given : (n m k : ℕ) (exit : List ℕ) → n ≡ length front → a ≡ Gives m → Puts front (take from entry ++ tail) exit 0 k →
-      Prints (front ++ back) entry exit (Gives (n + m))
+  pub behind_given : (n m k : ℕ) (exit : List ℕ) → n ≡ length front → a ≡ Ok m → Puts front (take from entry ++ tail) exit 0 k →
+      Prints (front ++ back) entry exit (Ok (n + m))
   unfolding after
   behind_given n m k exit ln e q =
       let o : gives m ≡ room (length back) (length (drop from entry)) = sym (ap outcome_of e) ∙ p.answer in
@@ -77,7 +77,7 @@ module _ (front back entry tail : List ℕ) (from : ℕ) (a : Answer) (some : 0 
             ∙ sym (append_assoc front back (drop (length (front ++ back)) entry));
       }
 
-  pub behind-refused : (n : ℕ) (r : Refusal) (b : Answer) → n ≡ length front → a ≡ Refused r → outcome_of b ≡ refuse 13 (n + r.place) →
+  pub behind-refused : (n : ℕ) (r : Refusal) (b : Answer) → n ≡ length front → a ≡ Err r → outcome_of b ≡ refuse 13 (n + r.place) →
       Prints (front ++ back) entry (take from entry ++ tail) b
   unfolding after
   behind-refused n r b ln e ob =
@@ -96,15 +96,15 @@ module _ (front back entry tail : List ℕ) (from : ℕ) (a : Answer) (some : 0 
 
 -- as the code lends it: the line was first laid over nothing, and the listing over the rest of what was lent
 module _ (front back b entry tail : List ℕ) (n from : ℕ) (a : Answer) (some : 0 < length back) (first : Puts front [] b 0 n)
-    (is : from ≡ n - (n - length (b ++ entry))) (p : Prints back (mid_of from (length (b ++ entry) - from) (b ++ entry)) tail a) where
+    (is : from ≡ min n (length (b ++ entry))) (p : Prints back (mid_of from (length (b ++ entry) - from) (b ++ entry)) tail a) where
   nothing : b ++ entry ≡ entry
   nothing = ap (λ (x : List ℕ). x ++ entry) (counted first)
 
   long : n ≡ length front
   long = needed first
 
-  from_is : from ≡ length front - (length front - length entry)
-  from_is = is ∙ ap (λ (x : List ℕ). n - (n - length x)) nothing ∙ ap (λ (x : ℕ). x - (x - length entry)) long
+  from_is : from ≡ min (length front) (length entry)
+  from_is = is ∙ ap (λ (x : List ℕ). min n (length x)) nothing ∙ ap (λ (x : ℕ). min x (length entry)) long
 
   inside : from ≤ length entry
   inside = omega (arith, from_is)
@@ -127,42 +127,25 @@ module _ (front back b entry tail : List ℕ) (n from : ℕ) (a : Answer) (some 
   p' : Prints back (drop from entry) tail a
   p' = rw lent at p
 
-  pub both_given : (m k : ℕ) (exit : List ℕ) → a ≡ Gives m →
-      Puts front (put_mid from (length (b ++ entry) - from) (b ++ entry) tail) exit 0 k → Prints (front ++ back) entry exit (Gives (n + m))
+  pub both_given : (m k : ℕ) (exit : List ℕ) → a ≡ Ok m →
+      Puts front (put_mid from (length (b ++ entry) - from) (b ++ entry) tail) exit 0 k → Prints (front ++ back) entry exit (Ok (n + m))
   both_given m k exit e q = behind_given front back entry tail from a some from_is p' n m k exit long e (rw back-of at q)
 
-  pub both-refused : (r : Refusal) (c : Answer) → a ≡ Refused r → outcome_of c ≡ refuse 13 (n + r.place) →
+  pub both-refused : (r : Refusal) (c : Answer) → a ≡ Err r → outcome_of c ≡ refuse 13 (n + r.place) →
       Prints (front ++ back) entry (put_mid from (length (b ++ entry) - from) (b ++ entry) tail) c
   both-refused r c e o = rw back-of (behind-refused front back entry tail from a some from_is p' n r c long e o)
 
   -- how long they are together
-  pub count_given : (m : ℕ) → a ≡ Gives m → n + m ≡ length front + length back
+  pub count_given : (m : ℕ) → a ≡ Ok m → n + m ≡ length front + length back
   count_given m e =
       let o : gives m ≡ room (length back) (length (drop from entry)) = sym (ap outcome_of e) ∙ p'.answer in
       let g = (room_given (length back) (length (drop from entry)) m o).0 in
       let l = long in
       omega arith
 
-  pub count-refused : (r : Refusal) → a ≡ Refused r → n + r.place ≡ length front + length back
+  pub count-refused : (r : Refusal) → a ≡ Err r → n + r.place ≡ length front + length back
   count-refused r e =
       let o : refused r ≡ room (length back) (length (drop from entry)) = sym (ap outcome_of e) ∙ p'.answer in
       let g = (room-refused (length back) (length (drop from entry)) r o).0 in
       let l = long in
       omega arith
-
--- a text of twelve bytes
-pub short-printed : (text entry : List ℕ) (n : ℕ) (a : Answer) → length text ≡ n → length entry < n → outcome_of a ≡ refuse 13 n →
-    Prints text entry entry a
-unfolding after
-short-printed text entry n a l h o = record {
-  answer = o ∙ ap (refuse 13) (sym l) ∙ sym (rw (lt-leb (length text) (length entry) (omega arith)));
-  buffer = rw o refl;
-}
-
-pub whole-printed : (text entry exit : List ℕ) (n k : ℕ) → length text ≡ n → n ≤ length entry → Puts text entry exit 0 k →
-    Prints text entry exit (Gives n)
-unfolding after
-whole-printed text entry exit n k l h p = record {
-  answer = ap gives (sym l) ∙ sym (rw (le-leb (length text) (length entry) (omega arith)));
-  buffer = p.buffer ∙ laid-front entry text (omega arith);
-}

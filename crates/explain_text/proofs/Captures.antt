@@ -8,8 +8,8 @@ use native.Mathlib.Nat.{mul_assoc, mul-le-mul, min-le_right}
 use lib.ListN.{length, get_or, take, length-append, length-take, replicate}
 use borrow.Rule.Slice.PartMut.{mid_of, put_mid}
 use borrow.Author.Tests.{le-leb}
-use Rattle.scope.specs.declared.Answer.{Answer}
-use Rattle.scope.specs.declared.Answer.TheVariants.{Gives, Refused as AnswerRefused}
+use Rattle.scope.specs.Outcome.{Answer}
+use Rattle.std.specs.Prelude.{Some, None, Ok, Err}
 use Rattle.scope.specs.declared.Refusal.{Refusal}
 use Rattle.scope.specs.Limits.{longest_row, longest_events, crossed_size}
 use Rattle.scope.specs.Outcome.{Outcome, outcome_of, gives, refused, refuse}
@@ -32,8 +32,7 @@ use Rattle.capture.specs.declared.Kept.{Kept}
 use Rattle.capture.specs.Kept.{Keeps, Small}
 use Rattle.capture_lines.specs.Reads.{Starts, Feeds, Finishes}
 use Rattle.capture_lines.specs.declared.Reading.{Reading}
-use Rattle.explanations.specs.declared.Explanation.{Explanation as Answer-of}
-use Rattle.explanations.specs.declared.Explanation.TheVariants.{Unexplained, Listed, Refused}
+use Rattle.explanations.specs.Explained.{Explanation as Answer-of}
 use Rattle.explanations.specs.Explained.{Answered, IsUnexplained, IsListed, IsRefused}
 use Rattle.listing.specs.Prints.{Says, Prints}
 use Rattle.listing.proofs.Printing.{prints_as, says_given, says-refused, says_as}
@@ -93,35 +92,35 @@ module _ (row : List ℕ) (good : GoodRow row) where
     listed s = let p = says_as (replays cuts h) refl s in record { answer = p.answer; buffer = p.buffer }
 
 -- the line and the listing behind it
-module _ (row list : List ℕ) (may : MayList row list) (b entry tail : List ℕ) (n from : ℕ) (a : Answer) (first : Puts (list_line list) [] b 0 n)
-    (is : from ≡ n - (n - length (b ++ entry)))
+module _ (row list : List ℕ) (good : GoodRow row) (may : MayList row list) (b entry tail : List ℕ) (n from : ℕ) (a : Answer) (first : Puts (list_line list) [] b 0 n)
+    (is : from ≡ min n (length (b ++ entry)))
     (s : Says (replay row list longest_events) (text_of row list) (mid_of from (length (b ++ entry) - from) (b ++ entry)) tail a) where
   p : Prints (text_of row list) (mid_of from (length (b ++ entry) - from) (b ++ entry)) tail a
-  p = listed row may.good list may.list s
+  p = listed row good list may.list s
 
   some-text : 0 < length (text_of row list)
-  some-text = listing-some row may.good list may.list
+  some-text = listing-some row good list may.list
 
-  pub lines_given : (m k : ℕ) (exit : List ℕ) → a ≡ Gives m →
+  pub lines_given : (m k : ℕ) (exit : List ℕ) → a ≡ Ok m →
       Puts (list_line list) (put_mid from (length (b ++ entry) - from) (b ++ entry) tail) exit 0 k →
-      Prints (explained_lines (plan_of row) list) entry exit (Gives (n + m))
+      Prints (explained_lines (plan_of row) list) entry exit (Ok (n + m))
   lines_given m k exit e q =
-      prints_as (sym (lines_are row may.good list may.list))
+      prints_as (sym (lines_are row good list may.list))
       (both_given (list_line list) (text_of row list) b entry tail n from a some-text first is p m k exit e q)
 
-  pub lines_refused : (r : Refusal) (c : Answer) → a ≡ AnswerRefused r → outcome_of c ≡ refuse 13 (n + r.place) →
+  pub lines_refused : (r : Refusal) (c : Answer) → a ≡ Err r → outcome_of c ≡ refuse 13 (n + r.place) →
       Prints (explained_lines (plan_of row) list) entry (put_mid from (length (b ++ entry) - from) (b ++ entry) tail) c
   lines_refused r c e o =
-      prints_as (sym (lines_are row may.good list may.list))
+      prints_as (sym (lines_are row good list may.list))
       (both-refused (list_line list) (text_of row list) b entry tail n from a some-text first is p r c e o)
 
   short : length (list_line list) + length (text_of row list) ≤ 37047
-  short = omega (arith, line-size list may.few, listing-short row may.good list may.list)
+  short = omega (arith, line-size list may.few, listing-short row good list may.list)
 
-  pub given_short : (m : ℕ) → a ≡ Gives m → n + m ≤ 37047
+  pub given_short : (m : ℕ) → a ≡ Ok m → n + m ≤ 37047
   given_short m e = omega (arith, short, count_given (list_line list) (text_of row list) b entry tail n from a some-text first is p m e)
 
-  pub refused-short : (r : Refusal) → a ≡ AnswerRefused r → n + r.place ≤ 37047
+  pub refused-short : (r : Refusal) → a ≡ Err r → n + r.place ≤ 37047
   refused-short r e = omega (arith, short, count-refused (list_line list) (text_of row list) b entry tail n from a some-text first is p r e)
 
 -- the text of a capture by what is refused of it
@@ -136,36 +135,36 @@ module _ (row capture : List ℕ) where
   kind_given n text e x = rw e x
 
   module _ (entry exit : List ℕ) (a : Answer-of) (four : length entry ≡ 4) (h : Answered row 2 capture entry exit a) where
-    pub says-unexplained : a ≡ Unexplained → {out out' : List ℕ} {r : Answer} → Prints unexplained_line out out' r →
+    pub says-unexplained : a ≡ (Ok None) → {out out' : List ℕ} {r : Answer} → Prints unexplained_line out out' r →
         SaysOne (may_explain row 2 capture 4) (CaptureText row capture) out out' r
     says-unexplained e p =
         let is : IsUnexplained row 2 capture entry exit = rw e at h in
         let may : may_explain row 2 capture 4 ≡ gives 4 = rw four at is.may in
         record { text = unexplained_line; kind = kind_given 4 unexplained_line may (unexplained is.unexplained); says = says_given 4 may p }
 
-    listed-is : (n : ℕ) → a ≡ Listed n → IsListed row 2 capture entry exit n
+    listed-is : (n : ℕ) → a ≡ Ok (Some n) → IsListed row 2 capture entry exit n
     listed-is n e = rw e at h
 
-    pub listed-few : (n : ℕ) → a ≡ Listed n → n ≤ 2
+    pub listed-few : (n : ℕ) → a ≡ Ok (Some n) → n ≤ 2
     listed-few n e = let is = listed-is n e in let c = is.count in let f = is.list.few in omega arith
 
-    pub listed-good : (n : ℕ) → a ≡ Listed n → is_cut_list (plan_of row) (take (2 * n) exit) ≡ true
+    pub listed-good : (n : ℕ) → a ≡ Ok (Some n) → is_cut_list (plan_of row) (take (2 * n) exit) ≡ true
     listed-good n e = (listed-is n e).list.good
 
-    pub listed-long : (n : ℕ) → a ≡ Listed n → length (take (2 * n) exit) ≡ 2 * n
+    pub listed-long : (n : ℕ) → a ≡ Ok (Some n) → length (take (2 * n) exit) ≡ 2 * n
     listed-long n e =
         even (plan_of row) (take (2 * n) exit) (listed-good n e) ∙ ap (λ (x : ℕ). 2 * x) (listed-is n e).count
 
-    pub listed-fits : (n : ℕ) → a ≡ Listed n → 2 * n ≤ length exit
+    pub listed-fits : (n : ℕ) → a ≡ Ok (Some n) → 2 * n ≤ length exit
     listed-fits n e =
         let l = listed-long n e in
         let m : length (take (2 * n) exit) ≡ min (2 * n) (length exit) = length-take (2 * n) exit in
         omega (arith, min-le_right (2 * n) (length exit))
 
-    pub listed-may : (n : ℕ) → a ≡ Listed n → GoodRow row → MayList row (take (2 * n) exit)
-    listed-may n e good = record { good = good; list = listed-good n e; few = omega (arith, listed-long n e, listed-few n e) }
+    pub listed-may : (n : ℕ) → a ≡ Ok (Some n) → MayList row (take (2 * n) exit)
+    listed-may n e = record { list = listed-good n e; few = omega (arith, listed-long n e, listed-few n e) }
 
-    pub says-listed : (n : ℕ) → a ≡ Listed n → {out out' : List ℕ} {r : Answer} →
+    pub says-listed : (n : ℕ) → a ≡ Ok (Some n) → {out out' : List ℕ} {r : Answer} →
         Prints (explained_lines (plan_of row) (take (2 * n) exit)) out out' r →
         SaysOne (may_explain row 2 capture 4) (CaptureText row capture) out out' r
     says-listed n e p =
@@ -174,8 +173,8 @@ module _ (row capture : List ℕ) where
         let text = explained_lines (plan_of row) (take (2 * n) exit) in
         record { text = text; kind = kind_given 4 text may (explained is.list); says = says_given 4 may p }
 
-    pub says_no : (r : Refusal) → a ≡ Refused r → (out : List ℕ) →
-        SaysOne (may_explain row 2 capture 4) (CaptureText row capture) out out (AnswerRefused r)
+    pub says_no : (r : Refusal) → a ≡ Err r → (out : List ℕ) →
+        SaysOne (may_explain row 2 capture 4) (CaptureText row capture) out out (Err r)
     says_no r e out =
         let is : IsRefused row 2 capture entry exit r = rw e at h in
         let may : may_explain row 2 capture 4 ≡ refused r = rw four at is.may in
@@ -202,7 +201,7 @@ module _ (file input : List ℕ) where
     unfolding ExplainText
     back-refused text x = rw e at x
 
-    pub file-refused : (out : List ℕ) → SaysOne (may_tell file input) (ExplainText file input) out out (AnswerRefused r)
+    pub file-refused : (out : List ℕ) → SaysOne (may_tell file input) (ExplainText file input) out out (Err r)
     file-refused out =
         record { text = refused_line r; kind = text-refused (refused_line r) refl; says = says-refused (refused_line r) out r may-refused }
 

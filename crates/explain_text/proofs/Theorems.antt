@@ -6,8 +6,8 @@ use mathlib.Core.Bool.{true}
 use mathlib.Core.List.{List}
 use native.Mathlib.Omega.{arith}
 use lib.ListN.{length, get_or, take, length-append}
-use Rattle.scope.specs.declared.Answer.{Answer}
-use Rattle.scope.specs.declared.Answer.TheVariants.{Gives, Refused}
+use Rattle.scope.specs.Outcome.{Answer}
+use Rattle.std.specs.Prelude.{Ok, Err}
 use Rattle.scope.specs.declared.Refusal.{Refusal}
 use Rattle.scope.specs.Limits.{longest_row, plan_room}
 use Rattle.scope.specs.Outcome.{Outcome, gives, refused}
@@ -139,14 +139,14 @@ module _ (row capture entry exit : List ℕ) (good : GoodRow row) (a : Answer) (
   unfolding CaptureText
   line r e = rw e at s.kind
 
-  pub prints_given : (n : ℕ) → a ≡ Gives n → PrintedOne (CaptureText row capture) entry exit (Gives n)
+  pub prints_given : (n : ℕ) → a ≡ Ok n → PrintedOne (CaptureText row capture) entry exit (Ok n)
   prints_given n e = record {
     text = s.text;
     kind = s.kind;
     printed = printed_given s.text entry fits (may_explain row 2 capture 4) s.text refl a s.says n e;
   }
 
-  pub prints-refused : (r : Refusal) → a ≡ Refused r → {exit' : List ℕ} {b : Answer} → Prints (refused_line r) exit exit' b →
+  pub prints-refused : (r : Refusal) → a ≡ Err r → {exit' : List ℕ} {b : Answer} → Prints (refused_line r) exit exit' b →
       PrintedOne (CaptureText row capture) entry exit' b
   prints-refused r e p = record {
     text = s.text;

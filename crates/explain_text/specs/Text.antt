@@ -1,6 +1,6 @@
 -- What the program `explain` prints once the plan's row and the capture are known, and what is refused before it.
 use Rattle.std.specs.Prelude.{ℕ, ◌≤◌, ◌≡◌, true, List, ◌++◌, length}
-use Rattle.scope.specs.declared.Answer.{Answer}
+use Rattle.scope.specs.Outcome.{Answer}
 use Rattle.scope.specs.Outcome.{Outcome, gives, refused, and_then}
 use Rattle.scope.specs.Limits.{longest_row}
 use Rattle.scope.specs.File.{row_of}
@@ -8,7 +8,6 @@ use Rattle.scope.specs.Plan.{plan_of}
 use Rattle.scope.specs.Cuts.{is_cut_list}
 use Rattle.scope.specs.Questions.{read_file, may_explain}
 use Rattle.scope.specs.Lines.{capture_of, parted, line_feed, refused_line, Explanation}
-use Rattle.plan.specs.Answers.{GoodRow}
 use Rattle.capture.specs.declared.Kept.{Kept}
 use Rattle.capture.specs.Kept.{Keeps}
 use Rattle.listing.specs.Prints.{Says}
@@ -35,14 +34,12 @@ pub record SaysOne (may : Outcome) (Kind : List ℕ → Type 0) (entry exit : Li
   pub kind : Kind text
   pub says : Says may text entry exit r
 
--- a good row, and a list of at most two cuts
+-- a list of at most two cuts, for the plan of a row
 pub record MayList (row cuts : List ℕ) : Type 0 where
-  pub good : GoodRow row
   pub list : is_cut_list (plan_of row) cuts ≡ true
   pub few : length cuts ≤ 4
 
--- a good row, and what is kept of a capture
+-- what is kept of a capture
 pub record MaySay (row crossed : List ℕ) (kept : Kept) : Type 0 where
-  pub good : GoodRow row
   pub seen : List ℕ
   pub keeps : Keeps (plan_of row) seen crossed kept

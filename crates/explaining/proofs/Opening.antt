@@ -15,18 +15,3 @@ not_open false true false named e shut later other = absurd (true≢false e)
 pub open_whole : (closed rest : Bool) → (not closed && rest) ≡ true → closed ≡ false
 open_whole true rest e = absurd (true≢false (sym e))
 open_whole false rest e = refl
-
--- a link is whole, and not crossed later: not all are named, or all are; it is crossed later; it is not whole
-pub open_all : (whole unseen free named : Bool) → whole ≡ true → unseen ≡ true → free ≡ true →
-    true ≡ (whole && (unseen && (free || named)))
-open_all whole unseen free named e l f = rw (e, l, f) refl
-
-pub open_named : (whole unseen free named : Bool) → whole ≡ true → unseen ≡ true → free ≡ false →
-    named ≡ (whole && (unseen && (free || named)))
-open_named whole unseen free named e l f = rw (e, l, f) refl
-
-pub open_later : (whole unseen rest : Bool) → whole ≡ true → unseen ≡ false → false ≡ (whole && (unseen && rest))
-open_later whole unseen rest e l = rw (e, l) refl
-
-pub open_not : (whole rest : Bool) → whole ≡ false → false ≡ (whole && rest)
-open_not whole rest e = rw e refl

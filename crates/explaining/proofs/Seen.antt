@@ -8,7 +8,7 @@ use mathlib.Core.List.{List, ◌∷◌, ◌++◌}
 use lib.ListN.{length, get_or, set, replicate, length-replicate, length-set, length-append, get_or-replicate, get_or-eq_default}
 use lib.Seq.{get_or-set_same, get_or-set_other}
 use lib.Dec.{ltb, eqb}
-use borrow.Author.Tests.{ltb-true, ltb-false, eqb-true, eqb-false, le-leb}
+use borrow.Author.Tests.{ltb-true, ltb-false, eqb-true, eqb-false}
 use Rattle.scope.specs.Limits.{most_links, most_messages}
 use Rattle.scope.specs.Outcome.{gives}
 use Rattle.scope.specs.Plan.{Plan, plan_of}
@@ -29,11 +29,7 @@ use Rattle.picks.specs.declared.Sizes.{Sizes}
 use Rattle.picks.specs.Picks.{Playable}
 use Rattle.step.specs.Events.{crossing_of}
 use Rattle.clues.specs.Clues.{event_in, crossing_in, Matches}
-use Rattle.explaining.specs.Walk.{is_unseen, SeenFrom, Lasts}
-
--- a link past the list is crossed by nobody
-pub unseen_past : (last : List ℕ) (s e : ℕ) → length last ≤ e → true ≡ is_unseen last s e
-unseen_past last s e h = rw (get_or-eq_default last 0 h) (sym (le-leb 0 s (omega arith)))
+use Rattle.explaining.specs.Walk.{SeenFrom, Lasts}
 
 -- who crosses a link finds it whole
 act-whole : (rank : ℕ → ℕ) (down : ℕ → Bool) (owner : ℕ → ℕ) (i : ℕ) (tried : List ℕ) (m e : ℕ) (p : Position) →

@@ -1,30 +1,13 @@
--- What the walk tells: nothing, and a list that is the first of more.
-use Prim.Native.Nat.{ℕ, ◌*◌, ◌≤◌}
-use mathlib.Core.Path.{◌≡◌, sym, ◌∙◌, ap, subst}
-use mathlib.Core.Bool.{true, false, true≢false}
+-- What the walk tells: a list that is the first of more.
+use Prim.Native.Nat.{ℕ, ◌*◌}
+use mathlib.Core.Path.{◌≡◌, subst}
 use mathlib.Core.List.{List}
-use lib.ListN.{length, get_or, take}
-use Rattle.scope.specs.Limits.{most_cuts}
-use Rattle.explaining.specs.declared.Found.{Found}
-use Rattle.explaining.specs.Walk.{no_found, Tells}
+use lib.ListN.{take}
+use Rattle.explaining.specs.Walk.{Lists}
 
-pub tells_none : (None : Type 0) (First : List ℕ → Type 0) (c : ℕ) (r : Found) → r ≡ no_found → None → Tells None First c r
-tells_none None First c r is all =
-    let not_found : r.found ≡ false = ap (λ (x : Found). x.found) is in
-    record {
-      long = ap (λ (x : Found). length x.numbers) is;
-      none = λ u. all;
-      some = λ u. absurd (true≢false (sym u ∙ not_found));
-      past = λ u. absurd (true≢false (sym u ∙ not_found));
-    }
-
-module _ (None : Type 0) (First : List ℕ → Type 0) (c : ℕ) (r : Found) (t : r.found ≡ true) where
-  pub tells-some : length r.numbers ≡ 2 * most_cuts → First (take (2 * c) r.numbers) →
-      ((i : ℕ) → 2 * c ≤ i → get_or r.numbers i 0 ≡ 0) → Tells None First c r
-  tells-some long first past = record { long = long; none = λ u. absurd (true≢false (sym t ∙ u)); some = λ u. first; past = λ u. past }
-
-  pub tells_more : (None' : Type 0) (First' : List ℕ → Type 0) (d : ℕ) → c ≡ d → Tells None First c r →
-      (First (take (2 * d) r.numbers) → First' (take (2 * d) r.numbers)) → Tells None' First' d r
-  tells_more None' First' d e f more =
-      let g : Tells None First d r = subst (λ (n : ℕ). Tells None First n r) e f in
-      record { long = g.long; none = λ u. absurd (true≢false (sym t ∙ u)); some = λ u. more (g.some t); past = λ u. g.past t }
+-- a list of so many pairs is one of as many, and what is known of it may be said otherwise
+pub lists_more : (First First' : List ℕ → Type 0) (c d : ℕ) (numbers : List ℕ) → c ≡ d →
+    (First (take (2 * d) numbers) → First' (take (2 * d) numbers)) → Lists First c numbers → Lists First' d numbers
+lists_more First First' c d numbers e more f =
+    let g : Lists First d numbers = subst (λ (n : ℕ). Lists First n numbers) e f in
+    record { long = g.long; first = more g.first; past = g.past }

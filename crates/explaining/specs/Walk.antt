@@ -1,5 +1,5 @@
 -- The walk in the code's own terms: what it may be asked, and what it tells of the lists that match a table of crossings.
-use Rattle.std.specs.Prelude.{ℕ, ◌+◌, ◌-◌, ◌*◌, ◌≤◌, ◌<◌, ◌≡◌, Bool, true, false, not, ◌&&◌, ◌||◌, ◌⊎◌, List, [], ◌∷◌, ◌++◌, length, get_or, take, replicate, leb}
+use Rattle.std.specs.Prelude.{ℕ, ◌+◌, ◌-◌, ◌*◌, ◌≤◌, ◌<◌, ◌≡◌, Bool, true, false, not, ◌&&◌, ◌||◌, ◌⊎◌, List, [], ◌∷◌, ◌++◌, Option, MatchOption, length, get_or, take, leb}
 use Rattle.scope.specs.Limits.{most_links, most_cuts, crossed_size}
 use Rattle.scope.specs.Outcome.{gives}
 use Rattle.scope.specs.Rules.{rules}
@@ -14,16 +14,9 @@ use Rattle.capture.specs.Kept.{crossed_at}
 use Rattle.picks.specs.declared.Sizes.{Sizes}
 use Rattle.picks.specs.declared.Picked.{Picked}
 use Rattle.picks.specs.Picks.{cuts_of, Playable, Holding, StandAt}
-use Rattle.clues.specs.declared.Clue.{Clue}
-use Rattle.clues.specs.declared.Clue.TheVariants.{Nothing, Link, Dead}
 use Rattle.clues.specs.declared.Suspicion.{Suspicion}
-use Rattle.clues.specs.Clues.{MatchesBefore, Matches, MaySuspect, Suspected}
-use Rattle.explaining.specs.declared.Found.{Found}
+use Rattle.clues.specs.Clues.{MatchesBefore, Matches, MaySuspect, Names}
 use Rattle.explaining.specs.declared.Hunted.{Hunted}
-
--- a link that may still be named
-abbrev pub is_whole : List ℕ → ℕ → Bool
-is_whole closed e = not (is_down closed e)
 
 -- a link that nobody crosses in slot s or later, one way or the other, by the slots noted for each link
 abbrev pub is_unseen : List ℕ → ℕ → ℕ → Bool
@@ -31,7 +24,7 @@ is_unseen last s e = leb (get_or last e 0) s
 
 -- a link that is to be tried in slot s: not yet named, not crossed from there on and, where all that are to be cut are named, one of them
 abbrev pub is_open : List ℕ → List ℕ → List ℕ → Bool → ℕ → ℕ → Bool
-is_open closed named last all s e = is_whole closed e && (is_unseen last s e && (not all || is_down named e))
+is_open closed named last all s e = not (is_down closed e) && (is_unseen last s e && (not all || is_down named e))
 
 -- the table has link e or its other way crossed by a message, in slot s or later
 pub record SeenFrom (crossed : List ℕ) (z : Sizes) (s e : ℕ) : Type 0 where
@@ -49,24 +42,11 @@ pub record Lasts (crossed : List ℕ) (z : Sizes) (last : List ℕ) : Type 0 whe
   pub size : length last ≡ most_links
   pub seen : (s e : ℕ) → s < get_or last e 0 → SeenFrom crossed z s e
 
--- a slot differs
-abbrev pub is_clue : Clue → Bool
-is_clue Nothing = false
-is_clue (Link x) = true
-is_clue Dead = true
-
--- nothing found
-abbrev pub no_found : Found
-no_found = record { found = false; numbers = replicate (2 * most_cuts) 0 }
-
-abbrev pub no_hunted : Hunted
-no_hunted = record { found = false; pairs = 0; numbers = replicate (2 * most_cuts) 0 }
-
 -- n pairs more may be sought: what the table says of them is known, and where each link was seen crossed
 pub record MaySeek (row table crossed : List ℕ) (z : Sizes) (ps : Standing) (p : Picked) (n : ℕ) (v : Suspicion) (last : List ℕ) : Type 0 where
   pub suspect : MaySuspect row table crossed z ps p
   pub few : p.count + n ≤ most_cuts
-  pub told : Suspected row crossed p n v
+  pub told : Names row crossed p n v
   pub lasts : Lasts crossed z last
 
 -- the first of them in slot s, from link e on; and where all is true, no list that matches goes on with a link that is not named
@@ -87,24 +67,23 @@ pub record MaySeekIn (row table crossed : List ℕ) (z : Sizes) (ps : Standing) 
   pub only : all ≡ true → (a b : ℕ) (x : List ℕ) → length x + 2 ≡ 2 * n → is_down named b ≡ false →
       Not (plan_of row) (Matches (plan_of row) crossed) (cuts_of p ++ a ∷ b ∷ x)
 
--- nothing, and then so much is known; or a list of c pairs, of which so much is known, with zeros after it
-pub record Tells (None : Type 0) (First : List ℕ → Type 0) (c : ℕ) (r : Found) : Type 0 where
-  pub long : length r.numbers ≡ 2 * most_cuts
-  pub none : r.found ≡ false → None
-  pub some : r.found ≡ true → First (take (2 * c) r.numbers)
-  pub past : r.found ≡ true → (i : ℕ) → 2 * c ≤ i → get_or r.numbers i 0 ≡ 0
+-- a list of c pairs of which so much is known, with zeros after it
+pub record Lists (First : List ℕ → Type 0) (c : ℕ) (numbers : List ℕ) : Type 0 where
+  pub long : length numbers ≡ 2 * most_cuts
+  pub first : First (take (2 * c) numbers)
+  pub past : (i : ℕ) → 2 * c ≤ i → get_or numbers i 0 ≡ 0
 
 -- what was found of all lists with n pairs more
-abbrev pub Sought : List ℕ → List ℕ → Picked → ℕ → Found → Type 0
+abbrev pub Sought : List ℕ → List ℕ → Picked → ℕ → Option (List ℕ) → Type 0
 Sought row crossed p n r =
-    Tells (NoneOf (plan_of row) (Matches (plan_of row) crossed) (cuts_of p) n) (FirstOf (plan_of row) (Matches (plan_of row) crossed) (cuts_of p) n)
-    (p.count + n) r
+    MatchOption r (NoneOf (plan_of row) (Matches (plan_of row) crossed) (cuts_of p) n)
+    (Lists (FirstOf (plan_of row) (Matches (plan_of row) crossed) (cuts_of p) n) (p.count + n))
 
 -- and of those whose next pair is in one slot
-abbrev pub SoughtIn : List ℕ → List ℕ → Picked → ℕ → ℕ → ℕ → Found → Type 0
+abbrev pub SoughtIn : List ℕ → List ℕ → Picked → ℕ → ℕ → ℕ → Option (List ℕ) → Type 0
 SoughtIn row crossed p n s e r =
-    Tells (NoneIn (plan_of row) (Matches (plan_of row) crossed) (cuts_of p) (n - 1) (code s e) (code (s + 1) 0))
-    (FirstFrom (plan_of row) (Matches (plan_of row) crossed) (cuts_of p) (n - 1) (code s e)) (p.count + n) r
+    MatchOption r (NoneIn (plan_of row) (Matches (plan_of row) crossed) (cuts_of p) (n - 1) (code s e) (code (s + 1) 0))
+    (Lists (FirstFrom (plan_of row) (Matches (plan_of row) crossed) (cuts_of p) (n - 1) (code s e)) (p.count + n))
 
 -- lists of at most k pairs may be sought
 pub record MayHunt (row table crossed : List ℕ) (z : Sizes) (ps : Standing) (k : ℕ) : Type 0 where
@@ -114,10 +93,12 @@ pub record MayHunt (row table crossed : List ℕ) (z : Sizes) (ps : Standing) (k
   pub size : length crossed ≡ crossed_size
   pub few : k ≤ most_cuts
 
--- none of them matches, or the first one that does has so many pairs; zeros in every other place
-pub record Hunts (row crossed : List ℕ) (k : ℕ) (r : Hunted) : Type 0 where
-  pub long : length r.numbers ≡ 2 * most_cuts
+-- the first list of at most k pairs that matches has so many; zeros in every other place
+pub record IsFirst (row crossed : List ℕ) (k : ℕ) (r : Hunted) : Type 0 where
   pub few : r.pairs ≤ k
-  pub none : r.found ≡ false → (r ≡ no_hunted) × ((cuts : List ℕ) → pairs cuts ≤ k → Not (plan_of row) (Matches (plan_of row) crossed) cuts)
-  pub some : r.found ≡ true → First (plan_of row) (Matches (plan_of row) crossed) k (take (2 * r.pairs) r.numbers)
-  pub past : r.found ≡ true → (i : ℕ) → 2 * r.pairs ≤ i → get_or r.numbers i 0 ≡ 0
+  pub list : Lists (First (plan_of row) (Matches (plan_of row) crossed) k) r.pairs r.numbers
+
+-- none of them matches, or this is the first one that does
+abbrev pub Hunts : List ℕ → List ℕ → ℕ → Option Hunted → Type 0
+Hunts row crossed k r =
+    MatchOption r ((cuts : List ℕ) → pairs cuts ≤ k → Not (plan_of row) (Matches (plan_of row) crossed) cuts) (λ h. IsFirst row crossed k h)

@@ -8,11 +8,10 @@
 
 #![tactic(auto)]
 
-ghost use Rattle.std.specs.Prelude.{◌-◌, ◌≤◌, ◌≡◌, length};
-ghost use Rattle.scope.specs.Limits.{most_links, most_slots, crossed_size};
-ghost use Rattle.scope.specs.Lowest.{seek};
+ghost use Rattle.std.specs.Prelude.{◌≤◌, ◌≡◌, length};
+ghost use Rattle.scope.specs.Limits.{most_slots, crossed_size};
 ghost use Rattle.cables.specs.Others.{AreLinks};
-ghost use Rattle.explaining.specs.Walk.{is_whole, is_unseen, is_open, is_clue, no_found, no_hunted, Lasts};
+ghost use Rattle.explaining.specs.Walk.{is_unseen, is_open, Lasts};
 ghost use Rattle.explaining.specs.Walk.{MaySeek, MaySeekIn, Sought, SoughtIn, MayHunt, Hunts};
 
 use clues::{Clue, Suspicion};
@@ -20,56 +19,11 @@ use picks::{Picked, Sizes};
 use scope::limits::{CUT_NUMBERS, LINKS, MESSAGES};
 use step::Standing;
 
-// A list that matches; or none.
-#[derive(Clone, Copy)]
-pub struct Found {
-    pub found: bool,
-    pub numbers: [u16; CUT_NUMBERS],
-}
-
-// The first list that matches, with its pairs; or none.
+// The first list that matches, with its pairs.
 #[derive(Clone, Copy)]
 pub struct Hunted {
-    pub found: bool,
     pub pairs: usize,
     pub numbers: [u16; CUT_NUMBERS],
-}
-
-fn nothing() -> Found
-    ensures { result ≡ no_found }
-{
-    Found {
-        found: false,
-        numbers: [0u16; CUT_NUMBERS],
-    }
-}
-
-fn no_list() -> Hunted
-    ensures { result ≡ no_hunted }
-{
-    Hunted {
-        found: false,
-        pairs: 0,
-        numbers: [0u16; CUT_NUMBERS],
-    }
-}
-
-// A slot has said something: it differs.
-fn differs(clue: Clue) -> bool
-    ensures { result ≡ is_clue clue }
-{
-    match clue {
-        Clue::Nothing => false,
-        Clue::Link(_) => true,
-        Clue::Dead => true,
-    }
-}
-
-// A link may still be named.
-fn whole(closed: &[u8], e: usize) -> bool
-    ensures { result ≡ is_whole closed.now e }
-{
-    !cuts::is_down(closed, e)
 }
 
 // For each link one more than the last slot in which a message crosses it or its other way, or 0 where none does.
@@ -77,19 +31,16 @@ fn last_seen(crossed: &[u8], z: Sizes) -> [u8; LINKS]
     requires { (length crossed.now ≡ crossed_size) × (z.timeout ≤ most_slots) × AreLinks z.others }
     ensures { Lasts crossed.now z result }
 {
-    let others = z.others;
     let mut last = [0u8; LINKS];
     let end = z.timeout * MESSAGES;
-    let mut k = 0;
-    while k < end {
-        let c = crossed[k] as usize;
+    for (k, &seen) in crossed[..end].iter().enumerate() {
+        let c = seen as usize;
         if k % MESSAGES < z.messages && 0 < c && c <= LINKS {
             let behind = (k / MESSAGES + 1) as u8;
-            let other = cables::other(&others, c - 1);
+            let other = cables::other(&z.others, c - 1);
             last[c - 1] = behind;
             last[other] = behind;
         }
-        k += 1;
     }
     last
 }
@@ -98,11 +49,7 @@ fn last_seen(crossed: &[u8], z: Sizes) -> [u8; LINKS]
 fn unseen(last: &[u8], s: usize, e: usize) -> bool
     ensures { result ≡ is_unseen last.now s e }
 {
-    if e < last.len() {
-        last[e] as usize <= s
-    } else {
-        true
-    }
+    last.len() <= e || last[e] as usize <= s
 }
 
 // A link is to be tried in slot s: it may still be named, nobody crosses its cable from there on and, where all that are to be cut are named,
@@ -110,30 +57,7 @@ fn unseen(last: &[u8], s: usize, e: usize) -> bool
 fn open(closed: &[u8], named: &[u8], last: &[u8], all: bool, s: usize, e: usize) -> bool
     ensures { result ≡ is_open closed.now named.now last.now all s e }
 {
-    whole(closed, e) && (unseen(last, s, e) && (!all || cuts::is_down(named, e)))
-}
-
-// The first link from e on that is to be tried, or how many links there are.
-fn next_link(
-    closed: &[u8],
-    named: &[u8],
-    last: &[u8],
-    all: bool,
-    s: usize,
-    e: usize,
-    links: usize,
-) -> usize
-    requires { (e ≤ links) × (links ≤ most_links) }
-    ensures { result ≡ seek (is_open closed.now named.now last.now all s) (links - e) e }
-{
-    let mut i = e;
-    while i < links {
-        if open(closed, named, last, all, s, i) {
-            return i;
-        }
-        i += 1;
-    }
-    i
+    !cuts::is_down(closed, e) && unseen(last, s, e) && (!all || cuts::is_down(named, e))
 }
 
 // All lists that go on with a pair of slot s, from link e on, and have n pairs more. Where all is true, one that
@@ -152,27 +76,25 @@ fn in_slot(
     all: bool,
     s: usize,
     e: usize,
-) -> Found
+) -> Option<[u16; CUT_NUMBERS]>
     requires { MaySeekIn row.now table.now crossed.now z ps p n named last all s e }
     ensures { SoughtIn row.now crossed.now p n s e result }
 {
-    let closed = p.closed;
-    let links = z.links;
-    let mut i = next_link(&closed, &named, &last, all, s, e, links);
-    while i < links {
-        let q = picks::pick(z, p, s, i);
-        let v = clues::suspect(row, table, crossed, z, ps, q, n - 1);
-        let r = level(row, table, crossed, z, ps, q, n - 1, v, last);
-        if r.found {
-            return r;
+    for i in e..z.links {
+        if open(&p.closed, &named, &last, all, s, i) {
+            let q = picks::pick(z, p, s, i);
+            if let Some(v) = clues::suspect(row, table, crossed, z, ps, q, n - 1) {
+                if let Some(numbers) = level(row, table, crossed, z, ps, q, n - 1, v, last) {
+                    return Some(numbers);
+                }
+            }
         }
-        i = next_link(&closed, &named, &last, all, s, i + 1, links);
     }
-    nothing()
+    None
 }
 
-// All lists with n pairs more, by what the table says of them. Up to its next pair's slot a list does what the pairs picked do: once that
-// differs, no list goes on.
+// All lists with n pairs more, by what the table says of them, where one may match. Up to its next pair's slot a list does what the pairs
+// picked do: once that differs, no list goes on.
 #[cycle(in_slot_level)]
 fn level(
     row: &[u16],
@@ -184,42 +106,27 @@ fn level(
     n: usize,
     v: Suspicion,
     last: [u8; LINKS],
-) -> Found
+) -> Option<[u16; CUT_NUMBERS]>
     requires { MaySeek row.now table.now crossed.now z ps p n v last }
     ensures { Sought row.now crossed.now p n result }
 {
-    if v.hopeless {
-        return nothing();
-    }
     if n == 0 {
-        let numbers = p.numbers;
-        return Found {
-            found: true,
-            numbers,
-        };
+        return Some(p.numbers);
     }
-    let named = v.down;
     let all = v.named == n;
-    let down = p.down;
     let mut qs = ps;
-    let mut s = p.slot;
     let mut e = p.link;
-    while s < z.timeout {
-        let r = in_slot(row, table, crossed, z, qs, p, n, named, last, all, s, e);
-        if r.found {
-            return r;
+    for s in p.slot..z.timeout {
+        if let Some(numbers) = in_slot(row, table, crossed, z, qs, p, n, v.down, last, all, s, e) {
+            return Some(numbers);
         }
-        let seen = clues::look(row, table, crossed, z, &down, qs);
-        let clue = seen.clue;
-        if differs(clue) {
-            return nothing();
-        }
-        let next = seen.next;
+        let Clue::Nothing(next) = clues::look(row, table, crossed, z, &p.down, qs) else {
+            return None;
+        };
         qs = next;
-        s += 1;
         e = 0;
     }
-    nothing()
+    None
 }
 
 // The first list of at most k pairs that matches. What is said of the lists before a pair is picked holds for each number of pairs, so that it
@@ -231,36 +138,21 @@ pub fn first_list(
     z: Sizes,
     ps: Standing,
     k: usize,
-) -> Hunted
+) -> Option<Hunted>
     requires { MayHunt row.now table.now crossed.now z ps k }
     ensures { Hunts row.now crossed.now k result }
 {
     let p = picks::no_pair(z);
-    let v = clues::suspect(row, table, crossed, z, ps, p, k);
-    if v.hopeless {
-        return no_list();
-    }
+    let v = clues::suspect(row, table, crossed, z, ps, p, k)?;
     if v.named == 0 {
         let numbers = p.numbers;
-        return Hunted {
-            found: true,
-            pairs: 0,
-            numbers,
-        };
+        return Some(Hunted { pairs: 0, numbers });
     }
     let last = last_seen(crossed, z);
-    let mut n = v.named;
-    while n <= k {
-        let r = level(row, table, crossed, z, ps, p, n, v, last);
-        if r.found {
-            let numbers = r.numbers;
-            return Hunted {
-                found: true,
-                pairs: n,
-                numbers,
-            };
+    for n in v.named..=k {
+        if let Some(numbers) = level(row, table, crossed, z, ps, p, n, v, last) {
+            return Some(Hunted { pairs: n, numbers });
         }
-        n += 1;
     }
-    no_list()
+    None
 }

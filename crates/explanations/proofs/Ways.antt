@@ -25,9 +25,9 @@ use Rattle.capture.specs.Kept.{Keeps}
 use Rattle.capture.proofs.Keeping.{check_kept}
 use Rattle.clues.specs.Clues.{Matches}
 use Rattle.explaining.specs.declared.Hunted.{Hunted}
-use Rattle.explaining.specs.Walk.{Hunts}
-use Rattle.explanations.specs.declared.Explanation.{Explanation}
-use Rattle.explanations.specs.declared.Explanation.TheVariants.{Unexplained, Listed, Refused}
+use Rattle.explaining.specs.Walk.{IsFirst, Hunts}
+use Rattle.explanations.specs.Explained.{Explanation}
+use Rattle.std.specs.Prelude.{Some, None, Ok, Err}
 use Rattle.explanations.specs.Explained.{IsUnexplained, IsListed, IsRefused, Answered}
 use Rattle.explanations.proofs.Crossings.{matches, explains, unexplained, first-same}
 
@@ -37,9 +37,9 @@ unfolding may_explain
 bad-row row k capture entry r e = record { may = rw e; buffer = refl }
 
 -- a list was found: it has so many numbers
-pub front : (row crossed : List ℕ) (k : ℕ) (h : Hunted) → k ≤ 3 → Hunts row crossed k h →
+pub front : (row crossed : List ℕ) (k : ℕ) (h : Hunted) → k ≤ 3 → IsFirst row crossed k h →
     length (take (2 * h.pairs) h.numbers) ≡ 2 * h.pairs
-front row crossed k h few f = length-take-le (2 * h.pairs) h.numbers (omega (arith, f.long, f.few))
+front row crossed k h few f = length-take-le (2 * h.pairs) h.numbers (omega (arith, f.list.long, f.few))
 
 module _ (row : List ℕ) (k : ℕ) (capture entry : List ℕ) (g : GoodRow row) where
   -- refusal 11
@@ -84,24 +84,23 @@ module _ (row : List ℕ) (k : ℕ) (capture entry : List ℕ) (g : GoodRow row)
         on_two_links two =
             record { may = may; unexplained = unexplained (plan_of row) slots many capture crossed kept (has.all fine) two k; buffer = refl }
 
-        module _ (once : kept.twice ≡ false) (h : Hunted) (f : Hunts row crossed k h) where
-          pub none_found : h.found ≡ false → IsUnexplained row k capture entry entry
-          unfolding NoListExplains
-          none_found t =
-              record {
-                may = may;
-                unexplained = λ cuts good few it.
-                    (f.none t).1 cuts few good (matches (plan_of row) slots many capture crossed kept (has.all fine) once cuts it);
-                buffer = refl;
-              }
+        pub none_found : kept.twice ≡ false → Hunts row crossed k None → IsUnexplained row k capture entry entry
+        unfolding NoListExplains
+        none_found once none =
+            record {
+              may = may;
+              unexplained = λ cuts good few it.
+                  none cuts few good (matches (plan_of row) slots many capture crossed kept (has.all fine) once cuts it);
+              buffer = refl;
+            }
 
+        module _ (once : kept.twice ≡ false) (h : Hunted) (f : IsFirst row crossed k h) where
           size : length (take (2 * h.pairs) h.numbers) ≡ 2 * h.pairs
           size = front row crossed k h few f
 
-          pub one_found : (exit : List ℕ) → h.found ≡ true →
-              exit ≡ take (2 * h.pairs) h.numbers ++ drop (length (take (2 * h.pairs) h.numbers)) entry →
+          pub one_found : (exit : List ℕ) → exit ≡ take (2 * h.pairs) h.numbers ++ drop (length (take (2 * h.pairs) h.numbers)) entry →
               IsListed row k capture entry exit h.pairs
-          one_found exit t is =
+          one_found exit is =
               let n = 2 * h.pairs in
               let list : take n exit ≡ take n h.numbers =
               ap (take n) is ∙ take_at (take n h.numbers) (drop (length (take n h.numbers)) entry) n size in
@@ -111,7 +110,7 @@ module _ (row : List ℕ) (k : ℕ) (capture entry : List ℕ) (g : GoodRow row)
                     rw list
                     (first-same (plan_of row) (Matches (plan_of row) crossed) (Explains (plan_of row) capture) k (take n h.numbers)
                     (explains (plan_of row) slots many capture crossed kept (has.all fine) once)
-                    (matches (plan_of row) slots many capture crossed kept (has.all fine) once) (f.some t));
+                    (matches (plan_of row) slots many capture crossed kept (has.all fine) once) f.list.first);
                 count = rw list (omega (arith, size));
                 rest =
                     ap (drop n) is ∙ drop_at (take n h.numbers) (drop (length (take n h.numbers)) entry) n size ∙
@@ -135,14 +134,14 @@ module _ (row : List ℕ) (k : ℕ) (capture entry exit exit' : List ℕ) where
   explained_or_not cuts none f = absurd (none cuts f.good f.few f.answers)
 
   pub one_outcome : (v w : Explanation) → Answered row k capture entry exit v → Answered row k capture entry exit' w → (v ≡ w) × (exit ≡ exit')
-  one_outcome Unexplained Unexplained a b = (refl, a.buffer ∙ sym b.buffer)
-  one_outcome Unexplained (Listed m) a b = explained_or_not (take (2 * m) exit') a.unexplained b.list
-  one_outcome Unexplained (Refused s) a b = not-both (sym b.may ∙ a.may)
-  one_outcome (Listed n) Unexplained a b = explained_or_not (take (2 * n) exit) b.unexplained a.list
-  one_outcome (Listed n) (Listed m) a b = let two = listed_once n m a b in (ap Listed two.0, two.1)
-  one_outcome (Listed n) (Refused s) a b = not-both (sym b.may ∙ a.may)
-  one_outcome (Refused r) Unexplained a b = not-both (sym a.may ∙ b.may)
-  one_outcome (Refused r) (Listed m) a b = not-both (sym a.may ∙ b.may)
-  one_outcome (Refused r) (Refused s) a b =
+  one_outcome (Ok None) (Ok None) a b = (refl, a.buffer ∙ sym b.buffer)
+  one_outcome (Ok None) (Ok (Some m)) a b = explained_or_not (take (2 * m) exit') a.unexplained b.list
+  one_outcome (Ok None) (Err s) a b = not-both (sym b.may ∙ a.may)
+  one_outcome (Ok (Some n)) (Ok None) a b = explained_or_not (take (2 * n) exit) b.unexplained a.list
+  one_outcome (Ok (Some n)) (Ok (Some m)) a b = let two = listed_once n m a b in (ap (λ i. Ok (Some i)) two.0, two.1)
+  one_outcome (Ok (Some n)) (Err s) a b = not-both (sym b.may ∙ a.may)
+  one_outcome (Err r) (Ok None) a b = not-both (sym a.may ∙ b.may)
+  one_outcome (Err r) (Ok (Some m)) a b = not-both (sym a.may ∙ b.may)
+  one_outcome (Err r) (Err s) a b =
       let same : r ≡ s = cc (a.may, b.may) in
-      (ap Refused same, a.buffer ∙ sym b.buffer)
+      (ap Err same, a.buffer ∙ sym b.buffer)

@@ -1,5 +1,5 @@
 -- The promise of an explanation: its answer, and what the lent list holds after it, follow from what goes in.
-use Rattle.std.specs.Prelude.{ℕ, ◌*◌, ◌≤◌, ◌≡◌, List, length, take, drop}
+use Rattle.std.specs.Prelude.{ℕ, ◌*◌, ◌≤◌, ◌≡◌, List, length, take, drop, Option, Some, None, Result, Ok, Err}
 use Rattle.scope.specs.declared.Refusal.{Refusal}
 use Rattle.scope.specs.Limits.{most_cuts, crossed_size}
 use Rattle.scope.specs.Outcome.{gives, refused}
@@ -10,8 +10,10 @@ use Rattle.scope.specs.Questions.{may_explain}
 use Rattle.plan.specs.Answers.{GoodRow}
 use Rattle.capture.specs.declared.Kept.{Kept}
 use Rattle.capture.specs.Kept.{Keeps}
-use Rattle.explanations.specs.declared.Explanation.{Explanation}
-use Rattle.explanations.specs.declared.Explanation.TheVariants.{Unexplained, Listed, Refused}
+
+-- an explanation: none where no list explains the capture, or how many pairs the first list has that does; or the refusal
+abbrev pub Explanation : Type 0
+Explanation = Result (Option ℕ) Refusal
 
 -- "exactly if no list of at most k pairs has that replay"; it writes nothing
 pub record IsUnexplained (row : List ℕ) (k : ℕ) (capture entry exit : List ℕ) : Type 0 where
@@ -33,21 +35,16 @@ pub record IsRefused (row : List ℕ) (k : ℕ) (capture entry exit : List ℕ) 
 
 -- what each case of the answer says
 abbrev pub Answered : List ℕ → ℕ → List ℕ → List ℕ → List ℕ → Explanation → Type 0
-Answered row k capture entry exit Unexplained = IsUnexplained row k capture entry exit
-Answered row k capture entry exit (Listed n) = IsListed row k capture entry exit n
-Answered row k capture entry exit (Refused r) = IsRefused row k capture entry exit r
+Answered row k capture entry exit (Ok None) = IsUnexplained row k capture entry exit
+Answered row k capture entry exit (Ok (Some n)) = IsListed row k capture entry exit n
+Answered row k capture entry exit (Err r) = IsRefused row k capture entry exit r
 
 -- of every capture of which this is kept
 abbrev pub AnsweredFor : List ℕ → ℕ → Kept → List ℕ → List ℕ → List ℕ → Explanation → Type 0
 AnsweredFor row k kept crossed entry exit r =
     (capture : List ℕ) → Keeps (plan_of row) capture crossed kept → Answered row k capture entry exit r
 
--- a good row, and a table of crossings
-pub record MayExplain (row crossed : List ℕ) : Type 0 where
-  pub good : GoodRow row
-  pub size : length crossed ≡ crossed_size
-
--- and k without refusal 11
+-- a good row, a table of crossings, and k without refusal 11
 pub record MayDecide (row : List ℕ) (k : ℕ) (crossed : List ℕ) : Type 0 where
   pub good : GoodRow row
   pub size : length crossed ≡ crossed_size

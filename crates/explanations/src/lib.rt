@@ -5,25 +5,20 @@
 
 #![tactic(auto)]
 
-ghost use Rattle.plan.specs.Answers.{GoodRow};
+ghost use Rattle.std.specs.Prelude.{◌≡◌, length};
+ghost use Rattle.scope.specs.Limits.{crossed_size};
 ghost use Rattle.explaining.specs.Walk.{Hunts};
-ghost use Rattle.explanations.specs.Explained.{Answered, AnsweredFor, MayExplain, MayDecide};
+ghost use Rattle.explanations.specs.Explained.{Answered, AnsweredFor, MayDecide};
 
 use capture::Kept;
 use explaining::Hunted;
 use picks::Sizes;
+use plan::Good;
 use scope::limits::{CROSSED, CUTS, TABLE};
-use scope::{Answer, Refusal, refusal_at};
-
-#[derive(Clone, Copy)]
-pub enum Explanation {
-    Unexplained,
-    Listed(usize),
-    Refused(Refusal),
-}
+use scope::{Refusal, refusal_at};
 
 // The first list of at most k pairs that matches a table of crossings.
-fn decide(row: &[u16], k: usize, crossed: &[u8]) -> Hunted
+fn decide(row: &[u16], k: usize, crossed: &[u8]) -> Option<Hunted>
     requires { MayDecide row.now k crossed.now }
     ensures { Hunts row.now crossed.now k result }
 {
@@ -43,56 +38,62 @@ fn decide(row: &[u16], k: usize, crossed: &[u8]) -> Hunted
 // The explanation of a capture of which this is kept, in a good row: refusals 11, 23 and 13, or the answer. No list explains a capture in
 // which a message crosses two links in one slot.
 pub fn explain_good(
-    row: &[u16],
+    good: Good<'_>,
     k: usize,
     kept: Kept,
     crossed: &[u8],
     list: &mut [u16],
-) -> Explanation
-    requires { MayExplain row.now crossed.now }
-    ensures { AnsweredFor row.now k kept crossed.now list.old list.new result }
+) -> Result<Option<usize>, Refusal>
+    requires { length crossed.now ≡ crossed_size }
+    ensures { AnsweredFor good.entry.row.now k kept crossed.now list.old list.new result }
 {
+    let row = good.row;
     if CUTS < k {
-        return Explanation::Refused(refusal_at(11, 0));
+        return Err(refusal_at(11, 0));
     }
     if kept.bad {
-        return Explanation::Refused(refusal_at(23, kept.count));
+        return Err(refusal_at(23, kept.count));
     }
     if list.len() < 2 * k {
-        return Explanation::Refused(refusal_at(13, 2 * k));
+        return Err(refusal_at(13, 2 * k));
     }
     if kept.twice {
-        return Explanation::Unexplained;
+        return Ok(None);
     }
-    let hunted = decide(row, k, crossed);
-    if hunted.found {
+    if let Some(hunted) = decide(row, k, crossed) {
         let pairs = hunted.pairs;
         let numbers = hunted.numbers;
         rows::copy(&numbers[..2 * pairs], list);
-        Explanation::Listed(pairs)
+        Ok(Some(pairs))
     } else {
-        Explanation::Unexplained
+        Ok(None)
     }
 }
 
 // The explanation in a good row, of a capture as numbers.
-fn explain_row(row: &[u16], k: usize, capture: &[u16], list: &mut [u16]) -> Explanation
-    requires { GoodRow row.now }
-    ensures { Answered row.now k capture.now list.old list.new result }
+fn explain_row(
+    good: Good<'_>,
+    k: usize,
+    capture: &[u16],
+    list: &mut [u16],
+) -> Result<Option<usize>, Refusal>
+    ensures { Answered good.entry.row.now k capture.now list.old list.new result }
 {
     let mut crossed = [0u8; CROSSED];
-    let kept = capture::keep(row, capture, &mut crossed);
-    explain_good(row, k, kept, &crossed, list)
+    let kept = capture::keep(good.row, capture, &mut crossed);
+    explain_good(good, k, kept, &crossed, list)
 }
 
 // Which cuts explain a capture, a row of triples slot, link, message: the number of pairs of the first list of at most k that has exactly
 // these crossings, which stands at the front of `list`; or that it is unexplained.
-pub fn explain(row: &[u16], k: usize, capture: &[u16], list: &mut [u16]) -> Explanation
+pub fn explain(
+    row: &[u16],
+    k: usize,
+    capture: &[u16],
+    list: &mut [u16],
+) -> Result<Option<usize>, Refusal>
     ensures { Answered row.now k capture.now list.old list.new result }
 {
-    let judged = plan::judge(row);
-    match judged {
-        Answer::Refused(refusal) => Explanation::Refused(refusal),
-        Answer::Gives(_) => explain_row(row, k, capture, list),
-    }
+    let good = plan::judged(row)?;
+    explain_row(good, k, capture, list)
 }

@@ -1,13 +1,15 @@
 -- Laws of the tests of refusals 5 to 10 and 14 to 19: one for each way out of a test, and of a loop over the places of a message.
 use Prim.Native.Nat.{ℕ, ◌+◌, ◌-◌, ◌*◌, ◌≤◌, ◌<◌}
 use mathlib.Core.Path.{◌≡◌, refl, sym, ◌∙◌, ap, subst}
-use mathlib.Core.Bool.{Bool, true, false, not, ◌&&◌}
+use mathlib.Core.Logic.{◌⊎◌, inl, inr}
+use mathlib.Core.Bool.{true, false}
 use mathlib.Core.List.{List, [], ◌∷◌}
 use native.Mathlib.Omega.{arith}
 use borrow.Author.Tests.{lt-ltb, le-ltb, le-leb, lt-leb}
 use lib.ListN.{length, length-map, get_or, take, drop}
 use lib.Seq.{length-take-le, get_or-take}
-use lib.Dec.{ltb, leb, eqb}
+use lib.Dec.{ltb, leb}
+use Rattle.std.specs.declared.option.Option.{Option}
 use Rattle.scope.specs.Plan.{Plan, at, second_at, second_count, flagged, place_at, place_size, places_at, after_places, place_count, message_at, link_of}
 use Rattle.scope.specs.Good.{links_of, head_of, end_of, slots_rise}
 use Rattle.scope.specs.PathRules.{begins_at}
@@ -17,32 +19,11 @@ use Rattle.rows.proofs.Index.{places_suc}
 use Rattle.rows.proofs.Parts.{numbers-length, numbers-part, places_length, places_at_lem, places_all, places_more, places_none}
 use Rattle.rows.proofs.Second.{no_links, some-links, links-next}
 use Rattle.table.specs.Table.{entry_at}
-use Rattle.paths.specs.Path.{FirstLinks, Earliest, path_rule}
+use Rattle.paths.specs.Path.{FirstLinks, Earliest, order, at_of, step_of, path_rule}
 use Rattle.paths.proofs.Laws.{head_first}
 use Rattle.paths.specs.declared.Fault.{Fault}
 use Rattle.faults.specs.Broken.{held_below, FirstFault, SecondFault, SecondsFault, PlaceFault, place_in, second_of}
 use Rattle.faults.proofs.Seconds.{first_fault_lem}
-
--- the ends of a link: the first is not below V, the second is not, both are
-module _ (w x y v a b : ℕ) (fv : v ≡ w) (fa : a ≡ x) (fb : b ≡ y) where
-  pub ends-first : v ≤ a → true ≡ not (ltb x w && ltb y w && not (eqb x y))
-  ends-first h = let t : ltb x w ≡ false = le-ltb x w (omega arith) in rw t
-
-  pub ends-second : a < v → v ≤ b → true ≡ not (ltb x w && ltb y w && not (eqb x y))
-  ends-second g h =
-      let s : ltb x w ≡ true = lt-ltb x w (omega arith) in
-      let t : ltb y w ≡ false = le-ltb y w (omega arith) in
-      rw (s, t)
-
-  pub ends-below : a < v → b < v → eqb a b ≡ not (ltb x w && ltb y w && not (eqb x y))
-  ends-below g h =
-      let s : ltb x w ≡ true = lt-ltb x w (omega arith) in
-      let t : ltb y w ≡ true = lt-ltb y w (omega arith) in
-      rw (s, t, fa, fb) (twice (eqb x y))
-    where
-      twice : (t : Bool) → t ≡ not (not t)
-      twice true = refl
-      twice false = refl
 
 -- a loop over the places of the message at index i, at place k of n, which stands at index j
 pub record Passing (row : List ℕ) (i n j k : ℕ) : Type 0 where
@@ -68,7 +49,7 @@ module _ (row : List ℕ) (i n : ℕ) where
 
   -- the place that it is at, and that it has passed all
   module _ (j k : ℕ) (e : n ≡ place_count row i) (p : Passing row i n j k) where
-    pub place-of : k < n → (plan : Plan) (end : ℕ) (r : Fault) → PlaceFault plan end (place_at row j) r →
+    pub place-of : k < n → (plan : Plan) (end : ℕ) (r : Option Fault) → PlaceFault plan end (place_at row j) r →
         PlaceFault plan end (place_in (message_at row i) k) r
     place-of h plan end r f =
         let is : place_in (message_at row i) k ≡ place_at row j =
@@ -85,15 +66,12 @@ module _ (row : List ℕ) (n j k : ℕ) where
     more : places_at row j (n - k) ≡ place_at row j ∷ places_at row here.next (n - (k + 1))
     more = places_more row j n k h ∙ ap (λ x. place_at row j ∷ places_at row x (n - (k + 1))) (sym is.next)
 
-    -- slots: one is below the least, one is not below t, one is good
+    -- slots: one is below the least or not below t, one is good
     module _ (t least : ℕ) where
-      pub slots_low : here.slot < least → slots_rise t least (places_at row j (n - k)) ≡ false
+      pub slots_out : (here.slot < least) ⊎ ((least ≤ here.slot) × (t ≤ here.slot)) → slots_rise t least (places_at row j (n - k)) ≡ false
       unfolding slots_rise
-      slots_low b = let s : ltb (at row (j + 1)) least ≡ true = lt-ltb (at row (j + 1)) least (omega (arith, is.slot)) in rw (more, s)
-
-      pub slots_late : least ≤ here.slot → t ≤ here.slot → slots_rise t least (places_at row j (n - k)) ≡ false
-      unfolding slots_rise
-      slots_late a b =
+      slots_out (inl b) = let s : ltb (at row (j + 1)) least ≡ true = lt-ltb (at row (j + 1)) least (omega (arith, is.slot)) in rw (more, s)
+      slots_out (inr b) =
           let r : ltb (at row (j + 1)) least ≡ false = le-ltb (at row (j + 1)) least (omega (arith, is.slot)) in
           let s : ltb (at row (j + 1)) t ≡ false = le-ltb (at row (j + 1)) t (omega (arith, is.slot)) in
           rw (more, r, s)
@@ -163,7 +141,7 @@ module _ (row : List ℕ) (i : ℕ) (here : RowPlace) (is : IsPlace row i here) 
         let n : length (second_at row i) ≡ second_count row i = rw t (numbers-length row (i + 4) (second_count row i)) in
         omega (arith, ap length second-part, n)
 
-    pub place_fault_lem : (plan : Plan) (end : ℕ) (r : Fault) →
+    pub place_fault_lem : (plan : Plan) (end : ℕ) (r : Option Fault) →
         PlaceFault plan end (second_of here.link (take (here.next - here.second) (drop here.second row))) r →
         PlaceFault plan end (place_at row i) r
     place_fault_lem plan end r g =
@@ -182,17 +160,16 @@ module _ (row : List ℕ) (plan : Plan) (i n : ℕ) (entry buffer : List ℕ) (l
       head = sym (get_or-take n buffer 0 0 (omega (arith, links.count))) ∙ head_first (take n buffer)
 
   -- what the walk over them found is what the message's first path breaks
-  pub first_path : (v : ℕ) → v ≡ (link_of plan (get_or buffer 0 0)).from → (found : Fault) →
-      Earliest (path_rule plan v (take n buffer)) 3 (length (take n buffer)) found.rule found.step →
-      FirstFault plan (message_at row i) (record { rule = found.rule; message = 0; at = found.step; step = found.step })
-  first_path v fv found g =
+  pub first_path : (v : ℕ) → v ≡ (link_of plan (get_or buffer 0 0)).from → (r : Option Fault) →
+      Earliest (path_rule plan v (take n buffer)) 5 (length (take n buffer)) (order r) (step_of r) → at_of r ≡ step_of r →
+      FirstFault plan (message_at row i) r
+  first_path v fv r g same =
       let ps = message_at row i in
-      let walk : Earliest (path_rule plan (begins_at plan (links_of ps)) (links_of ps)) 3 (length ps) found.rule found.step =
+      let walk : Earliest (path_rule plan (begins_at plan (links_of ps)) (links_of ps)) 5 (length ps) (order r) (step_of r) =
       rw (← begins-is, ← fv, ← length-map ps (λ p. p.link), ← links.are) g in
-      first_fault_lem (path_rule plan (begins_at plan (links_of ps)) (links_of ps)) 3 (length ps)
-      (record { rule = found.rule; message = 0; at = found.step; step = found.step }) walk refl
+      first_fault_lem (path_rule plan (begins_at plan (links_of ps)) (links_of ps)) (length ps) r walk same
 
   -- and they say where it ends
-  pub second_paths_lem : (end : ℕ) → end ≡ end_of plan (take n buffer) → (r : Fault) → SecondsFault plan end (message_at row i) r →
+  pub second_paths_lem : (end : ℕ) → end ≡ end_of plan (take n buffer) → (r : Option Fault) → SecondsFault plan end (message_at row i) r →
       SecondFault plan (message_at row i) r
   second_paths_lem end fe r g = subst (λ e. SecondsFault plan e (message_at row i) r) (fe ∙ ap (end_of plan) links.are) g

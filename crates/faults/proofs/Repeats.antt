@@ -44,7 +44,7 @@ module _ (row : List ℕ) where
     -- whether the set of the vertex where it begins has the one where it ends
     told : has (get_or met r.from 0) r.to ≡ repeats (plan_of row) e
     told =
-        on.marked r.from r.to ends.from-small ∙
+        on.marked r.from r.to ends.from_small ∙
         ap (λ v. leads e v r.to) ends.from ∙ ap (leads e (link_of (plan_of row) e).from) ends.to
 
     pub repeating_found : (t : Bool) → t ≡ has (get_or met r.from 0) r.to → t ≡ true → e ≡ lowest (repeats (plan_of row)) links
@@ -70,7 +70,7 @@ module _ (row : List ℕ) where
         by v w k true f =
             let q : v ≡ r.from = eqb-true v r.from f in
             ap (λ x. has (get_or (set met r.from more) x 0) w) q ∙
-            ap (λ x. has x w) (get_or-set_same met r.from more 0 (omega (arith, on.long, ends.from-small))) ∙
+            ap (λ x. has x w) (get_or-set_same met r.from more 0 (omega (arith, on.long, ends.from_small))) ∙
             with_it w ∙ turned (eqb w r.to) (has (get_or met r.from 0) w) ∙
             ap (λ x. has (get_or met x 0) w || eqb w r.to) (sym q) ∙
             ap (λ x. x || eqb w r.to) (on.marked v w k) ∙ ap (λ x. leads e v w || x) (same_from v w q)

@@ -1,13 +1,17 @@
 -- The rules as a first path's places, and a table, break them: the tests of refusals 8 and 9, and the earliest rule of paths that is broken, of
 -- a message that stands anywhere.
-use Rattle.std.specs.Prelude.{ℕ, ◌<◌, ◌≡◌, Bool, false, cond, not, ◌&&◌, ◌||◌, List, [], ◌∷◌, length, get_or, leb, eqb}
+use Rattle.std.specs.Prelude.{ℕ, ◌<◌, ◌≡◌, Bool, false, cond, not, ◌&&◌, ◌||◌, List, [], ◌∷◌, length, get_or, leb, eqb, MatchOption, Option}
 use Rattle.scope.specs.Lowest.{lowest, some}
 use Rattle.scope.specs.Plan.{Plan, Place}
 use Rattle.scope.specs.Good.{links_of, slots_rise, end_of}
 use Rattle.scope.specs.PathRules.{no_link, apart, astray, again, replaced, begins_at, stands_at}
 use Rattle.table.specs.Table.{entry_at}
 use Rattle.paths.specs.declared.Fault.{Fault}
-use Rattle.paths.specs.Path.{Earliest, path_rule}
+use Rattle.paths.specs.Path.{Earliest, order, at_of, step_of, path_rule}
+
+-- r is the lowest number below n that passes a test, or none where none does
+abbrev pub LowestOf : (ℕ → Bool) → ℕ → Option ℕ → Type 0
+LowestOf test n r = MatchOption r (some test n ≡ false) (λ i. (i < n) × (i ≡ lowest test n))
 
 abbrev pub broken_slots : Plan → List Place → Bool
 broken_slots plan ps = not (slots_rise plan.timeout 0 ps)
@@ -38,24 +42,24 @@ place_rule plan end p x s =
 abbrev pub second_rule : Plan → List Place → ℕ → ℕ → ℕ → Bool
 second_rule plan ps x p s = place_rule plan (end_of plan (links_of ps)) (place_in ps p) x s
 
--- r has of k rules the earliest one that is broken at one of n places, the lowest place and there the lowest step: a place p has so many links
-pub record FaultOf (broken : ℕ → ℕ → ℕ → Bool) (links : ℕ → ℕ) (k n : ℕ) (r : Fault) : Type 0 where
-  pub found : Earliest (λ x p. some (broken x p) (links p)) k n r.rule r.at
-  pub step : r.rule < k → r.step ≡ lowest (broken r.rule r.at) (links r.at)
+-- r has the earliest rule that is broken at one of n places, the lowest place and there the lowest step: a place p has so many links
+pub record FaultOf (broken : ℕ → ℕ → ℕ → Bool) (links : ℕ → ℕ) (n : ℕ) (r : Option Fault) : Type 0 where
+  pub found : Earliest (λ x p. some (broken x p) (links p)) 5 n (order r) (at_of r)
+  pub step : order r < 5 → step_of r ≡ lowest (broken (order r) (at_of r)) (links (at_of r))
 
-abbrev pub FirstFault : Plan → List Place → Fault → Type 0
-FirstFault plan ps r = FaultOf (first_rule plan ps) (λ p. length ps) 3 (length ps) r
+abbrev pub FirstFault : Plan → List Place → Option Fault → Type 0
+FirstFault plan ps r = FaultOf (first_rule plan ps) (λ p. length ps) (length ps) r
 
-abbrev pub SecondFault : Plan → List Place → Fault → Type 0
-SecondFault plan ps r = FaultOf (second_rule plan ps) (λ p. length (place_in ps p).second) 5 (length ps) r
+abbrev pub SecondFault : Plan → List Place → Option Fault → Type 0
+SecondFault plan ps r = FaultOf (second_rule plan ps) (λ p. length (place_in ps p).second) (length ps) r
 
 -- the same, where the first path ends at vertex `end`
-abbrev pub SecondsFault : Plan → ℕ → List Place → Fault → Type 0
-SecondsFault plan end ps r = FaultOf (λ x p. place_rule plan end (place_in ps p) x) (λ p. length (place_in ps p).second) 5 (length ps) r
+abbrev pub SecondsFault : Plan → ℕ → List Place → Option Fault → Type 0
+SecondsFault plan end ps r = FaultOf (λ x p. place_rule plan end (place_in ps p) x) (λ p. length (place_in ps p).second) (length ps) r
 
 -- and of one place alone
-abbrev pub PlaceFault : Plan → ℕ → Place → Fault → Type 0
-PlaceFault plan end p r = Earliest (place_rule plan end p) 5 (length p.second) r.rule r.step
+abbrev pub PlaceFault : Plan → ℕ → Place → Option Fault → Type 0
+PlaceFault plan end p r = Earliest (place_rule plan end p) 5 (length p.second) (order r) (step_of r)
 
 -- a place with this link and second path; no rule of paths asks for its slot
 abbrev pub second_of : ℕ → List ℕ → Place

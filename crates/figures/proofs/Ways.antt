@@ -8,8 +8,8 @@ use lib.ListN.{length, get_or, take, drop}
 use lib.Seq.{get_or_at, take_at}
 use lib.Dec.{ltb}
 use borrow.Author.Tests.{lt-ltb, le-ltb, le-leb, lt-leb, ltb-false}
-use Rattle.scope.specs.declared.Answer.{Answer}
-use Rattle.scope.specs.declared.Answer.TheVariants.{Gives, Refused}
+use Rattle.scope.specs.Outcome.{Answer}
+use Rattle.std.specs.Prelude.{Ok, Err}
 use Rattle.scope.specs.declared.Refusal.{Refusal}
 use Rattle.scope.specs.Outcome.{Outcome, gives, refused, refuse, outcome_of, and_then, room}
 use Rattle.scope.specs.Plan.{plan_of}
@@ -28,9 +28,9 @@ refuses : (row : List ℕ) (k : ℕ) (entry : List ℕ) (r : Refusal) (a : Answe
 unfolding after
 refuses row k entry r a e is = record { answer = is ∙ sym e; buffer = rw e refl }
 
-pub bad-row : (row : List ℕ) (k : ℕ) (entry : List ℕ) (r : Refusal) → judge row ≡ refused r → FiguresAll row k entry entry (Refused r)
+pub bad-row : (row : List ℕ) (k : ℕ) (entry : List ℕ) (r : Refusal) → judge row ≡ refused r → FiguresAll row k entry entry (Err r)
 unfolding figures_of
-bad-row row k entry r e = refuses row k entry r (Refused r) (rw e) refl
+bad-row row k entry r e = refuses row k entry r (Err r) (rw e) refl
 
 module _ (row : List ℕ) (k : ℕ) (entry : List ℕ) (g : GoodRow row) where
   pub k_too_large : (a : Answer) → 3 < k → outcome_of a ≡ refuse 11 0 → FiguresAll row k entry entry a
@@ -42,7 +42,7 @@ module _ (row : List ℕ) (k : ℕ) (entry : List ℕ) (g : GoodRow row) where
     unfolding figures_of
     too_short a h is = refuses row k entry _ a (rw (judged row g, le-ltb 3 k few, lt-leb (k + 1) (length entry) h)) is
 
-    pub all_told : (exit : List ℕ) → k + 1 ≤ length entry → Filled (plan_of row) k entry exit → FiguresAll row k entry exit (Gives (k + 1))
+    pub all_told : (exit : List ℕ) → k + 1 ≤ length entry → Filled (plan_of row) k entry exit → FiguresAll row k entry exit (Ok (k + 1))
     unfolding figures_of after
     all_told exit enough filled =
         let o : figures_of row k (length entry) ≡ gives (k + 1) = rw (judged row g, le-ltb 3 k few, le-leb (k + 1) (length entry) enough) in

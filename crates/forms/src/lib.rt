@@ -13,12 +13,12 @@ ghost use Rattle.forms.specs.Unpack.{walk_fields, Unpacks};
 ghost use Rattle.forms.specs.Pack.{Complete, Sized, Fitting, Packed};
 
 use grammar::{opening, step, width};
-use scope::{Answer, refuse};
+use scope::{Refusal, refuse};
 
 // What is found in a file: the answer of its walk, and how many numbers its row has.
 #[derive(Clone, Copy)]
 pub struct Unpacked {
-    pub answer: Answer,
+    pub answer: Result<usize, Refusal>,
     pub count: usize,
 }
 
@@ -35,7 +35,7 @@ fn fill(file: &[u8], row: &mut [u16]) -> Unpacked
         let w = width(s);
         if w == 0 {
             return Unpacked {
-                answer: Answer::Gives(p),
+                answer: Ok(p),
                 count: i,
             };
         }
@@ -54,7 +54,7 @@ fn fill(file: &[u8], row: &mut [u16]) -> Unpacked
 }
 
 // Refusal 4 of a file whose last field ends at a bit of it.
-fn ends(file: &[u8], end: usize) -> Answer
+fn ends(file: &[u8], end: usize) -> Result<usize, Refusal>
     requires { (end ≤ 8 * length file.now) × (end < 2 ^ 32) }
     ensures { outcome_of result ≡ ends_at (bits file.now) end }
 {
@@ -63,7 +63,7 @@ fn ends(file: &[u8], end: usize) -> Answer
         return refuse(4, end);
     }
     if bits::field(file, end, 8 * n - end) == 0 {
-        Answer::Gives(end)
+        Ok(end)
     } else {
         refuse(4, end)
     }
@@ -83,7 +83,6 @@ pub fn unpack(file: &[u8], row: &mut [u16]) -> Unpacked
         };
     }
     let filled = fill(file, row);
-    let answer = filled.answer;
     let count = filled.count;
     if bits::field(file, 0, 4) != 1 {
         return Unpacked {
@@ -91,16 +90,11 @@ pub fn unpack(file: &[u8], row: &mut [u16]) -> Unpacked
             count,
         };
     }
-    match answer {
-        Answer::Gives(end) => Unpacked {
-            answer: ends(file, end),
-            count,
-        },
-        Answer::Refused(r) => Unpacked {
-            answer: Answer::Refused(r),
-            count,
-        },
-    }
+    let answer = match filled.answer {
+        Ok(end) => ends(file, end),
+        Err(r) => Err(r),
+    };
+    Unpacked { answer, count }
 }
 
 // How many bits the fields of a row have, its edition's with them.
@@ -110,11 +104,9 @@ fn packed_bits(row: &[u16]) -> usize
 {
     let mut s = opening();
     let mut p: usize = 4;
-    let mut i: usize = 1;
-    while i < row.len() {
+    for i in 1..row.len() {
         p += width(s);
         s = step(s, rows::number(row, i));
-        i += 1;
     }
     p
 }
@@ -135,14 +127,12 @@ fn pack_fields(row: &[u16], file: &mut [u8]) -> usize
     bits::put(file, 0, 4, 1);
     let mut s = opening();
     let mut p: usize = 4;
-    let mut i: usize = 1;
-    while i < row.len() {
+    for i in 1..row.len() {
         let w = width(s);
         let v = rows::number(row, i);
         bits::put(file, p, w, v);
         s = step(s, v);
         p += w;
-        i += 1;
     }
     p
 }

@@ -22,46 +22,13 @@ pub fn opening() -> Fields
 pub fn width(s: Fields) -> usize
     ensures { result ≡ fields.width s }
 {
-    let next = s.next;
-    match next {
-        Field::Vertices => 6,
-        Field::Links => 6,
-        Field::Messages { links: _ } => 5,
-        Field::Timeout {
-            links: _,
-            messages: _,
-        } => s.slot,
-        Field::From {
-            links: _,
-            messages: _,
-        } => 6,
-        Field::To {
-            links: _,
-            messages: _,
-        } => 6,
-        Field::Length { messages: _ } => 4,
-        Field::Link {
-            places: _,
-            messages: _,
-        } => 6,
-        Field::Slot {
-            places: _,
-            messages: _,
-        } => s.slot,
-        Field::Flag {
-            places: _,
-            messages: _,
-        } => 1,
-        Field::SecondLength {
-            places: _,
-            messages: _,
-        } => 4,
-        Field::SecondLink {
-            links: _,
-            places: _,
-            messages: _,
-        } => 6,
+    match s.next {
         Field::End => 0,
+        Field::Flag { .. } => 1,
+        Field::Length { .. } | Field::SecondLength { .. } => 4,
+        Field::Messages { .. } => 5,
+        Field::Timeout { .. } | Field::Slot { .. } => s.slot,
+        _ => 6,
     }
 }
 
@@ -164,9 +131,8 @@ fn following(next: Field, v: usize) -> Field
 pub fn step(s: Fields, v: usize) -> Fields
     ensures { result ≡ fields.step s v }
 {
-    let next = s.next;
     Fields {
-        slot: s.slot,
-        next: following(next, v),
+        next: following(s.next, v),
+        ..s
     }
 }

@@ -5,8 +5,8 @@ use mathlib.Core.List.{List, [], ◌++◌}
 use native.Mathlib.Omega.{arith}
 use lib.ListN.{length}
 use borrow.Author.Tests.{le-leb, lt-leb}
-use Rattle.scope.specs.declared.Answer.{Answer}
-use Rattle.scope.specs.declared.Answer.TheVariants.{Gives, Refused}
+use Rattle.scope.specs.Outcome.{Answer}
+use Rattle.std.specs.Prelude.{Ok, Err}
 use Rattle.scope.specs.declared.Refusal.{Refusal}
 use Rattle.scope.proofs.Outcomes.{not-both, same_answer}
 use Rattle.scope.specs.Outcome.{Outcome, outcome_of, gives, refused, refuse, and_then, room}
@@ -37,7 +37,7 @@ module _ {text b : List ℕ} {n : ℕ} (p : Puts text [] b 0 n) where
       }
 
   pub prints-whole : (entry : List ℕ) {c : List ℕ} {m : ℕ} → n ≤ length (b ++ entry) → Puts text (b ++ entry) c 0 m →
-      Prints text entry c (Gives n)
+      Prints text entry c (Ok n)
   unfolding after
   prints-whole entry h q =
       let room : length text ≤ length entry = omega (arith, needed, same entry) in
@@ -60,7 +60,7 @@ pub says_given : {may : Outcome} {text entry exit : List ℕ} {r : Answer} (n : 
 says_given {may} {text} {entry} n e p =
     record { answer = p.answer ∙ sym (ap (λ (o : Outcome). and_then o (λ _. room (length text) (length entry))) e); buffer = p.buffer }
 
-pub says-refused : {may : Outcome} (text entry : List ℕ) (r : Refusal) → may ≡ refused r → Says may text entry entry (Refused r)
+pub says-refused : {may : Outcome} (text entry : List ℕ) (r : Refusal) → may ≡ refused r → Says may text entry entry (Err r)
 unfolding after
 says-refused text entry r e = record { answer = rw e; buffer = refl }
 
@@ -75,12 +75,12 @@ module _ (text entry : List ℕ) (fits : length text ≤ length entry) where
       let e : outcome_of r ≡ gives (length text) = p.answer ∙ has_room in
       record { answer = e; buffer = p.buffer ∙ ap (λ (o : Outcome). after o text entry) e }
 
-  gave : (may : Outcome) (n : ℕ) {exit : List ℕ} → Says may text entry exit (Gives n) → Printed text entry exit (Gives n)
+  gave : (may : Outcome) (n : ℕ) {exit : List ℕ} → Says may text entry exit (Ok n) → Printed text entry exit (Ok n)
   gave (gives m) n s = printed (record { answer = s.answer; buffer = s.buffer })
   gave (refused r) n s = not-both (sym s.answer)
 
   refuses : (may : Outcome) → ((r : Refusal) → may ≡ refused r → text ≡ refused_line r) → (r : Refusal) {exit exit' : List ℕ} {a : Answer} →
-      Says may text entry exit (Refused r) → Prints (refused_line r) exit exit' a → Printed text entry exit' a
+      Says may text entry exit (Err r) → Prints (refused_line r) exit exit' a → Printed text entry exit' a
   unfolding after
   refuses (gives m) line r s p = not-both (s.answer ∙ has_room)
   refuses (refused q) line r {exit} {exit'} {a} s p =
@@ -90,10 +90,10 @@ module _ (text entry : List ℕ) (fits : length text ≤ length entry) where
 
   -- under the name that the text has for the whole of what was read
   module _ (may : Outcome) (whole : List ℕ) (is : text ≡ whole) (a : Answer) {exit : List ℕ} (s : Says may text entry exit a) where
-    pub printed_given : (n : ℕ) → a ≡ Gives n → Printed whole entry exit (Gives n)
-    printed_given n e = subst (λ (t : List ℕ). Printed t entry exit (Gives n)) is (gave may n (rw e at s))
+    pub printed_given : (n : ℕ) → a ≡ Ok n → Printed whole entry exit (Ok n)
+    printed_given n e = subst (λ (t : List ℕ). Printed t entry exit (Ok n)) is (gave may n (rw e at s))
 
-    pub printed-refused : (r : Refusal) → a ≡ Refused r → ((r : Refusal) → may ≡ refused r → text ≡ refused_line r) →
+    pub printed-refused : (r : Refusal) → a ≡ Err r → ((r : Refusal) → may ≡ refused r → text ≡ refused_line r) →
         {exit' : List ℕ} {b : Answer} → Prints (refused_line r) exit exit' b → Printed whole entry exit' b
     printed-refused r e line {exit'} {b} p = subst (λ (t : List ℕ). Printed t entry exit' b) is (refuses may line r (rw e at s) p)
 

@@ -1,6 +1,6 @@
 -- What a function leaves that prints a text into a lent buffer, or refuses.
 use Rattle.std.specs.Prelude.{◌≡◌, ℕ, List, ◌++◌, length, take, drop}
-use Rattle.scope.specs.declared.Answer.{Answer}
+use Rattle.scope.specs.Outcome.{Answer}
 use Rattle.scope.specs.Outcome.{Outcome, outcome_of, gives, and_then, room}
 use Rattle.scope.specs.Questions.{after}
 

@@ -4,7 +4,7 @@
 
 #![tactic(auto)]
 
-ghost use Rattle.std.specs.Prelude.{◌*◌, ◌<◌, ◌^◌};
+ghost use Rattle.std.specs.Prelude.{ℕ, ◌*◌, ◌<◌, ◌^◌, List};
 ghost use Rattle.listing.specs.Prints.{Prints};
 ghost use Rattle.text.specs.Text.{Puts, Told};
 ghost use Rattle.scope.specs.Lines.{event_line, event_lines, arrived_line, refused_line};
@@ -13,7 +13,7 @@ ghost use Rattle.scope.specs.Outcome.{gives};
 ghost use Rattle.scope.specs.Plan.{plan_of};
 
 use rows::number;
-use scope::{Answer, Refusal, refuse};
+use scope::{Refusal, refuse};
 use text::{put_byte, put_decimal, put_number, put_refusal, put_word};
 
 // One event: slot, message, kind and number.
@@ -40,12 +40,10 @@ fn event_lines(out: &mut [u8], at: usize, messages: usize, events: &[u16], lines
     ensures { Puts (event_lines messages events.now 0 lines) out.old out.new at result }
 {
     let mut next = at;
-    let mut j = 0;
-    while j < lines {
+    for j in 0..lines {
         let kind = number(events, 2 * j);
         let value = number(events, 2 * j + 1);
         next = event_line(out, next, j / messages, j % messages, kind, value);
-        j += 1;
     }
     next
 }
@@ -87,28 +85,32 @@ pub const ROOM: usize = 36942;
 // Bytes enough for the line of every refusal (proofs/Lines, `refused-size`).
 pub const REFUSAL_ROOM: usize = 98;
 
-// The listing of a replay of a plan's row with n arrivals and these events: how many bytes, or refusal 13 with the bytes needed.
-pub fn listing(n: usize, row: &[u16], events: &[u16], out: &mut [u8]) -> Answer
-    ensures { Prints (Lines·listing (gives n) (plan_of row.now) events.now) out.old
-        out.new result }
+// Prints a text into a lent buffer: how many bytes, or refusal 13 with the bytes needed, and then nothing is written. `lay` lays the text
+// over the front of any buffer, as far as that goes, and gives how many bytes the text has; so it is laid over nothing first.
+pub fn print<F: Fn(&mut [u8]) -> usize>(out: &mut [u8], lay: F) -> Result<usize, Refusal>
+    requires { F.IsAlwaysCallable lay }
+    ensures { (text : List ℕ) → ((s : _) (n : ℕ) (t : _) → F.post lay s n t → Puts text s.now t.now 0 n) →
+        Prints text out.old out.new result }
 {
-    let needed = replayed(&mut out[..0], n, row, events);
+    let needed = lay(&mut out[..0]);
     if out.len() < needed {
         return refuse(13, needed);
     }
-    replayed(out, n, row, events);
-    Answer::Gives(needed)
+    lay(out);
+    Ok(needed)
 }
 
-// The line of a refusal, `refused N place P` or, of a rule of paths, `refused N place MESSAGE PLACE STEP`: how many bytes, or refusal 13
-// with the bytes needed.
-pub fn refusal_text(refusal: Refusal, out: &mut [u8]) -> Answer
+// The listing of a replay of a plan's row with n arrivals and these events.
+pub fn listing(n: usize, row: &[u16], events: &[u16], out: &mut [u8]) -> Result<usize, Refusal>
+    ensures { Prints (Lines·listing (gives n) (plan_of row.now) events.now) out.old
+        out.new result }
+{
+    print(out, |part| replayed(part, n, row, events))
+}
+
+// The line of a refusal, `refused N place P` or, of a rule of paths, `refused N place MESSAGE PLACE STEP`.
+pub fn refusal_text(refusal: Refusal, out: &mut [u8]) -> Result<usize, Refusal>
     ensures { Prints (refused_line refusal) out.old out.new result }
 {
-    let needed = refused_line(&mut out[..0], refusal);
-    if needed > out.len() {
-        return refuse(13, needed);
-    }
-    refused_line(out, refusal);
-    Answer::Gives(needed)
+    print(out, |part| refused_line(part, refusal))
 }

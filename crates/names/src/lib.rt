@@ -11,31 +11,27 @@ ghost use Rattle.scope.specs.Outcome.{outcome_of};
 ghost use Rattle.scope.specs.Shelf.{check_names, names_of};
 
 use scope::limits::{NAME, NAMES};
-use scope::{Answer, refuse};
+use scope::{Refusal, refuse};
 
 // The index of the first line feed from an index on, or the text's length; past the end the index itself.
 pub fn name_end(text: &[u8], from: usize) -> usize
     ensures { result ≡ name_end text.now from }
 {
-    let mut i = from;
-    while i < text.len() {
-        if text[i] == b'\n' {
-            return i;
-        }
-        i += 1;
-    }
-    i
+    let Some(rest) = text.get(from..) else {
+        return from;
+    };
+    from + rest.iter().position(|b| *b == b'\n').unwrap_or(rest.len())
 }
 
 // A name of so many bytes is refused in this line.
 fn is_bad(line: usize, size: usize) -> bool
     ensures { result ≡ bad_size line size }
 {
-    NAMES <= line || (size == 0 || NAME < size)
+    NAMES <= line || !(1..=NAME).contains(&size)
 }
 
 // How many names there are, or refusal 24 with the first line that is bad.
-pub fn check_names(text: &[u8]) -> Answer
+pub fn check_names(text: &[u8]) -> Result<usize, Refusal>
     ensures { outcome_of result ≡ check_names (names_of text.now) }
 {
     let mut line = 0;
@@ -48,5 +44,5 @@ pub fn check_names(text: &[u8]) -> Answer
         line += 1;
         from = end + 1;
     }
-    Answer::Gives(line)
+    Ok(line)
 }

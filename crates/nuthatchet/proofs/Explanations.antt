@@ -14,8 +14,8 @@ use Rattle.scope.specs.Capture.{check_capture}
 use Rattle.scope.specs.Questions.{judge, may_explain}
 use Rattle.scope.proofs.Outcomes.{not-both}
 use Rattle.plan.proofs.Outcomes.{then-back}
-use Rattle.explanations.specs.declared.Explanation.{Explanation}
-use Rattle.explanations.specs.declared.Explanation.TheVariants.{Unexplained, Listed, Refused}
+use Rattle.explanations.specs.Explained.{Explanation}
+use Rattle.std.specs.Prelude.{Some, None, Ok, Err}
 use Rattle.explanations.specs.Explained.{Answered, IsUnexplained, IsListed}
 use Rattle.nuthatchet.specs.Told.{Told}
 use Rattle.nuthatchet.specs.Explained.{explained, Few, TellsExplanation, ResultSays}
@@ -35,9 +35,9 @@ module _ (row : List ℕ) (k : ℕ) (capture entry exit : List ℕ) where
       within (ltb 3 k) _ refl b.2
 
   pub few : (r : Explanation) → Answered row k capture entry exit r → Few r
-  few Unexplained a n e = let z : ◌≡◌ {A = ℕ} 0 1 = cc in absurd (omega arith)
-  few (Listed i) a n e = let s : i ≡ n = cc in omega (arith, at_most a.may, a.list.few, a.count)
-  few (Refused r) a n e = let z : ◌≡◌ {A = ℕ} 0 1 = cc in absurd (omega arith)
+  few (Ok None) a n e = let z : ◌≡◌ {A = ℕ} 0 1 = cc in absurd (omega arith)
+  few (Ok (Some i)) a n e = let s : i ≡ n = cc in omega (arith, at_most a.may, a.list.few, a.count)
+  few (Err r) a n e = let z : ◌≡◌ {A = ℕ} 0 1 = cc in absurd (omega arith)
 
   pub tells-explanation : (r : Explanation) {n p q s v : ℕ} → Answered row k capture entry exit r → Told (explained r) n p q s v →
       TellsExplanation row k capture entry exit n p q s v
@@ -48,22 +48,22 @@ module _ (row : List ℕ) (k : ℕ) (capture entry exit : List ℕ) where
     none-refused r is e = zero_says_none.explains row k capture (length entry) r e (sym is)
 
     says_none : (r : Explanation) → Answered row k capture entry exit r → Told (explained r) 0 p q s 0 → IsUnexplained row k capture entry exit
-    says_none Unexplained a t = a
-    says_none (Listed i) a t =
+    says_none (Ok None) a t = a
+    says_none (Ok (Some i)) a t =
         let none : 0 ≡ i + 1 = t.result in
         absurd (omega arith)
-    says_none (Refused r) a t = absurd (none-refused r t.refusal.number a.may)
+    says_none (Err r) a t = absurd (none-refused r t.refusal.number a.may)
 
     says-list : (n : ℕ) (r : Explanation) → Answered row k capture entry exit r → Told (explained r) 0 p q s (suc n) →
         IsListed row k capture entry exit n
-    says-list n Unexplained a t =
+    says-list n (Ok None) a t =
         let none : suc n ≡ 0 = t.result in
         absurd (omega arith)
-    says-list n (Listed i) a t =
+    says-list n (Ok (Some i)) a t =
         let count : suc n ≡ i + 1 = t.result in
         let same : n ≡ i = omega arith in
         rw same a
-    says-list n (Refused r) a t = absurd (none-refused r t.refusal.number a.may)
+    says-list n (Err r) a t = absurd (none-refused r t.refusal.number a.may)
 
 pub result_says : ResultSays
 result_says =

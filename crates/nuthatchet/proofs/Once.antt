@@ -6,8 +6,8 @@ use mathlib.Core.List.{List}
 use lib.ListN.{length}
 use lib.Dec.{eqb}
 use lib.IntN.{ℤ}
-use Rattle.scope.specs.declared.Answer.{Answer}
-use Rattle.scope.specs.declared.Answer.TheVariants.{Gives, Refused}
+use Rattle.scope.specs.Outcome.{Answer}
+use Rattle.std.specs.Prelude.{Ok, Err}
 use Rattle.scope.specs.Outcome.{Outcome, outcome_of, gives, refused}
 use Rattle.scope.specs.Plan.{second_start}
 use Rattle.scope.specs.SecondPath.{place_index}
@@ -22,8 +22,8 @@ use Rattle.nuthatchet.specs.Ruled.{ruled, TellsRuling}
 use Rattle.nuthatchet.specs.Explained.{explained, TellsExplanation}
 
 answer_of : Outcome → Answer
-answer_of (gives i) = Gives i
-answer_of (refused r) = Refused r
+answer_of (gives i) = Ok i
+answer_of (refused r) = Err r
 
 answer_back : (o : Outcome) → outcome_of (answer_of o) ≡ o
 unfolding answer_of

@@ -17,8 +17,8 @@ use Rattle.scope.proofs.Bools.{or_right}
 use Rattle.laws.proofs.Cuts.{all_arrive_without_cuts_lem}
 use Rattle.plan.proofs.Outcomes.{then-back}
 use Rattle.plan.proofs.Ways.{good-row}
-use Rattle.verdicts.specs.declared.Ruling.{Ruling}
-use Rattle.verdicts.specs.declared.Ruling.TheVariants.{Resistant, Failing, Refused}
+use Rattle.verdicts.specs.Verdict.{Ruling}
+use Rattle.std.specs.Prelude.{Some, None, Ok, Err}
 use Rattle.verdicts.specs.Verdict.{Answered, IsFailing}
 use Rattle.nuthatchet.specs.Told.{Told}
 use Rattle.nuthatchet.specs.Ruled.{ruled, TellsRuling}
@@ -46,10 +46,10 @@ module _ (row : List ℕ) (k l : ℕ) (entry exit : List ℕ) where
   some zero a = absurd (no_cut_fails a.may a.list)
   some (suc n) a = omega arith
 
-  pub failing-some : (r : Ruling) → Answered row k l entry exit r → (i : ℕ) → r ≡ Failing i → 0 < i
-  failing-some Resistant a i e = let z : ◌≡◌ {A = ℕ} 0 1 = cc in absurd (omega arith)
-  failing-some (Failing n) a i e = let s : n ≡ i = cc in rw (← s) (some n a)
-  failing-some (Refused r) a i e = let z : ◌≡◌ {A = ℕ} 0 1 = cc in absurd (omega arith)
+  pub failing-some : (r : Ruling) → Answered row k l entry exit r → (i : ℕ) → r ≡ Ok (Some i) → 0 < i
+  failing-some (Ok None) a i e = let z : ◌≡◌ {A = ℕ} 0 1 = cc in absurd (omega arith)
+  failing-some (Ok (Some n)) a i e = let s : n ≡ i = cc in rw (← s) (some n a)
+  failing-some (Err r) a i e = let z : ◌≡◌ {A = ℕ} 0 1 = cc in absurd (omega arith)
 
   pub tells-ruling : (r : Ruling) {n p q s v : ℕ} → Answered row k l entry exit r → Told (ruled r) n p q s v →
       TellsRuling row k l entry exit n p q s v

@@ -7,8 +7,8 @@ use lib.ListN.{length}
 use Rattle.scope.specs.declared.Refusal.{Refusal}
 use Rattle.scope.specs.Outcome.{refused}
 use Rattle.scope.specs.Questions.{may_judge}
-use Rattle.verdicts.specs.declared.Ruling.{Ruling}
-use Rattle.verdicts.specs.declared.Ruling.TheVariants.{Resistant, Failing, Refused}
+use Rattle.verdicts.specs.Verdict.{Ruling}
+use Rattle.std.specs.Prelude.{Some, None, Ok, Err}
 use Rattle.verdicts.specs.Verdict.{Answered, IsResistant, IsFailing}
 use Rattle.nuthatchet.specs.Told.{Told}
 use Rattle.nuthatchet.specs.Ruled.{ruled, PairsSay}
@@ -18,23 +18,23 @@ module _ (row : List ℕ) (k l : ℕ) (entry exit : List ℕ) (p q s : ℕ) wher
   none-refused : (r : Refusal) → 0 ≡ r.no → may_judge row k l (length entry) ≡ refused r → ⊥
   none-refused r is e = zero_says_none.rules row k l (length entry) r e (sym is)
 
-  resists : (r : Ruling) → Answered row k l entry exit r → Told (ruled r) 0 p q s 0 → ((i : ℕ) → r ≡ Failing i → 0 < i) →
+  resists : (r : Ruling) → Answered row k l entry exit r → Told (ruled r) 0 p q s 0 → ((i : ℕ) → r ≡ Ok (Some i) → 0 < i) →
       IsResistant row k l entry exit
-  resists Resistant a t s = a
-  resists (Failing i) a t s =
+  resists (Ok None) a t s = a
+  resists (Ok (Some i)) a t s =
       let some : 0 < i = s i refl in
       let none : 0 ≡ i = t.result in
       absurd (omega arith)
-  resists (Refused r) a t s = absurd (none-refused r t.refusal.number a.may)
+  resists (Err r) a t s = absurd (none-refused r t.refusal.number a.may)
 
   fails : (v : ℕ) (r : Ruling) → Answered row k l entry exit r → Told (ruled r) 0 p q s (suc v) → IsFailing row k l entry exit (suc v)
-  fails v Resistant a t =
+  fails v (Ok None) a t =
       let none : suc v ≡ 0 = t.result in
       absurd (omega arith)
-  fails v (Failing i) a t =
+  fails v (Ok (Some i)) a t =
       let count : suc v ≡ i = t.result in
       rw count a
-  fails v (Refused r) a t = absurd (none-refused r t.refusal.number a.may)
+  fails v (Err r) a t = absurd (none-refused r t.refusal.number a.may)
 
 pub pairs_say : PairsSay
 pairs_say =

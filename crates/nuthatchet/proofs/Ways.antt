@@ -6,15 +6,15 @@ use lib.IntN.{ℤ, pos}
 use mir.Syntax.{w32}
 use mir.Val.{SFits, to_z, of_z}
 use mir.Facts.{to_z-of_z}
-use Rattle.scope.specs.declared.Answer.{Answer}
+use Rattle.scope.specs.Outcome.{Answer}
 use Rattle.scope.specs.declared.Refusal.{Refusal}
 use Rattle.scope.specs.Outcome.{Outcome, outcome_of, gives, refused, number, place, path_place, path_step, result}
 use Rattle.scope.specs.Questions.{after}
 use Rattle.plan.specs.Answers.{Answers}
 use Rattle.listing.specs.Prints.{Says}
 use Rattle.all_verdicts.specs.Answers.{AnswersAll}
-use Rattle.spare.specs.declared.Spare.{Spare}
-use Rattle.spare.specs.declared.Spare.TheVariants.{Slots, Refused}
+use Rattle.spare.specs.Slack.{Spare}
+use Rattle.std.specs.Prelude.{Ok, Err}
 use Rattle.spare.specs.Slack.{Slacks, said, value}
 use Rattle.nuthatchet.specs.Told.{Refuses, Told, Tells, TellsText, TellsAll, TellsSlack}
 
@@ -43,9 +43,9 @@ allows i r = record { number = r.number; place = r.place; at = r.at; step = r.st
 
 -- a slack, and a refusal in its place
 module _ (row : List ℕ) (m i : ℕ) (a : Spare) (h : Slacks row m i a) {n p q s : ℕ} where
-  pub slots : (z : ℤ) → a ≡ Slots z → SFits w32 z → Refuses (gives 0) n p q s → TellsSlack row m i n p q s (to_z w32 (of_z w32 z))
+  pub slots : (z : ℤ) → a ≡ Ok z → SFits w32 z → Refuses (gives 0) n p q s → TellsSlack row m i n p q s (to_z w32 (of_z w32 z))
   slots z e fits r =
       record { refusal = refuses_as (sym (ap said e) ∙ h.answer) r; slack = to_z-of_z fits ∙ sym (ap value e) ∙ h.value }
 
-  pub no_slots : (r : Refusal) → a ≡ Refused r → Refuses (refused r) n p q s → TellsSlack row m i n p q s (pos 0)
+  pub no_slots : (r : Refusal) → a ≡ Err r → Refuses (refused r) n p q s → TellsSlack row m i n p q s (pos 0)
   no_slots r e t = record { refusal = refuses_as (sym (ap said e) ∙ h.answer) t; slack = sym (ap value e) ∙ h.value }

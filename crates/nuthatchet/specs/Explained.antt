@@ -2,21 +2,21 @@
 use Rattle.std.specs.Prelude.{ℕ, suc, ◌+◌, ◌≤◌, ◌≡◌, List}
 use Rattle.scope.specs.Limits.{most_cuts}
 use Rattle.scope.specs.Outcome.{Outcome, gives, refused}
-use Rattle.explanations.specs.declared.Explanation.{Explanation}
-use Rattle.explanations.specs.declared.Explanation.TheVariants.{Unexplained, Listed, Refused}
+use Rattle.explanations.specs.Explained.{Explanation}
+use Rattle.std.specs.Prelude.{Some, None, Ok, Err}
 use Rattle.explanations.specs.Explained.{Answered, IsUnexplained, IsListed}
 use Rattle.nuthatchet.specs.Told.{Told}
 
 -- the number and values of each case: one more than the pairs of the first list that explains the capture, 0 where none does. So the empty list,
 -- which is an answer, is told as 1
 abbrev pub explained : Explanation → Outcome
-explained Unexplained = gives 0
-explained (Listed n) = gives (n + 1)
-explained (Refused r) = refused r
+explained (Ok None) = gives 0
+explained (Ok (Some n)) = gives (n + 1)
+explained (Err r) = refused r
 
 -- no list has more pairs than can be asked for
 abbrev pub Few : Explanation → Type 0
-Few explanation = (n : ℕ) → explanation ≡ Listed n → n ≤ most_cuts
+Few explanation = (n : ℕ) → explanation ≡ Ok (Some n) → n ≤ most_cuts
 
 -- the numbers tell an explanation that is the answer
 pub record TellsExplanation (row : List ℕ) (k : ℕ) (capture entry exit : List ℕ) (n p q s v : ℕ) : Type 0 where

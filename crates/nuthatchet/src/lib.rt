@@ -5,8 +5,8 @@
 
 #![tactic(auto)]
 
-ghost use Rattle.std.specs.Prelude.{◌+◌, ◌≤◌, ◌≡◌};
-ghost use Rattle.scope.specs.Limits.{longest_row, most_cuts};
+ghost use Rattle.std.specs.Prelude.{◌+◌, ◌≡◌};
+ghost use Rattle.scope.specs.Limits.{longest_row};
 ghost use Rattle.scope.specs.Lines.{replay_text, refused_line};
 ghost use Rattle.scope.specs.Outcome.{outcome_of, gives, refused, refusal_on};
 ghost use Rattle.scope.specs.Questions.{judge, read_file, figure_of};
@@ -18,10 +18,7 @@ ghost use Rattle.nuthatchet.specs.Part.{TellsPart};
 ghost use Rattle.nuthatchet.specs.Ruled.{ruled, TellsRuling};
 ghost use Rattle.nuthatchet.specs.Explained.{explained, Few, TellsExplanation};
 
-use explanations::Explanation;
-use scope::{Answer, Refusal, refusal_on};
-use spare::Spare;
-use verdicts::Ruling;
+use scope::{Refusal, refusal_on};
 
 // A refusal: its number is returned, and the three others are written.
 fn refuse(refusal: Refusal, place: &mut usize, at: &mut usize, step: &mut usize) -> usize
@@ -45,7 +42,7 @@ fn allow(place: &mut usize, at: &mut usize, step: &mut usize) -> usize
 
 // An answer as five numbers.
 fn tell(
-    answer: Answer,
+    answer: Result<usize, Refusal>,
     place: &mut usize,
     at: &mut usize,
     step: &mut usize,
@@ -54,75 +51,37 @@ fn tell(
     ensures { Told (outcome_of answer) result place.new at.new step.new res.new }
 {
     match answer {
-        Answer::Gives(n) => {
+        Ok(n) => {
             *res = n;
             allow(place, at, step)
         }
-        Answer::Refused(r) => {
+        Err(r) => {
             *res = 0;
             refuse(r, place, at, step)
         }
     }
 }
 
-// A ruling as five numbers.
-fn tell_ruling(
-    ruling: Ruling,
-    place: &mut usize,
-    at: &mut usize,
-    step: &mut usize,
-    res: &mut usize,
-) -> usize
-    ensures { Told (ruled ruling) result place.new at.new step.new res.new }
+// How many pairs the first failing list has, 0 where the plan is resistant.
+fn pairs_of(ruling: Result<Option<usize>, Refusal>) -> Result<usize, Refusal>
+    ensures { outcome_of result ≡ ruled ruling }
 {
-    match ruling {
-        Ruling::Resistant => {
-            *res = 0;
-            allow(place, at, step)
-        }
-        Ruling::Failing(n) => {
-            *res = n;
-            allow(place, at, step)
-        }
-        Ruling::Refused(r) => {
-            *res = 0;
-            refuse(r, place, at, step)
-        }
+    let found = ruling?;
+    match found {
+        None => Ok(0),
+        Some(pairs) => Ok(pairs),
     }
 }
 
-// How many pairs a list has, and one more: so 0 is left to say that there is none.
-fn one_more(pairs: usize) -> usize
-    requires { pairs ≤ most_cuts }
-    ensures { result ≡ pairs + 1 }
-{
-    pairs + 1
-}
-
-// An explanation as five numbers.
-fn tell_explanation(
-    explanation: Explanation,
-    place: &mut usize,
-    at: &mut usize,
-    step: &mut usize,
-    res: &mut usize,
-) -> usize
+// How many pairs the list has that explains a capture, and one more: so 0 is left to say that there is none.
+fn one_more(explanation: Result<Option<usize>, Refusal>) -> Result<usize, Refusal>
     requires { Few explanation }
-    ensures { Told (explained explanation) result place.new at.new step.new res.new }
+    ensures { outcome_of result ≡ explained explanation }
 {
-    match explanation {
-        Explanation::Unexplained => {
-            *res = 0;
-            allow(place, at, step)
-        }
-        Explanation::Listed(n) => {
-            *res = one_more(n);
-            allow(place, at, step)
-        }
-        Explanation::Refused(r) => {
-            *res = 0;
-            refuse(r, place, at, step)
-        }
+    let found = explanation?;
+    match found {
+        None => Ok(0),
+        Some(pairs) => Ok(pairs + 1),
     }
 }
 
@@ -220,7 +179,7 @@ pub fn nuthatchet_verdict(
         place.new at.new step.new pairs.new }
 {
     let ruling = verdicts::verdict(row, k, l, list);
-    tell_ruling(ruling, place, at, step, pairs)
+    tell(pairs_of(ruling), place, at, step, pairs)
 }
 
 // Which cuts explain a capture: 0 if no list of at most k pairs does, or one more than the pairs of the first list that does, with that
@@ -239,7 +198,7 @@ pub fn nuthatchet_explain(
         place.new at.new step.new res.new }
 {
     let explanation = explanations::explain(row, k, capture, list);
-    tell_explanation(explanation, place, at, step, res)
+    tell(one_more(explanation), place, at, step, res)
 }
 
 // All answers of a row for k, seven numbers for each l from 0 to M: how many numbers, or refusal 1 to 10, 14 to 19, 11, 13.
@@ -304,13 +263,12 @@ pub fn nuthatchet_slack(
 ) -> usize
     ensures { TellsSlack row.now m p result place.new at.new step.new slots.new }
 {
-    let spare = spare::slack(row, m, p);
-    match spare {
-        Spare::Slots(z) => {
+    match spare::slack(row, m, p) {
+        Ok(z) => {
             *slots = z;
             allow(place, at, step)
         }
-        Spare::Refused(r) => {
+        Err(r) => {
             *slots = 0;
             refuse(r, place, at, step)
         }

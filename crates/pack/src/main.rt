@@ -8,11 +8,10 @@ ghost use Rattle.scope.specs.Limits.{longest_file};
 ghost use Rattle.row_text.specs.Rows.{pack_room, Packs};
 ghost use Rattle.program_io.specs.Came.{Came, standard_input};
 
-use program_io::Read;
-use scope::{Answer, Refusal, limits};
+use scope::{Refusal, limits};
 
 // The plan file of what was read, the first n bytes of a buffer: that of the whole text, however long it is.
-fn packed(text: &[u8], n: usize, plan: &mut [u8]) -> Answer
+fn packed(text: &[u8], n: usize, plan: &mut [u8]) -> Result<usize, Refusal>
     requires { Came standard_input n text.now × (length text.now ≡ pack_room) × (length plan.old ≡ longest_file) }
     ensures { Packs text.now n plan.old plan.new result }
 {
@@ -29,12 +28,10 @@ fn refuse(rt: &HostRuntime, refusal: Refusal) {
 fn main(rt: HostRuntime) {
     let mut text = [0u8; row_text::TEXT_ROOM];
     let mut plan = [0u8; limits::FILE];
-    let read = program_io::read_input(&rt, b"pack", &mut text);
-    if let Read::Bytes(n) = read {
-        let answer = packed(&text, n, &mut plan);
-        match answer {
-            Answer::Gives(bytes) => program_io::save(&rt, b"pack", &plan[..bytes]),
-            Answer::Refused(refusal) => refuse(&rt, refusal),
+    if let Some(n) = program_io::read_input(&rt, b"pack", &mut text) {
+        match packed(&text, n, &mut plan) {
+            Ok(bytes) => program_io::save(&rt, b"pack", &plan[..bytes]),
+            Err(refusal) => refuse(&rt, refusal),
         }
     }
 }

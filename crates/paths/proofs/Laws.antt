@@ -62,13 +62,8 @@ unfolding after_places after_messages
 links-inside row lies = omega (arith, ((lies.message 0 (omega arith)).place 0 (omega arith)).lies)
 
 -- the last link, and the first
-pub end_none : (plan : Plan) (path : List ℕ) → length path ≡ 0 → (link_of plan 0).to ≡ end_of plan path
-end_none plan [] h = refl
-end_none plan (e ∷ es) h = absurd (omega arith)
-
-pub end-last : (plan : Plan) (path : List ℕ) (n : ℕ) → n ≡ length path → (n ≡ 0 → ⊥) → (link_of plan (get_or path (n - 1) 0)).to ≡ end_of plan
-    path
-end-last plan path n fn h = ap (λ e. (link_of plan e).to) (ap (λ k. get_or path (k - 1) 0) fn ∙ go path)
+pub end_is : (plan : Plan) (path : List ℕ) → (link_of plan (get_or path (length path - 1) 0)).to ≡ end_of plan path
+end_is plan path = ap (λ e. (link_of plan e).to) (go path)
   where
     last : (x y : ℕ) (es : List ℕ) → get_or (x ∷ es) (length es) 0 ≡ last_of y (x ∷ es)
     last x y [] = refl

@@ -8,6 +8,8 @@ use native.Mathlib.Omega.{arith}
 use borrow.Author.Tests.{lt-ltb, le-ltb}
 use lib.ListN.{length, get_or}
 use lib.Dec.{ltb, eqb}
+use Rattle.std.specs.declared.option.Option.{Option}
+use Rattle.std.specs.declared.option.Option.TheVariants.{None}
 use Rattle.scope.specs.Lowest.{seek, lowest, some}
 use Rattle.scope.specs.Plan.{Plan, link_of}
 use Rattle.scope.specs.Good.{visited, has, last_of}
@@ -17,7 +19,7 @@ use Rattle.sets.specs.Sets.{has as In, IsWith}
 use Rattle.sets.proofs.Sets.{has-none}
 use Rattle.paths.specs.declared.Ends.{Ends}
 use Rattle.paths.specs.declared.Fault.{Fault}
-use Rattle.paths.specs.Path.{EndsOf, Earliest, path_rule, link_rule}
+use Rattle.paths.specs.Path.{EndsOf, Earliest, order, step_of, path_rule, link_rule}
 use Rattle.paths.proofs.Earliest.{earliest-none, earliest-next, earliest-found}
 
 -- a set has the vertices that are met
@@ -51,11 +53,11 @@ visited-more plan es k h = ap (before plan es) (add-one k) ∙ go es k h
 
 -- a loop over a path that began at vertex v, at step k and vertex u: all links before it are below E, the vertices met are marked, and of what
 -- was broken the earliest rule is found
-pub record Walking (plan : Plan) (path : List ℕ) (v u k marks : ℕ) (found : Fault) : Type 0 where
+pub record Walking (plan : Plan) (path : List ℕ) (v u k marks : ℕ) (found : Option Fault) : Type 0 where
   pub stands : u ≡ last_of v (before plan path k)
   pub marked : Marks (λ x. has x (v ∷ before plan path k)) marks
   pub below : some (no_link plan path) k ≡ false
-  pub kept : Earliest (path_rule plan v path) 3 k found.rule found.step
+  pub kept : Earliest (path_rule plan v path) 5 k (order found) (step_of found)
   pub most : k ≤ length path
 
 -- link e is that of step k, and the plan has it
@@ -65,27 +67,27 @@ pub record OnLink (plan : Plan) (path : List ℕ) (k e : ℕ) : Type 0 where
   pub there : e < length plan.links
 
 module _ (plan : Plan) (path : List ℕ) (v : ℕ) where
-  pub walking_first : (marks : ℕ) → IsWith 0 v marks → (found : Fault) → found.rule ≡ 3 → Walking plan path v v 0 marks found
+  pub walking_first : (marks : ℕ) → IsWith 0 v marks → Walking plan path v v 0 marks None
   unfolding has visited
-  walking_first marks one found none_yet =
+  walking_first marks one =
       record {
         stands = refl;
         marked = λ w. one w ∙ ap (λ t. eqb w v || t) (has-none w);
         below = none (no_link plan path) 0 (λ i l. absurd (omega arith));
-        kept = rw none_yet (earliest-none (path_rule plan v path) 3 found.step);
+        kept = earliest-none (path_rule plan v path) 5 0;
         most = omega arith;
       }
 
-  module _ (u k marks : ℕ) (found : Fault) (w : Walking plan path v u k marks found) where
-    pub walking_done : length path ≤ k → Earliest (path_rule plan v path) 3 (length path) found.rule found.step
+  module _ (u k marks : ℕ) (found : Option Fault) (w : Walking plan path v u k marks found) where
+    pub walking_done : length path ≤ k → Earliest (path_rule plan v path) 5 (length path) (order found) (step_of found)
     walking_done h = let e : k ≡ length path = omega (arith, w.most) in rw (← e) w.kept
 
     -- the link is none: no rule comes before that
     pub walking_no_link : (e : ℕ) → k < length path → e ≡ get_or path k 0 → length plan.links ≤ e →
-        Earliest (path_rule plan v path) 3 (length path) 0 k
+        Earliest (path_rule plan v path) 5 (length path) 0 k
     walking_no_link e here is b =
         let t : ltb (get_or path k 0) (length plan.links) ≡ false = le-ltb (get_or path k 0) (length plan.links) (omega (arith, is)) in
-        earliest-found (path_rule plan v path) 3 (length path) k (omega arith) here (rw t) w.below
+        earliest-found (path_rule plan v path) 5 (length path) k (omega arith) here (rw t) w.below
 
     module _ (e : ℕ) (on : OnLink plan path k e) (r : Ends) (ends : EndsOf plan e r) where
       is-link : no_link plan path k ≡ false
@@ -102,7 +104,7 @@ module _ (plan : Plan) (path : List ℕ) (v : ℕ) where
 
       -- the rule that it breaks
       pub link-breaks : (rule : ℕ) (met : Bool) → met ≡ In marks r.to → rule ≡ link_rule (not (eqb r.from u)) met →
-          rule ≡ lowest (λ x. path_rule plan v path x k) 3
+          rule ≡ lowest (λ x. path_rule plan v path x k) 5
       unfolding seek
       link-breaks rule met fm fr =
           let parted : not (eqb r.from u) ≡ apart plan v path k =
@@ -111,8 +113,8 @@ module _ (plan : Plan) (path : List ℕ) (v : ℕ) where
           fr ∙ rw (parted, twice, is-link)
 
       -- and then the next
-      pub walking_next : (here next : Fault) → here.step ≡ k → here.rule ≡ lowest (λ x. path_rule plan v path x k) 3 →
-          next ≡ cond (ltb here.rule found.rule) here found → (more : ℕ) → IsWith marks r.to more →
+      pub walking_next : (here next : Option Fault) → (order here < 5 → step_of here ≡ k) → order here ≡ lowest (λ x. path_rule plan v path x k) 5 →
+          next ≡ cond (ltb (order here) (order found)) here found → (more : ℕ) → IsWith marks r.to more →
           Walking plan path v r.to (k + 1) more next
       unfolding has
       walking_next here next at rule kept-or-here marked with_it =
@@ -122,6 +124,6 @@ module _ (plan : Plan) (path : List ℕ) (v : ℕ) where
             marked = λ x. with_it x ∙ ap (λ t. eqb x r.to || t) (w.marked x) ∙ ap (λ y. eqb x y || has x (v ∷ before plan path k)) to_is ∙
                 has_more x (v ∷ before plan path k) (link_in plan path k).to ∙ ap (λ vs. has x (v ∷ vs)) (sym more);
             below = some_more (no_link plan path) k ∙ rw (w.below, is-link);
-            kept = earliest-next (path_rule plan v path) 3 k (λ f. f.step) found here next w.kept at rule kept-or-here;
+            kept = earliest-next (path_rule plan v path) 5 k step_of found here next w.kept at rule kept-or-here;
             most = omega (arith, on.here);
           }

@@ -4,12 +4,12 @@
 
 #![tactic(auto)]
 
-ghost use Rattle.std.specs.Prelude.{◌≡◌, cond, not, ◌<◌, ◌≤◌, ◌^◌, length, ltb, eqb};
+ghost use Rattle.std.specs.Prelude.{◌≡◌, cond, not, ◌<◌, ◌≤◌, ◌^◌, length, ltb};
 ghost use Rattle.scope.specs.Limits.{most_vertices};
-ghost use Rattle.scope.specs.Plan.{plan_of, link_of, link_count, place_count};
+ghost use Rattle.scope.specs.Plan.{plan_of, link_count, place_count};
 ghost use Rattle.scope.specs.Good.{end_of};
 ghost use Rattle.rows.specs.Lies.{PlanLies};
-ghost use Rattle.paths.specs.Path.{EndsOf, FirstLinks, Earliest, path_rule, link_rule};
+ghost use Rattle.paths.specs.Path.{EndsAt, EndsOf, FirstLinks, Earliest, order, step_of, path_rule, link_rule};
 
 // Both ends of a link.
 #[derive(Clone, Copy)]
@@ -19,9 +19,9 @@ pub struct Ends {
 }
 
 // The vertices where a link begins and ends, 0 where there is no such link.
-fn ends_at(row: &[u16], e: usize) -> Ends
+pub fn ends_at(row: &[u16], e: usize) -> Ends
     requires { e < 65536 }
-    ensures { (result.from ≡ (link_of (plan_of row.now) e).from) × (result.to ≡ (link_of (plan_of row.now) e).to) }
+    ensures { EndsAt (plan_of row.now) e result }
 {
     if e < rows::links(row) {
         let from = rows::number(row, e * 2 + 5);
@@ -29,22 +29,6 @@ fn ends_at(row: &[u16], e: usize) -> Ends
         return Ends { from, to };
     }
     Ends { from: 0, to: 0 }
-}
-
-pub fn link_from(row: &[u16], e: usize) -> usize
-    requires { e < 65536 }
-    ensures { result ≡ (link_of (plan_of row.now) e).from }
-{
-    let ends = ends_at(row, e);
-    ends.from
-}
-
-pub fn link_to(row: &[u16], e: usize) -> usize
-    requires { e < 65536 }
-    ensures { result ≡ (link_of (plan_of row.now) e).to }
-{
-    let ends = ends_at(row, e);
-    ends.to
 }
 
 // The same of a link that is there.
@@ -58,17 +42,28 @@ pub fn ends_of(row: &[u16], e: usize) -> Ends
     Ends { from, to }
 }
 
-// A fault of a path: the rule that is broken, by its number in the order in which rules are asked, and where: message, place and step.
+// The rules of paths in the order in which they are asked: a link that is not below E, one that does not join, a wrong end, a link that
+// leads to a vertex met already, a start with the link that is replaced. The end and the start are asked of second paths alone.
+#[derive(Clone, Copy, PartialEq, Eq, PartialOrd, Ord)]
+pub enum Rule {
+    NoLink,
+    Apart,
+    Astray,
+    Again,
+    Replaced,
+}
+
+// A fault of a path: the rule that is broken, and where: message, place and step.
 #[derive(Clone, Copy)]
 pub struct Fault {
-    pub rule: usize,
+    pub rule: Rule,
     pub message: usize,
     pub at: usize,
     pub step: usize,
 }
 
 // The fault of a path in a step; who knows its message and place says them.
-pub fn fault_in(rule: usize, step: usize) -> Fault
+pub fn fault_in(rule: Rule, step: usize) -> Fault
     ensures { result ≡ record { rule = rule; message = 0; at = 0; step = step } }
 {
     Fault {
@@ -80,60 +75,49 @@ pub fn fault_in(rule: usize, step: usize) -> Fault
 }
 
 // Of two faults that of the earlier rule; of one rule the one that was found first.
-pub fn earlier(found: Fault, here: Fault) -> Fault
-    ensures { result ≡ cond (ltb here.rule found.rule) here found }
+pub fn earlier(found: Option<Fault>, here: Option<Fault>) -> Option<Fault>
+    ensures { result ≡ cond (ltb (order here) (order found)) here found }
 {
-    if here.rule < found.rule { here } else { found }
+    match (found, here) {
+        (Some(first), Some(other)) if first.rule <= other.rule => found,
+        (_, Some(_)) => here,
+        (_, None) => found,
+    }
 }
 
-// The rules of a path by the order in which they are asked: a link that is not below E, one that does not join, one that leads to a vertex
-// met already; and none of these.
-const NO_LINK: usize = 0;
-
-const APART: usize = 1;
-
-const AGAIN: usize = 2;
-
-const KEPT: usize = 3;
-
-// The rule that a link below E breaks, where the path stands at a vertex and the link leads to one that is met already or not.
-fn link_rule(from: usize, at: usize, met: bool) -> usize
-    ensures { result ≡ link_rule (not (eqb from at)) met }
+// The fault of a link below E in a step, where it joins or not and leads to a vertex that is met already or not.
+fn link_fault(joins: bool, met: bool, step: usize) -> Option<Fault>
+    ensures { (order result ≡ link_rule (not joins) met) × (order result < 5 → step_of result ≡ step) }
 {
-    if from != at {
-        return APART;
+    if !joins {
+        return Some(fault_in(Rule::Apart, step));
     }
     if met {
-        return AGAIN;
+        return Some(fault_in(Rule::Again, step));
     }
-    KEPT
+    None
 }
 
 // The fault of links that begin at vertex v: of the earliest rule that one of them breaks, the first step. The path is walked once, with
 // a mark for each vertex that is met, all in one set.
-pub fn path_fault(row: &[u16], v: usize, path: &[u16]) -> Fault
+pub fn path_fault(row: &[u16], v: usize, path: &[u16]) -> Option<Fault>
     requires { PlanLies row.now × (v < most_vertices) }
-    ensures { Earliest (path_rule (plan_of row.now) v path.now) 3 (length path.now) result.rule
-        result.step }
+    ensures { Earliest (path_rule (plan_of row.now) v path.now) 5 (length path.now) (order result) (step_of result) }
 {
     let links = rows::links(row);
     let mut met = sets::with(0, v);
     let mut at = v;
-    let mut found = fault_in(KEPT, 0);
-    let mut k = 0;
-    while k < path.len() {
-        let next = k + 1;
-        let e = rows::number(path, k);
+    let mut found = None;
+    for (k, &number) in path.iter().enumerate() {
+        let e = usize::from(number);
         if links <= e {
-            return fault_in(NO_LINK, k);
+            return Some(fault_in(Rule::NoLink, k));
         }
         let ends = ends_of(row, e);
-        let to = ends.to;
-        let rule = link_rule(ends.from, at, sets::holds(met, to));
-        found = earlier(found, fault_in(rule, k));
-        met = sets::with(met, to);
-        at = to;
-        k = next;
+        let here = link_fault(ends.from == at, sets::holds(met, ends.to), k);
+        found = earlier(found, here);
+        met = sets::with(met, ends.to);
+        at = ends.to;
     }
     found
 }
@@ -142,11 +126,9 @@ pub fn path_fault(row: &[u16], v: usize, path: &[u16]) -> Fault
 pub fn path_end(row: &[u16], path: &[u16]) -> usize
     ensures { result ≡ end_of (plan_of row.now) path.now }
 {
-    let n = path.len();
-    if n == 0 {
-        return link_to(row, 0);
-    }
-    link_to(row, rows::number(path, n - 1))
+    let last = path.len().saturating_sub(1);
+    let ends = ends_at(row, rows::number(path, last));
+    ends.to
 }
 
 // Copies the links of the message at an index into the front of a list, and counts them.
@@ -156,12 +138,10 @@ pub fn first_links(row: &[u16], i: usize, path: &mut [u16]) -> usize
 {
     let n = rows::place_count(row, i);
     let mut at = i + 1;
-    let mut k = 0;
-    while k < n {
+    for k in 0..n {
         let here = rows::place_at(row, at);
         path[k] = here.link as u16;
         at = here.next;
-        k += 1;
     }
     n
 }

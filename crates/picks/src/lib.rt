@@ -22,7 +22,8 @@ pub struct Sizes {
 }
 
 // The pairs picked so far: how many, the place from which the next one is to be picked, their numbers, what is down from the last one's slot
-// on, and which links no later pair may name: those that are named already, and those that are the higher ones of their cables.
+// on, and which links no later pair may name: those that are named already, and those that are the higher ones of their cables. The numbers
+// stand at the front of an array of fixed size.
 #[derive(Clone, Copy)]
 pub struct Picked {
     pub count: usize,

@@ -9,8 +9,8 @@ use lib.ListN.{length, take, drop, length-append}
 use lib.Seq.{take_at, length-take-le}
 use lib.Dec.{leb}
 use borrow.Author.Tests.{leb-true}
-use Rattle.scope.specs.declared.Answer.{Answer}
-use Rattle.scope.specs.declared.Answer.TheVariants.{Gives, Refused}
+use Rattle.scope.specs.Outcome.{Answer}
+use Rattle.std.specs.Prelude.{Ok, Err}
 use Rattle.scope.specs.declared.Refusal.{Refusal}
 use Rattle.scope.proofs.Outcomes.{not-both}
 use Rattle.scope.specs.Outcome.{Outcome, gives, refused, refuse, and_then, room}
@@ -51,13 +51,13 @@ read-good file row lent n e is = subst GoodRow (sym is) (good-row (row_of file) 
 
 -- a file that was read
 module _ (file entry exit : List ℕ) (a : Answer) (h : Reads file entry exit a) where
-  pub read_given : (lent n : ℕ) → length entry ≡ lent → a ≡ Gives n → read_file file lent ≡ gives n
+  pub read_given : (lent n : ℕ) → length entry ≡ lent → a ≡ Ok n → read_file file lent ≡ gives n
   read_given lent n l e = ap (read_file file) (sym l) ∙ gave n e h.answer
 
-  pub read-refused : (lent : ℕ) (r : Refusal) → length entry ≡ lent → a ≡ Refused r → read_file file lent ≡ refused r
+  pub read-refused : (lent : ℕ) (r : Refusal) → length entry ≡ lent → a ≡ Err r → read_file file lent ≡ refused r
   read-refused lent r l e = ap (read_file file) (sym l) ∙ refused_as r e h.answer
 
-  module _ (n : ℕ) (e : a ≡ Gives n) where
+  module _ (n : ℕ) (e : a ≡ Ok n) where
     written : exit ≡ row_of file ++ drop (length (row_of file)) entry
     unfolding after
     written = h.buffer ∙ ap (λ (o : Outcome). after o (row_of file) entry) (gave n e h.answer)
@@ -81,7 +81,7 @@ write_room row lent n e =
     let w = then-back (judge row) (λ _. room (length (file_of row)) lent) n e in
     (room_back (length (file_of row)) lent n w.2).0
 
-pub write_fit : (row entry exit : List ℕ) (a : Answer) → Writes row entry exit a → (n : ℕ) → a ≡ Gives n → n ≤ length exit
+pub write_fit : (row entry exit : List ℕ) (a : Answer) → Writes row entry exit a → (n : ℕ) → a ≡ Ok n → n ≤ length exit
 unfolding after
 write_fit row entry exit a h n e =
     let o : write_file row (length entry) ≡ gives n = gave n e h.answer in

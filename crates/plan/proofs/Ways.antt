@@ -5,10 +5,10 @@ use mathlib.Core.List.{List, [], ◌++◌}
 use native.Mathlib.Omega.{arith}
 use lib.ListN.{length, drop}
 use borrow.Author.Tests.{ne_eqb}
-use Rattle.scope.specs.declared.Answer.{Answer}
-use Rattle.scope.specs.declared.Answer.TheVariants.{Gives, Refused}
+use Rattle.scope.specs.Outcome.{Answer}
+use Rattle.std.specs.Prelude.{Ok, Err}
 use Rattle.scope.specs.declared.Refusal.{Refusal}
-use Rattle.scope.specs.Outcome.{Outcome, outcome_of, gives, refused, refuse, and_then, room}
+use Rattle.scope.specs.Outcome.{Outcome, outcome_of, number, gives, refused, refuse, and_then, room}
 use Rattle.scope.specs.File.{walk_file, row_of, file_of}
 use Rattle.scope.specs.Row.{walk_row}
 use Rattle.scope.specs.Plan.{plan_of}
@@ -23,10 +23,10 @@ use Rattle.plan.proofs.Numbers.{judge-numbered}
 use Rattle.plan.proofs.Outcomes.{then-refused, then-gives, then-back, room-there, room-short, refuses, after-gives}
 
 -- the outcome of an answer that is known
-pub gave : {a : Answer} {o : Outcome} (n : ℕ) → a ≡ Gives n → outcome_of a ≡ o → o ≡ gives n
+pub gave : {a : Answer} {o : Outcome} (n : ℕ) → a ≡ Ok n → outcome_of a ≡ o → o ≡ gives n
 gave n e h = sym h ∙ ap outcome_of e
 
-pub refused_as : {a : Answer} {o : Outcome} (r : Refusal) → a ≡ Refused r → outcome_of a ≡ o → o ≡ refused r
+pub refused_as : {a : Answer} {o : Outcome} (r : Refusal) → a ≡ Err r → outcome_of a ≡ o → o ≡ refused r
 refused_as r e h = sym h ∙ ap outcome_of e
 
 -- a row whose walk gives something has the right form
@@ -54,10 +54,17 @@ good-row row n e =
     let r = then-back (rules (plan_of row)) (λ _. gives w.0) n w.2 in
     record { form = form_of row w.0 w.1; keeps = rules_give (plan_of row) r.0 r.1 }
 
+pub known_good : (row : List ℕ) → number (judge row) ≡ 0 → GoodRow row
+known_good row e = by (judge row) refl
+  where
+    by : (o : Outcome) → judge row ≡ o → GoodRow row
+    by (gives n) g = good-row row n g
+    by (refused r) g = absurd (judge-numbered row r g (sym (ap number g) ∙ e))
+
 -- accepting a row of the right form
 pub accepted : (row entry exit : List ℕ) (z : ℕ) → rules (plan_of row) ≡ gives z → length row ≤ length entry →
     exit ≡ row ++ drop (length row) entry →
-    Accepts row entry exit (Gives (length row))
+    Accepts row entry exit (Ok (length row))
 accepted row entry exit z h fits written =
     let o : and_then (rules (plan_of row)) (λ _. room (length row) (length entry)) ≡ gives (length row) =
     then-gives (rules (plan_of row)) (λ _. room (length row) (length entry)) z h ∙ room-there (length row) (length entry) fits in
@@ -70,11 +77,11 @@ no_room row entry z a h short is =
     then-gives (rules (plan_of row)) (λ _. room (length row) (length entry)) z h ∙ room-short (length row) (length entry) short in
     refuses _ row entry _ a o is
 
-pub broken : (row entry : List ℕ) (r : Refusal) → rules (plan_of row) ≡ refused r → Accepts row entry entry (Refused r)
+pub broken : (row entry : List ℕ) (r : Refusal) → rules (plan_of row) ≡ refused r → Accepts row entry entry (Err r)
 broken row entry r h =
     let o : and_then (rules (plan_of row)) (λ _. room (length row) (length entry)) ≡ refused r =
     then-refused (rules (plan_of row)) (λ _. room (length row) (length entry)) r h in
-    refuses _ row entry r (Refused r) o refl
+    refuses _ row entry r (Err r) o refl
 
 -- reading a file
 pub read_on : (file all entry exit : List ℕ) (a : Answer) (end : ℕ) → walk_file file ≡ gives end → all ≡ row_of file → Accepts all entry exit a →
@@ -83,18 +90,18 @@ unfolding read_file
 read_on file all entry exit a end e row h = rw (e, ← row) h
 
 pub read-form : (file entry : List ℕ) (r : Refusal) → walk_file file ≡ refused r →
-    Answers (read_file file (length entry)) (row_of file) entry entry (Refused r)
+    Answers (read_file file (length entry)) (row_of file) entry entry (Err r)
 unfolding read_file
 read-form file entry r e =
     let o : read_file file (length entry) ≡ refused r = rw e in
-    refuses _ (row_of file) entry r (Refused r) o refl
+    refuses _ (row_of file) entry r (Err r) o refl
 
 pub all-form : (file all : List ℕ) (end : ℕ) → walk_file file ≡ gives end → all ≡ row_of file → walk_row all ≡ gives (length all)
 all-form file all end e row = rw row (file-row file end e)
 
 -- writing a row
 pub written : (row entry exit : List ℕ) (n c : ℕ) → judge row ≡ gives n → c ≡ length (file_of row) → c ≤ length entry →
-    exit ≡ file_of row ++ drop c entry → Answers (write_file row (length entry)) (file_of row) entry exit (Gives c)
+    exit ≡ file_of row ++ drop c entry → Answers (write_file row (length entry)) (file_of row) entry exit (Ok c)
 unfolding write_file
 written row entry exit n c e is fits wrote =
     let o : write_file row (length entry) ≡ gives c = rw (e, ← is) (room-there c (length entry) fits) in
@@ -108,11 +115,11 @@ write_no_room row entry n c a e is short answer =
     refuses _ (file_of row) entry _ a o answer
 
 pub write_bad : (row entry : List ℕ) (r : Refusal) → judge row ≡ refused r →
-    Answers (write_file row (length entry)) (file_of row) entry entry (Refused r)
+    Answers (write_file row (length entry)) (file_of row) entry entry (Err r)
 unfolding write_file
 write_bad row entry r e =
     let o : write_file row (length entry) ≡ refused r = rw e in
-    refuses _ (file_of row) entry r (Refused r) o refl
+    refuses _ (file_of row) entry r (Err r) o refl
 
 -- showing a second path
 pub shown-part : (row : List ℕ) (m p n : ℕ) → judge row ≡ gives n → second_part row m p ≡ second_path row m p

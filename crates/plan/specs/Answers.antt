@@ -1,6 +1,6 @@
 -- What reading and writing promise: the answer, and what the lent buffer holds after the call. Both follow from the input alone.
 use Rattle.std.specs.Prelude.{ℕ, ◌≡◌, cond, List, length, eqb}
-use Rattle.scope.specs.declared.Answer.{Answer}
+use Rattle.scope.specs.Outcome.{Answer}
 use Rattle.scope.specs.Outcome.{Outcome, outcome_of, number, gives, and_then, room}
 use Rattle.scope.specs.File.{row_of, file_of}
 use Rattle.scope.specs.Row.{walk_row}

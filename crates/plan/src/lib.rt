@@ -4,83 +4,89 @@
 
 #![tactic(auto)]
 
-ghost use Rattle.std.specs.Prelude.{◌≡◌, length};
-ghost use Rattle.scope.specs.Outcome.{outcome_of};
-ghost use Rattle.scope.specs.Questions.{judge, second_path};
+ghost use Rattle.std.specs.Prelude.{◌≡◌, length, MatchResult};
+ghost use Rattle.scope.specs.Outcome.{outcome_of, number, refused};
+ghost use Rattle.scope.specs.Questions.{judge, read_file, second_path};
 ghost use Rattle.scope.specs.Outcome.{gives};
+ghost use Rattle.scope.specs.File.{row_of};
 ghost use Rattle.scope.specs.Row.{walk_row};
 ghost use Rattle.rows.specs.View.{PartAt};
 ghost use Rattle.plan.specs.Answers.{Accepts, Reads, Writes, shown_index};
 
-use scope::{Answer, limits, refuse};
+use scope::{Refusal, limits, refuse};
+
+// A row that nothing is refused of: what every question takes that is asked of a row judged before, so that a program judges once.
+#[derive(Clone, Copy)]
+pub struct Good<'a> {
+    pub row: &'a [u16],
+    pub ghost is_good: { number (judge row.now) ≡ 0 },
+}
+
+// A row that is good, or refusals 1 to 10 and 14 to 19.
+pub fn judged(row: &[u16]) -> Result<Good<'_>, Refusal>
+    ensures { MatchResult result (λ plan. plan.row.now ≡ row.now) (λ r. judge row.now ≡ refused r) }
+{
+    judge(row)?;
+    Ok(Good { row })
+}
 
 // Refusals 1 to 10 and 14 to 19 of a row, or how many numbers it has.
-pub fn judge(row: &[u16]) -> Answer
+pub fn judge(row: &[u16]) -> Result<usize, Refusal>
     ensures { outcome_of result ≡ judge row.now }
 {
-    let walked = row_walk::walk_row(row);
-    match walked {
-        Answer::Gives(n) => {
-            let checked = rules::check(row);
-            match checked {
-                Answer::Gives(_) => Answer::Gives(n),
-                Answer::Refused(r) => Answer::Refused(r),
-            }
-        }
-        Answer::Refused(r) => Answer::Refused(r),
-    }
+    let n = row_walk::walk_row(row)?;
+    rules::check(row)?;
+    Ok(n)
 }
 
 // The row of a file, once its form is known to be right: refusals 5 to 10, 14 to 19 and 13, or the row into the front of what is lent.
-fn accept(all: &[u16], row: &mut [u16]) -> Answer
+fn accept(all: &[u16], row: &mut [u16]) -> Result<usize, Refusal>
     requires { walk_row all.now ≡ gives (length all.now) }
     ensures { Accepts all.now row.old row.new result }
 {
-    let checked = rules::check(all);
-    match checked {
-        Answer::Gives(_) => {
-            let n = all.len();
-            if n <= row.len() {
-                rows::copy(all, row);
-                Answer::Gives(n)
-            } else {
-                refuse(13, n)
-            }
-        }
-        Answer::Refused(r) => Answer::Refused(r),
+    rules::check(all)?;
+    let n = all.len();
+    if n <= row.len() {
+        rows::copy(all, row);
+        Ok(n)
+    } else {
+        refuse(13, n)
     }
 }
 
 // A file read into a lent row: how many numbers, or refusal 1, 2, 4 to 10, 14 to 19, 13.
-pub fn read_file(file: &[u8], row: &mut [u16]) -> Answer
+pub fn read_file(file: &[u8], row: &mut [u16]) -> Result<usize, Refusal>
     ensures { Reads file.now row.old row.new result }
 {
     let mut all = [0u16; limits::ROW];
     let unpacked = forms::unpack(file, &mut all);
-    let answer = unpacked.answer;
+    unpacked.answer?;
     let n = unpacked.count;
-    match answer {
-        Answer::Gives(_) => accept(&all[..n], row),
-        Answer::Refused(r) => Answer::Refused(r),
-    }
+    accept(&all[..n], row)
+}
+
+// The good row of a file, read into a lent row; or what `read_file` refuses, which then changes nothing: no clause can say that of a row
+// which the answer lends on.
+pub fn read_good<'a>(file: &[u8], row: &'a mut [u16]) -> Result<Good<'a>, Refusal>
+    ensures { MatchResult result
+        (λ good. (good.row.now ≡ row_of file.now) × (read_file file.now (length row.old) ≡ gives (length good.row.now)))
+        (λ r. read_file file.now (length row.old) ≡ refused r) }
+{
+    let n = read_file(file, row)?;
+    Ok(Good { row: &row[..n] })
 }
 
 // A row written into lent bytes: how many, or refusal 1 to 10, 14 to 19, 13.
-pub fn write_file(row: &[u16], file: &mut [u8]) -> Answer
+pub fn write_file(row: &[u16], file: &mut [u8]) -> Result<usize, Refusal>
     ensures { Writes row.now file.old file.new result }
 {
-    let judged = judge(row);
-    match judged {
-        Answer::Gives(_) => {
-            let n = forms::packed_bytes(row);
-            if n <= file.len() {
-                forms::pack(row, &mut file[..n]);
-                Answer::Gives(n)
-            } else {
-                refuse(13, n)
-            }
-        }
-        Answer::Refused(r) => Answer::Refused(r),
+    judge(row)?;
+    let n = forms::packed_bytes(row);
+    if n <= file.len() {
+        forms::pack(row, &mut file[..n]);
+        Ok(n)
+    } else {
+        refuse(13, n)
     }
 }
 
@@ -89,10 +95,9 @@ pub fn write_file(row: &[u16], file: &mut [u8]) -> Answer
 pub fn second_path(row: &[u16], m: usize, p: usize) -> &[u16]
     ensures { PartAt (second_path row.now m p) (shown_index row.now m p) row.entry.ref_ptr result.now result.ref_ptr }
 {
-    let judged = judge(row);
-    match judged {
-        Answer::Gives(_) => rows::second_path_part(row, m, p),
-        Answer::Refused(_) => &row[..0],
+    match judge(row) {
+        Ok(_) => rows::second_path_part(row, m, p),
+        Err(_) => &row[..0],
     }
 }
 
@@ -100,12 +105,8 @@ pub fn second_path(row: &[u16], m: usize, p: usize) -> &[u16]
 pub fn second_index(row: &[u16], m: usize, p: usize) -> usize
     ensures { result ≡ shown_index row.now m p }
 {
-    let judged = judge(row);
-    match judged {
-        Answer::Gives(_) => {
-            let span = rows::second_span(row, m, p);
-            span.from
-        }
-        Answer::Refused(_) => 0,
+    match judge(row) {
+        Ok(_) => rows::second_span(row, m, p).map_or(0, |span| span.start),
+        Err(_) => 0,
     }
 }

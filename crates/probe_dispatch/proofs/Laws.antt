@@ -1,30 +1,35 @@
 -- Laws of a line and its answer: the leading word, the numbers and bytes that were read, and what is said of them.
-use Prim.Native.Nat.{ℕ, ◌+◌, ◌≤◌}
+use Prim.Native.Nat.{ℕ, ◌+◌, ◌≤◌, ◌<◌}
 use mathlib.Core.Path.{◌≡◌, refl, sym, ◌∙◌, ap, ap₂, subst}
 use mathlib.Core.Bool.{Bool, true, false, cond, ◌&&◌}
-use mathlib.Core.List.{List, [], ◌∷◌}
+use mathlib.Core.List.{List, []}
+use Rattle.std.proofs.Common.{Option, Some, None}
 use native.Mathlib.Omega.{arith}
-use lib.ListN.{length, take, drop}
-use lib.Seq.{take_at}
+use native.Mathlib.Numerals.{add-one}
+use lib.ListN.{length, get_or, take, drop, drop_of_length-le}
+use lib.Seq.{take_at, drop-cons}
 use borrow.Author.Tests.{lt-ltb}
 use Rattle.text.specs.Text.{Puts}
 use Rattle.text.specs.Reading.{size_at, stands}
 use Rattle.text.specs.declared.Number.{Number}
 use Rattle.text.proofs.Laid.{laid-front}
-use Rattle.probe_words.specs.declared.Count.{Count}
 use Rattle.probe_words.specs.Words.{is_number, number_next, number_value, numbers_from, are_all, last_word, is_bytes, bytes_in, Finds, Numbers, Bytes}
 use Rattle.probe_lines.specs.Answers.{unknown_line}
 use Rattle.probe_questions.specs.Asked.{read_answer, Lays}
 use Rattle.probe_dispatch.specs.declared.Question.{Question}
+use Rattle.probe_dispatch.specs.declared.Question.TheVariants.{Unknown}
 use Rattle.probe_dispatch.specs.Line.{word_of, first_of, question_of, numbers_in, read_asked, Says, Answers}
 
--- the word of a question stands there, or another question's does
-module _ (line : List ℕ) (q : Question) (qs : List Question) (t : Bool) (is : t ≡ stands line 0 (word_of q)) where
-  pub word_is : t ≡ true → q ≡ first_of line (q ∷ qs)
-  word_is e = sym (rw (← is, e))
+-- the first of the questions from an index on has its word there, or one of those behind it
+module _ (line : List ℕ) (qs : List Question) (i : ℕ) (q : Question) where
+  pub word_is : i < length qs → stands line 0 (word_of (get_or qs i q)) ≡ true → first_of line (drop i qs) ≡ get_or qs i q
+  word_is h e = rw (drop-cons qs i q h, e)
 
-  pub word_not : t ≡ false → first_of line qs ≡ first_of line (q ∷ qs)
-  word_not e = sym (rw (← is, e))
+  pub word_not : i < length qs → stands line 0 (word_of (get_or qs i q)) ≡ false → first_of line (drop i qs) ≡ first_of line (drop (i + 1) qs)
+  word_not h e = rw (drop-cons qs i q h, e, add-one)
+
+pub word_none : (line : List ℕ) (qs : List Question) (i : ℕ) → length qs ≤ i → Unknown ≡ first_of line (drop i qs)
+word_none line qs i h = rw (drop_of_length-le qs h)
 
 -- the front of a buffer that a text was laid to
 pub front-is : (text entry exit : List ℕ) (n : ℕ) → Puts text entry exit 0 n → n ≤ length entry → take n exit ≡ text
@@ -52,24 +57,19 @@ module _ (line : List ℕ) (from : ℕ) (entry exit : List ℕ) (r : ℕ) (n : N
   numbers-are = by_good good refl
 
 -- a file to read
+pub read-unread : (lent : ℕ) (line : List ℕ) (file : ℕ) → number_next line 4 ≡ 4 → unknown_line ≡ read_asked lent file line
+read-unread lent line file e = sym (rw (none (is_number line 4) refl))
+  where
+    none : (t : Bool) → is_number line 4 ≡ t → is_number line 4 ≡ false
+    none true t = let n : number_next line 4 ≡ 4 + 1 + size_at 65535 line (4 + 1) = rw t in absurd (omega arith)
+    none false t = t
+
 module _ (lent : ℕ) (line : List ℕ) (room : Number) (f : Finds (number_value line) (number_next line) 65535 (length line) 4 room) where
-  no_number : room.next ≡ 4 → (t : Bool) → is_number line 4 ≡ t → is_number line 4 ≡ false
-  no_number e true t =
-      let n : number_next line 4 ≡ 4 + 1 + size_at 65535 line (4 + 1) = rw t in
-      let b = f.behind in
-      absurd (omega arith)
-  no_number e false t = t
-
-  some_number : (room.next ≡ 4 → ⊥) → (t : Bool) → is_number line 4 ≡ t → is_number line 4 ≡ true
+  some_number : 4 < number_next line 4 → (t : Bool) → is_number line 4 ≡ t → is_number line 4 ≡ true
   some_number h true t = t
-  some_number h false t =
-      let n : number_next line 4 ≡ 4 = rw t in
-      absurd (h (f.behind ∙ n))
+  some_number h false t = let n : number_next line 4 ≡ 4 = rw t in absurd (omega arith)
 
-  pub read-unread : (file : ℕ) → room.next ≡ 4 → unknown_line ≡ read_asked lent file line
-  read-unread file e = sym (rw (no_number e (is_number line 4) refl))
-
-  module _ (h : room.next ≡ 4 → ⊥) (word : List ℕ) (is : word ≡ last_word line room.next) (entry exit : List ℕ) (r : Count)
+  module _ (h : 4 < number_next line 4) (word : List ℕ) (is : word ≡ last_word line room.next) (entry exit : List ℕ) (r : Option ℕ)
       (b : Bytes word entry exit r) where
     some : is_number line 4 ≡ true
     some = some_number h (is_number line 4) refl
@@ -77,26 +77,41 @@ module _ (lent : ℕ) (line : List ℕ) (room : Number) (f : Finds (number_value
     word_is_last : word ≡ last_word line (number_next line 4)
     word_is_last = is ∙ ap (last_word line) f.behind
 
-    bytes-are : is_bytes (length entry) (last_word line (number_next line 4)) ≡ r.good
-    bytes-are = subst (λ (w : List ℕ). is_bytes (length entry) w ≡ r.good) word_is_last (sym b.good)
-
     abbrev answer : List ℕ
     answer = read_answer lent (bytes_in (length entry) (last_word line (number_next line 4))) (number_value line 4)
 
-    asked : (t : Bool) → r.good ≡ t → read_asked lent (length entry) line ≡ cond t answer unknown_line
-    asked t g = ap₂ (λ (x y : Bool). cond (x && y) answer unknown_line) some (bytes-are ∙ g)
-
-    pub read-bad : r.good ≡ false → unknown_line ≡ read_asked lent (length entry) line
-    read-bad g = sym (asked false g)
-
-    pub read-good : r.good ≡ true → read_answer lent (take r.n exit) room.value ≡ read_asked lent (length entry) line
-    read-good g =
-        let n : number_next line 4 ≡ 4 + 1 + size_at 65535 line (4 + 1) = rw some in
-        let value : room.value ≡ number_value line 4 = f.is ∙ rw (lt-ltb 4 (number_next line 4) (omega arith)) in
-        let file : take r.n exit ≡ bytes_in (length entry) (last_word line (number_next line 4)) =
-        front-is (bytes_in (length entry) word) entry exit r.n b.puts b.few ∙ ap (bytes_in (length entry)) word_is_last
+    asked : (t : Bool) → is_bytes (length entry) word ≡ t → read_asked lent (length entry) line ≡ cond t answer unknown_line
+    asked t e =
+        let is : is_bytes (length entry) (last_word line (number_next line 4)) ≡ t =
+        ap (is_bytes (length entry)) (sym word_is_last) ∙ e
         in
-        ap₂ (read_answer lent) file value ∙ sym (asked true g)
+        ap₂ (λ (x y : Bool). cond (x && y) answer unknown_line) some is
+
+    no_bytes : r ≡ None → (t : Bool) → is_bytes (length entry) word ≡ t → is_bytes (length entry) word ≡ false
+    no_bytes g true e = let c : r ≡ Some (length (bytes_in (length entry) word)) = rw e at b.count in absurd (cc)
+    no_bytes g false e = e
+
+    some_bytes : (n : ℕ) → r ≡ Some n → (t : Bool) → is_bytes (length entry) word ≡ t →
+        (is_bytes (length entry) word ≡ true) × (n ≡ length (bytes_in (length entry) word))
+    some_bytes n g true e = let c : r ≡ Some (length (bytes_in (length entry) word)) = rw e at b.count in (e, (cc))
+    some_bytes n g false e = let c : r ≡ None = rw e at b.count in absurd (cc)
+
+    pub read-bad : r ≡ None → unknown_line ≡ read_asked lent (length entry) line
+    read-bad g = sym (asked false (no_bytes g (is_bytes (length entry) word) refl))
+
+    module _ (n : ℕ) (g : r ≡ Some n) where
+      bytes-are : (is_bytes (length entry) word ≡ true) × (n ≡ length (bytes_in (length entry) word))
+      bytes-are = some_bytes n g (is_bytes (length entry) word) refl
+
+      pub read-good : read_answer lent (take n exit) room.value ≡ read_asked lent (length entry) line
+      read-good =
+          let next : number_next line 4 ≡ 4 + 1 + size_at 65535 line (4 + 1) = rw some in
+          let value : room.value ≡ number_value line 4 = f.is ∙ rw (lt-ltb 4 (number_next line 4) (omega arith)) in
+          let front = front-is (bytes_in (length entry) word) entry exit (length (bytes_in (length entry) word)) b.buffer b.few in
+          let file : take n exit ≡ bytes_in (length entry) (last_word line (number_next line 4)) =
+          ap (λ (k : ℕ). take k exit) bytes-are.1 ∙ front ∙ ap (bytes_in (length entry)) word_is_last
+          in
+          ap₂ (read_answer lent) file value ∙ sym (asked true bytes-are.0)
 
 -- what is said to a question, and to a line
 pub says_is : (q is : Question) (line given : List ℕ) (lent file : ℕ) {text before after : List ℕ} {from next : ℕ} → q ≡ is →

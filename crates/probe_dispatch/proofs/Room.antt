@@ -10,7 +10,8 @@ use borrow.Author.Tests.{le-ltb, ltb-true}
 use Rattle.scope.specs.Lines.{byte_at}
 use Rattle.text.specs.Reading.{size_at}
 use Rattle.probe_words.specs.Words.{items, items_end, is_number, number_next, number_value, is_pair, pair_next, pair_value, is_dash, is_bytes, bytes_in}
-use Rattle.probe_words.proofs.Found.{number_past, pair_past}
+use Rattle.std.proofs.lemmas.List.{get_or_past}
+use Rattle.probe_words.proofs.Found.{number_past}
 use Rattle.probe_dispatch.specs.Line.{numbers_in}
 
 and_right : (a b : Bool) → (a && b) ≡ true → b ≡ true
@@ -63,7 +64,7 @@ module _ (line : List ℕ) where
   numbers_far i = number_far i (is_number line i) refl
 
   numbers-end : (i : ℕ) → length line ≤ i → number_next line i ≤ i
-  numbers-end i h = let e = (number_past line i h).behind in omega arith
+  numbers-end i h = let e = number_past line i h in omega arith
 
   module _ (room room' from : ℕ) (h : length line ≤ from + 2 * room) (k : length line ≤ from + 2 * room') where
     pub numbers-room : numbers_in room line from ≡ numbers_in room' line from
@@ -81,7 +82,7 @@ module _ (word : List ℕ) where
   pairs_far i = pair_far i (is_pair word i) refl
 
   pairs_end : (i : ℕ) → length word ≤ i → pair_next word i ≤ i
-  pairs_end i h = let e = (pair_past word i h).behind in omega arith
+  pairs_end i h = rw (get_or_past word i 0 h) (omega arith)
 
   module _ (room room' : ℕ) (h : length word ≤ 0 + 2 * room) (k : length word ≤ 0 + 2 * room') where
     pub bytes-room : bytes_in room word ≡ bytes_in room' word

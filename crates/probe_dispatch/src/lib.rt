@@ -30,64 +30,53 @@ pub enum Question {
     Unknown,
 }
 
-// Which of them a line is.
+// All but the last, in the order in which a line is asked for their words.
+const QUESTIONS: [Question; 11] = [
+    Question::Read,
+    Question::Write,
+    Question::Replay,
+    Question::Verdict,
+    Question::Explain,
+    Question::Figures,
+    Question::Figure,
+    Question::Slack,
+    Question::Second,
+    Question::Where,
+    Question::Spoil,
+];
+
+impl Question {
+    // The word that it begins with.
+    fn word(self) -> &'static [u8]
+        ensures { result.now ≡ word_of self }
+    {
+        match self {
+            Question::Read => b"read",
+            Question::Write => b"write",
+            Question::Replay => b"replay",
+            Question::Verdict => b"verdict",
+            Question::Explain => b"explain",
+            Question::Figures => b"figures",
+            Question::Figure => b"figure",
+            Question::Slack => b"slack",
+            Question::Second => b"second",
+            Question::Where => b"where",
+            Question::Spoil => b"spoil",
+            Question::Unknown => b"",
+        }
+    }
+}
+
+// Which of them a line is: the first whose word it begins with.
 fn which(line: &[u8]) -> Question
     ensures { result ≡ question_of line.now }
 {
-    if stands(line, 0, b"read") {
-        return Question::Read;
-    }
-    if stands(line, 0, b"write") {
-        return Question::Write;
-    }
-    if stands(line, 0, b"replay") {
-        return Question::Replay;
-    }
-    if stands(line, 0, b"verdict") {
-        return Question::Verdict;
-    }
-    if stands(line, 0, b"explain") {
-        return Question::Explain;
-    }
-    if stands(line, 0, b"figures") {
-        return Question::Figures;
-    }
-    if stands(line, 0, b"figure") {
-        return Question::Figure;
-    }
-    if stands(line, 0, b"slack") {
-        return Question::Slack;
-    }
-    if stands(line, 0, b"second") {
-        return Question::Second;
-    }
-    if stands(line, 0, b"where") {
-        return Question::Where;
-    }
-    if stands(line, 0, b"spoil") {
-        return Question::Spoil;
+    for question in QUESTIONS {
+        if stands(line, 0, question.word()) {
+            return question;
+        }
     }
     Question::Unknown
-}
-
-// How many bytes its word has.
-fn size(question: Question) -> usize
-    ensures { result ≡ length (word_of question) }
-{
-    match question {
-        Question::Read => 4,
-        Question::Write => 5,
-        Question::Replay => 6,
-        Question::Verdict => 7,
-        Question::Explain => 7,
-        Question::Figures => 7,
-        Question::Figure => 6,
-        Question::Slack => 5,
-        Question::Second => 6,
-        Question::Where => 5,
-        Question::Spoil => 5,
-        Question::Unknown => 0,
-    }
 }
 
 // ROOM HEX
@@ -96,17 +85,14 @@ fn read(line: &[u8], lent: &mut [u16], file: &mut [u8], out: &mut [u8], at: usiz
     ensures { Puts (read_asked (length lent.old) (length file.old) line.now)
         out.old out.new at result }
 {
-    let room = probe_words::number(line, 4);
-    if room.next == 4 {
+    let Some(room) = probe_words::number(line, 4) else {
         return unknown(out, at);
-    }
+    };
     let word = probe_words::last_word(line, room.next);
-    let given = probe_words::bytes(word, file);
-    if given.good {
-        let n = given.n;
-        return probe_questions::read(&file[..n], room.value, lent, out, at);
+    match probe_words::bytes(word, file) {
+        Some(n) => probe_questions::read(&file[..n], room.value, lent, out, at),
+        None => unknown(out, at),
     }
-    unknown(out, at)
 }
 
 // The answer of a question with these numbers.
@@ -153,6 +139,6 @@ pub fn answer(
         out.old out.new at result }
 {
     let question = which(line);
-    let n = probe_words::numbers(line, size(question), given);
+    let n = probe_words::numbers(line, question.word().len(), given);
     asked(question, line, &given[..n], lent, file, out, at)
 }

@@ -49,20 +49,18 @@ no_list_line word lent = word ++ ending (all_are filler16 lent)
 abbrev pub list_line : List ℕ → ℕ → List ℕ → List ℕ
 list_line word n lent = word ++ (decimal n ++ numbers_end (numbers_of n) lent)
 
--- a verdict: `ok resistant`, or `ok failing` with the list
-abbrev pub resistant_line : List ℕ → List ℕ
-resistant_line = no_list_line (111 ∷ 107 ∷ 32 ∷ 114 ∷ 101 ∷ 115 ∷ 105 ∷ 115 ∷ 116 ∷ 97 ∷ 110 ∷ 116 ∷ [])
+-- the words of a verdict, and of an explanation: `ok resistant` and `ok failing `, `ok unexplained` and `ok list `
+abbrev pub resistant_word : List ℕ
+resistant_word = 111 ∷ 107 ∷ 32 ∷ 114 ∷ 101 ∷ 115 ∷ 105 ∷ 115 ∷ 116 ∷ 97 ∷ 110 ∷ 116 ∷ []
 
-abbrev pub failing_line : ℕ → List ℕ → List ℕ
-failing_line = list_line (111 ∷ 107 ∷ 32 ∷ 102 ∷ 97 ∷ 105 ∷ 108 ∷ 105 ∷ 110 ∷ 103 ∷ 32 ∷ [])
+abbrev pub failing_word : List ℕ
+failing_word = 111 ∷ 107 ∷ 32 ∷ 102 ∷ 97 ∷ 105 ∷ 108 ∷ 105 ∷ 110 ∷ 103 ∷ 32 ∷ []
 
--- an explanation: `ok unexplained`, or `ok list` with the list
-abbrev pub unexplained_line : List ℕ → List ℕ
-unexplained_line =
-    no_list_line (111 ∷ 107 ∷ 32 ∷ 117 ∷ 110 ∷ 101 ∷ 120 ∷ 112 ∷ 108 ∷ 97 ∷ 105 ∷ 110 ∷ 101 ∷ 100 ∷ [])
+abbrev pub unexplained_word : List ℕ
+unexplained_word = 111 ∷ 107 ∷ 32 ∷ 117 ∷ 110 ∷ 101 ∷ 120 ∷ 112 ∷ 108 ∷ 97 ∷ 105 ∷ 110 ∷ 101 ∷ 100 ∷ []
 
-abbrev pub explained_line : ℕ → List ℕ → List ℕ
-explained_line = list_line (111 ∷ 107 ∷ 32 ∷ 108 ∷ 105 ∷ 115 ∷ 116 ∷ 32 ∷ [])
+abbrev pub explained_word : List ℕ
+explained_word = 111 ∷ 107 ∷ 32 ∷ 108 ∷ 105 ∷ 115 ∷ 116 ∷ 32 ∷ []
 
 -- `part LENGTH LINKS...`, and `at INDEX LENGTH`
 abbrev pub part_line : List ℕ → List ℕ

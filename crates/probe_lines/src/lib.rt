@@ -12,8 +12,8 @@ ghost use Rattle.probe_lines.specs.Answers.{unknown_line, ending, ok_text, told_
 ghost use Rattle.probe_lines.specs.Answers.{part_line, place_line, numbers_end, bytes_end, Near, Worded};
 ghost use Rattle.probe_lines.specs.Answers.{told as Answers·told, numbers_of as Answers·numbers_of};
 
-use probe_words::{kept, kept_16, put_bytes, put_numbers};
-use scope::{Answer, Refusal};
+use probe_words::{kept, put_bytes, put_numbers};
+use scope::Refusal;
 use text::{put_byte, put_decimal, put_number, put_refusal, put_word};
 
 // A line that is no question.
@@ -50,7 +50,7 @@ fn numbers_end(out: &mut [u8], at: usize, lent: &[u16], written: usize) -> usize
     ensures { Puts (numbers_end written lent.now) out.old out.new at result }
 {
     let last = put_numbers(out, at, lent, written);
-    end(out, last, kept_16(lent, written))
+    end(out, last, kept(lent, written))
 }
 
 // The same with bytes.
@@ -64,33 +64,39 @@ fn bytes_end(out: &mut [u8], at: usize, lent: &[u8], written: usize) -> usize
 }
 
 // An outcome, with the numbers that it wrote.
-pub fn told(answer: Answer, written: usize, lent: &[u16], out: &mut [u8], at: usize) -> usize
+pub fn told(
+    answer: Result<usize, Refusal>,
+    written: usize,
+    lent: &[u16],
+    out: &mut [u8],
+    at: usize,
+) -> usize
     requires { Near at lent.now }
     ensures { Puts (Answers·told (outcome_of answer) written lent.now) out.old out.new at result }
 {
     match answer {
-        Answer::Gives(n) => {
+        Ok(n) => {
             let next = ok(out, at, n);
             numbers_end(out, next, lent, written)
         }
-        Answer::Refused(r) => {
+        Err(r) => {
             let last = put_refusal(out, at, r);
-            end(out, last, kept_16(lent, 0))
+            end(out, last, kept(lent, 0))
         }
     }
 }
 
 // The same with bytes.
-pub fn told_bytes(answer: Answer, lent: &[u8], out: &mut [u8], at: usize) -> usize
+pub fn told_bytes(answer: Result<usize, Refusal>, lent: &[u8], out: &mut [u8], at: usize) -> usize
     requires { Near at lent.now }
     ensures { Puts (told_bytes (outcome_of answer) lent.now) out.old out.new at result }
 {
     match answer {
-        Answer::Gives(n) => {
+        Ok(n) => {
             let next = ok(out, at, n);
             bytes_end(out, next, lent, n)
         }
-        Answer::Refused(r) => {
+        Err(r) => {
             let last = put_refusal(out, at, r);
             end(out, last, kept(lent, 0))
         }
@@ -122,7 +128,7 @@ pub fn told_none(word: &[u8], lent: &[u16], out: &mut [u8], at: usize) -> usize
     ensures { Puts (no_list_line word.now lent.now) out.old out.new at result }
 {
     let last = put_word(out, at, word);
-    end(out, last, kept_16(lent, 0))
+    end(out, last, kept(lent, 0))
 }
 
 // How many numbers so many pairs are; no list has more than three.

@@ -1,22 +1,22 @@
 -- A buffer that is lent filled, with a margin behind the room: what it holds after a call, and the line that is told of it.
-use Prim.Native.Nat.{ℕ, ◌+◌, ◌-◌, ◌<◌, ◌≤◌, ◌^◌}
+use Prim.Native.Nat.{ℕ, ◌+◌, ◌-◌, ◌<◌, ◌≤◌}
 use mathlib.Core.Path.{◌≡◌, refl, sym, ◌∙◌, ap, ap₂, subst}
-use mathlib.Core.List.{List, ◌++◌, append_assoc}
+use mathlib.Core.List.{List, ◌++◌}
 use native.Mathlib.Omega.{arith}
-use lib.ListN.{length, take, drop, replicate, length-append, length-take, length-drop, length-replicate, replicate-append-replicate}
-use lib.Seq.{take_at, drop_at, take_all, length-take-le}
+use lib.ListN.{length, take, drop, replicate, length-drop, length-replicate, replicate-append-replicate}
+use lib.Seq.{take_at, drop_at, take_all}
 use borrow.Author.Tests.{lt-ltb, le-ltb}
-use Rattle.scope.specs.declared.Answer.{Answer}
+use Rattle.scope.specs.Outcome.{Answer}
 use Rattle.scope.specs.Outcome.{Outcome, outcome_of, result}
 use Rattle.scope.specs.Questions.{after}
 use Rattle.scope.specs.Plan.{at}
 use Rattle.plan.specs.Answers.{Answers}
-use Rattle.verdicts.specs.declared.Ruling.{Ruling}
+use Rattle.verdicts.specs.Verdict.{Ruling}
 use Rattle.verdicts.specs.Verdict.{Answered}
-use Rattle.explanations.specs.declared.Explanation.{Explanation}
+use Rattle.explanations.specs.Explained.{Explanation}
 use Rattle.explanations.specs.Explained as Explained·
 use Rattle.probe_words.specs.Words.{filler16}
-use Rattle.probe_lines.specs.Answers.{unknown_line, told, Near}
+use Rattle.probe_lines.specs.Answers.{unknown_line, told}
 use Rattle.probe_questions.specs.Asked.{at_least, lent_after, replay_line, figures_line, ruling_line, Ruled, Asks}
 use Rattle.probe_questions.specs.Asked.{explanation_line, Explained}
 
@@ -40,97 +40,71 @@ module _ (least least' n room room' size : ℕ) (line : List ℕ) (e : least ≡
       enough (room + 16) (room' + 16) size line (ap (λ (r : ℕ). r + 16) f) k
       ∙ enough least least' n (at_least (room' + 16) size line) e h
 
--- a front of so few numbers can be told
-pub near : (from n : ℕ) (s : List ℕ) → from ≤ 2 ^ 63 → n ≤ 2 ^ 32 → Near from (take n s)
-near from n s h l = record { from = h; few = rw length-take (omega arith) }
-
 -- the numbers behind the first so many
 pub behind : (given : List ℕ) (n : ℕ) → take (length given - n) (drop n given) ≡ drop n given
 behind given n = take_all (length given - n) (drop n given) (let l = length-drop n given in omega arith)
 
 -- of a lent buffer the room and the margin were filled
-module _ (fill room : ℕ) (lent filled : List ℕ) (fits : room + 16 ≤ length lent)
-    (is : filled ≡ replicate (length (take (room + 16) lent)) fill) where
-  abbrev rest : List ℕ
-  rest = drop (room + 16) lent
+module _ (fill room : ℕ) (filled : List ℕ) (is : filled ≡ replicate (room + 16) fill) where
+  parts : filled ≡ replicate room fill ++ replicate 16 fill
+  parts = is ∙ sym (replicate-append-replicate room 16 fill)
 
-  abbrev given : List ℕ
-  given = filled ++ rest
+  pub front : take room filled ≡ replicate room fill
+  front = ap (take room) parts ∙ take_at (replicate room fill) (replicate 16 fill) room (length-replicate room fill)
 
-  parts : given ≡ replicate room fill ++ (replicate 16 fill ++ rest)
-  parts =
-      ap (λ (s : List ℕ). s ++ rest)
-      (is ∙ ap (λ (k : ℕ). replicate k fill) (length-take-le (room + 16) lent fits) ∙ sym (replicate-append-replicate room 16 fill))
-      ∙ append_assoc (replicate room fill) (replicate 16 fill) rest
-
-  pub front : take room given ≡ replicate room fill
-  front = ap (take room) parts ∙ take_at (replicate room fill) (replicate 16 fill ++ rest) room (length-replicate room fill)
-
-  size : length (take room given) ≡ room
+  size : length (take room filled) ≡ room
   size = ap length front ∙ length-replicate room fill
 
   -- a call has changed the room alone
-  module _ (exit : List ℕ) (same : length exit ≡ length (take room given)) where
-    pub margin_stays : take (room + 16) (exit ++ drop room given) ≡ exit ++ replicate 16 fill
+  module _ (exit : List ℕ) where
+    pub margin_stays : exit ++ drop room filled ≡ exit ++ replicate 16 fill
     margin_stays =
-        let rest-is : drop room given ≡ replicate 16 fill ++ rest =
-        ap (drop room) parts ∙ drop_at (replicate room fill) (replicate 16 fill ++ rest) room (length-replicate room fill)
-        in
-        let long : length (exit ++ replicate 16 fill) ≡ room + 16 =
-        length-append exit (replicate 16 fill) ∙ ap₂ (λ (a b : ℕ). a + b) (same ∙ size) (length-replicate 16 fill)
-        in
-        ap (λ (s : List ℕ). take (room + 16) (exit ++ s)) rest-is
-        ∙ ap (take (room + 16)) (sym (append_assoc exit (replicate 16 fill) rest))
-        ∙ take_at (exit ++ replicate 16 fill) rest (room + 16) long
+        ap (λ (s : List ℕ). exit ++ drop room s) parts
+        ∙ ap (λ (s : List ℕ). exit ++ s) (drop_at (replicate room fill) (replicate 16 fill) room (length-replicate room fill))
 
     -- an answer that depends on the room
     module _ (outcome : ℕ → Outcome) (written : List ℕ) (a : Answer)
-        (w : Answers (outcome (length (take room given))) written (take room given) exit a) where
-      asked : Answers (outcome room) written (take room given) exit a
-      asked = subst (λ (k : ℕ). Answers (outcome k) written (take room given) exit a) size w
+        (w : Answers (outcome (length (take room filled))) written (take room filled) exit a) where
+      asked : Answers (outcome room) written (take room filled) exit a
+      asked = subst (λ (k : ℕ). Answers (outcome k) written (take room filled) exit a) size w
 
       pub lent-told : (line : Outcome → List ℕ → List ℕ) →
-          line (outcome_of a) (take (room + 16) (exit ++ drop room given)) ≡ line (outcome room) (lent_after (outcome room) written fill room)
+          line (outcome_of a) (exit ++ drop room filled) ≡ line (outcome room) (lent_after (outcome room) written fill room)
       lent-told line =
           ap₂ line asked.answer
           (margin_stays ∙ ap (λ (s : List ℕ). s ++ replicate 16 fill) (asked.buffer ∙ ap (after (outcome room) written) front))
 
       pub told-numbers : (n n' : ℕ) → n ≡ n' →
-          told (outcome_of a) n (take (room + 16) (exit ++ drop room given))
-          ≡ told (outcome room) n' (lent_after (outcome room) written fill room)
+          told (outcome_of a) n (exit ++ drop room filled) ≡ told (outcome room) n' (lent_after (outcome room) written fill room)
       told-numbers n n' e =
-          ap (λ (k : ℕ). told (outcome_of a) k (take (room + 16) (exit ++ drop room given))) e
-          ∙ lent-told (λ (o : Outcome) (s : List ℕ). told o n' s)
+          ap (λ (k : ℕ). told (outcome_of a) k (exit ++ drop room filled)) e ∙ lent-told (λ (o : Outcome) (s : List ℕ). told o n' s)
 
       pub told-result : (n : ℕ) → n ≡ result (outcome_of a) →
-          told (outcome_of a) n (take (room + 16) (exit ++ drop room given))
+          told (outcome_of a) n (exit ++ drop room filled)
           ≡ told (outcome room) (result (outcome room)) (lent_after (outcome room) written fill room)
       told-result n e = told-numbers n (result (outcome room)) (e ∙ ap result asked.answer)
 
 -- and of a verdict
-module _ (room : ℕ) (lent filled : List ℕ) (fits : room + 16 ≤ length lent)
-    (is : filled ≡ replicate (length (take (room + 16) lent)) filler16) where
-  pub ruled : (exit : List ℕ) → length exit ≡ length (take room (filled ++ drop (room + 16) lent)) → (row : List ℕ) (k l : ℕ) (r : Ruling) →
-      Answered row k l (take room (filled ++ drop (room + 16) lent)) exit r →
-      Ruled row k l room (ruling_line r (take (room + 16) (exit ++ drop room (filled ++ drop (room + 16) lent))))
-  ruled exit same row k l r w =
+module _ (room : ℕ) (filled : List ℕ) (is : filled ≡ replicate (room + 16) filler16) where
+  pub ruled : (exit row : List ℕ) (k l : ℕ) (r : Ruling) → Answered row k l (take room filled) exit r →
+      Ruled row k l room (ruling_line r (exit ++ drop room filled))
+  ruled exit row k l r w =
       record {
         ruling = r;
         list = exit;
-        answered = subst (λ (entry : List ℕ). Answered row k l entry exit r) (front filler16 room lent filled fits is) w;
-        is = ap (ruling_line r) (margin_stays filler16 room lent filled fits is exit same);
+        answered = subst (λ (entry : List ℕ). Answered row k l entry exit r) (front filler16 room filled is) w;
+        is = ap (ruling_line r) (margin_stays filler16 room filled is exit);
       }
 
   -- and of an explanation
-  pub explained : (exit : List ℕ) → length exit ≡ length (take room (filled ++ drop (room + 16) lent)) → (row capture : List ℕ) (k : ℕ)
-      (r : Explanation) → Explained·.Answered row k capture (take room (filled ++ drop (room + 16) lent)) exit r →
-      Explained row capture k room (explanation_line r (take (room + 16) (exit ++ drop room (filled ++ drop (room + 16) lent))))
-  explained exit same row capture k r w =
+  pub explained : (exit row capture : List ℕ) (k : ℕ) (r : Explanation) → Explained·.Answered row k capture (take room filled) exit r →
+      Explained row capture k room (explanation_line r (exit ++ drop room filled))
+  explained exit row capture k r w =
       record {
         explanation = r;
         list = exit;
-        answered = subst (λ (entry : List ℕ). Explained·.Answered row k capture entry exit r) (front filler16 room lent filled fits is) w;
-        is = ap (explanation_line r) (margin_stays filler16 room lent filled fits is exit same);
+        answered = subst (λ (entry : List ℕ). Explained·.Answered row k capture entry exit r) (front filler16 room filled is) w;
+        is = ap (explanation_line r) (margin_stays filler16 room filled is exit);
       }
 
 -- a question that is answered, or is none

@@ -1,9 +1,8 @@
 -- The lines of the questions that lend nothing, of what the calls gave.
 use Prim.Native.Nat.{ℕ, ◌<◌, ◌≤◌}
 use mathlib.Core.Path.{◌≡◌, refl, sym, ◌∙◌, ap, ap₂, subst}
-use mathlib.Core.List.{List, ◌++◌}
-use lib.ListN.{length, take, drop, set, replicate}
-use lib.Seq.{take_at, length-take-le}
+use mathlib.Core.List.{List}
+use lib.ListN.{length, drop}
 use lib.IntN.{ℤ, pos, negsuc}
 use native.Mathlib.Omega.{arith}
 use mir.Syntax.{w32}
@@ -11,7 +10,7 @@ use mir.Val.{SFits, to_z, of_z}
 use mir.ValLaws.{to_z-of_z}
 use lib.Dec.{leb→le}
 use Rattle.scope.specs.declared.Refusal.{Refusal}
-use Rattle.spare.specs.declared.Spare.TheVariants.{Slots, Refused}
+use Rattle.std.specs.Prelude.{Option, Ok, Err}
 use Rattle.spare.proofs.Bounds.{answer-lies}
 use borrow.Author.Tests.{lt-ltb, le-ltb, eq-eqb, ne_eqb}
 use Rattle.scope.specs.Outcome.{Outcome, gives, refused}
@@ -19,14 +18,13 @@ use Rattle.scope.specs.Plan.{at}
 use Rattle.scope.specs.Lines.{refused_line}
 use Rattle.scope.specs.Questions.{may_spare, slack}
 use Rattle.text.specs.Text.{Puts}
-use Rattle.spare.specs.declared.Spare.{Spare}
+use Rattle.spare.specs.Slack.{Spare}
 use Rattle.spare.specs.Slack.{said, value, unless_refused, Slacks, Between}
 use Rattle.probe_lines.specs.Answers.{unknown_line, part_line, place_line, slack_line}
-use Rattle.probe_questions.specs.Asked.{Lays, part_or_none, slack_or, spare_line, of_place, place_answer, ruling_line, explanation_line}
+use Rattle.probe_questions.specs.Asked.{Lays, part_or_none, slack_or, spare_line, of_place, place_answer, found_line}
 use Rattle.probe_questions.specs.Asked.{spoilt_row, spoilt_bytes, spoil_answer}
 use Rattle.probe_questions.specs.declared.OfPlace.{OfPlace}
-use Rattle.verdicts.specs.declared.Ruling.{Ruling}
-use Rattle.explanations.specs.declared.Explanation.{Explanation}
+use Rattle.verdicts.specs.Verdict.{Ruling}
 use Rattle.probe_questions.proofs.Lent.{enough}
 
 -- a text is laid, and so is another that is the same
@@ -60,15 +58,15 @@ module _ (row : List ℕ) (m p : ℕ) where
   answered : (s : Spare) → Slacks row m p s → slack_or (said s) (value s) ≡ spare_line row m p
   answered s a = ap₂ slack_or a.answer a.value ∙ spare_either (may_spare row m p) (slack row m p)
 
-  pub slots_line : (s : Spare) (z : ℤ) → Slacks row m p s → s ≡ Slots z → slack_line (to_z w32 (of_z w32 z)) ≡ spare_line row m p
+  pub slots_line : (s : Spare) (z : ℤ) → Slacks row m p s → s ≡ Ok z → slack_line (to_z w32 (of_z w32 z)) ≡ spare_line row m p
   slots_line s z given e =
-      let a : Slacks row m p (Slots z) = rw e at given in
-      ap slack_line (to_z-of_z w32 z (fits z (answer-lies row m p z a))) ∙ answered (Slots z) a
+      let a : Slacks row m p (Ok z) = rw e at given in
+      ap slack_line (to_z-of_z w32 z (fits z (answer-lies row m p z a))) ∙ answered (Ok z) a
 
-  pub no_slots_line : (s : Spare) (r : Refusal) → Slacks row m p s → s ≡ Refused r → refused_line r ≡ spare_line row m p
+  pub no_slots_line : (s : Spare) (r : Refusal) → Slacks row m p s → s ≡ Err r → refused_line r ≡ spare_line row m p
   no_slots_line s r given e =
-      let a : Slacks row m p (Refused r) = rw e at given in
-      answered (Refused r) a
+      let a : Slacks row m p (Err r) = rw e at given in
+      answered (Err r) a
 
 -- what is asked of a place
 pub placed : (asks is : OfPlace) (given row : List ℕ) (m p : ℕ) → asks ≡ is → row ≡ drop 2 given → m ≡ at given 0 → p ≡ at given 1 →
@@ -79,19 +77,11 @@ placed asks is given row m p e f g h long =
     ∙ ap (λ (a : OfPlace). of_place a (drop 2 given) (at given 0) (at given 1)) (sym e)
     ∙ enough 2 2 (length given) (of_place asks (drop 2 given) (at given 0) (at given 1)) refl long
 
-pub ruling_as : {r is : Ruling} (lent : List ℕ) → r ≡ is → ruling_line is lent ≡ ruling_line r lent
-ruling_as lent e = ap (λ (r : Ruling). ruling_line r lent) (sym e)
+pub found_within : {r : Ruling} (inner : Option ℕ) {is : Option ℕ} → r ≡ Ok inner → inner ≡ is → r ≡ Ok is
+found_within inner e f = e ∙ ap Ok f
 
-pub explanation_as : {r is : Explanation} (lent : List ℕ) → r ≡ is → explanation_line is lent ≡ explanation_line r lent
-explanation_as lent e = ap (λ (r : Explanation). explanation_line r lent) (sym e)
-
--- a spoilt front of a buffer
-module _ (fill index : ℕ) (lent exit : List ℕ) (long : 16 ≤ length lent) (same : length exit ≡ length (take 16 lent))
-    (is : exit ≡ set (replicate (length (take 16 lent)) fill) index 0) where
-  pub spoilt : take 16 (exit ++ drop 16 lent) ≡ set (replicate 16 fill) index 0
-  spoilt =
-      let n = length-take-le 16 lent long in
-      take_at exit (drop 16 lent) 16 (same ∙ n) ∙ is ∙ ap (λ (k : ℕ). set (replicate k fill) index 0) n
+pub found_as : {r is : Ruling} (none some lent : List ℕ) → r ≡ is → found_line none some is lent ≡ found_line none some r lent
+found_as none some lent e = ap (λ (r : Ruling). found_line none some r lent) (sym e)
 
 -- which of them is spoilt
 module _ (lent file : ℕ) (given : List ℕ) where

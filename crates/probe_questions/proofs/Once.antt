@@ -7,9 +7,9 @@ use lib.ListN.{length, replicate, take, drop}
 use lib.Dec.{ltb}
 use borrow.Author.Tests.{ltb-true, ltb-false}
 use Rattle.scope.specs.Plan.{at}
-use Rattle.verdicts.specs.declared.Ruling.{Ruling}
+use Rattle.verdicts.specs.Verdict.{Ruling}
 use Rattle.verdicts.proofs.Ways.{one_outcome}
-use Rattle.explanations.specs.declared.Explanation.{Explanation}
+use Rattle.explanations.specs.Explained.{Explanation}
 use Rattle.explanations.proofs.Ways.{one_outcome as explained-once}
 use Rattle.probe_words.specs.Words.{filler16}
 use Rattle.probe_questions.specs.Asked.{ruling_line, Ruled, Asks, Judges, explanation_line, Explained, Explains}

@@ -9,16 +9,15 @@ use Rattle.scope.specs.Cycle.{event_row}
 use Rattle.scope.specs.Game.{figures}
 use Rattle.text.specs.Text.{Puts}
 use Rattle.plan.specs.Answers.{shown_index}
-use Rattle.verdicts.specs.declared.Ruling.{Ruling}
-use Rattle.verdicts.specs.declared.Ruling.TheVariants.{Resistant, Failing, Refused}
+use Rattle.verdicts.specs.Verdict.{Ruling}
+use Rattle.scope.specs.declared.Refusal.{Refusal}
+use Rattle.std.specs.Prelude.{Option, Some, None, Result, Ok, Err}
 use Rattle.verdicts.specs.Verdict.{Answered}
-use Rattle.explanations.specs.declared.Explanation.{Explanation}
-use Rattle.explanations.specs.declared.Explanation.TheVariants.{Unexplained, Listed}
-use Rattle.explanations.specs.declared.Explanation.TheVariants as Explanation·
+use Rattle.explanations.specs.Explained.{Explanation}
 use Rattle.explanations.specs.Explained as Explained·
 use Rattle.probe_words.specs.Words.{filler, filler16}
-use Rattle.probe_lines.specs.Answers.{unknown_line, part_line, place_line, slack_line, resistant_line, failing_line, told, told_bytes}
-use Rattle.probe_lines.specs.Answers.{unexplained_line, explained_line}
+use Rattle.probe_lines.specs.Answers.{unknown_line, part_line, place_line, slack_line, no_list_line, list_line, told, told_bytes}
+use Rattle.probe_lines.specs.Answers.{resistant_word, failing_word, unexplained_word, explained_word}
 use Rattle.probe_questions.specs.declared.OfPlace.{OfPlace}
 use Rattle.probe_questions.specs.declared.OfPlace.TheVariants.{Slack, Second, Where}
 
@@ -87,11 +86,15 @@ replay_answer size given =
     at_least (at given 1 + 2) (length given)
     (at_least (at given 0 + 16) size (replay_line (drop (at given 1 + 2) given) (take (at given 1) (drop 2 given)) (at given 0)))
 
+-- a list that is found, or none, after a word for each
+abbrev pub found_line : List ℕ → List ℕ → Result (Option ℕ) Refusal → List ℕ → List ℕ
+found_line none some (Ok None) lent = no_list_line none lent
+found_line none some (Ok (Some n)) lent = list_line some n lent
+found_line none some (Err r) lent = told (refused r) 0 lent
+
 -- `verdict`, K L ROOM ROW...: of a ruling, and of what the lent list then holds with its margin
 abbrev pub ruling_line : Ruling → List ℕ → List ℕ
-ruling_line Resistant lent = resistant_line lent
-ruling_line (Failing n) lent = failing_line n lent
-ruling_line (Refused r) lent = told (refused r) 0 lent
+ruling_line = found_line resistant_word failing_word
 
 pub record Ruled (row : List ℕ) (k l room : ℕ) (line : List ℕ) : Type 0 where
   pub ruling : Ruling
@@ -110,9 +113,7 @@ Judges size given = Asks 3 (at given 2) size given (Ruled (drop 3 given) (at giv
 
 -- `explain`, K ROOM COUNT n... ROW...: of an explanation, and of what the lent list then holds with its margin
 abbrev pub explanation_line : Explanation → List ℕ → List ℕ
-explanation_line Unexplained lent = unexplained_line lent
-explanation_line (Listed n) lent = explained_line n lent
-explanation_line (Explanation·.Refused r) lent = told (refused r) 0 lent
+explanation_line = found_line unexplained_word explained_word
 
 pub record Explained (row capture : List ℕ) (k room : ℕ) (line : List ℕ) : Type 0 where
   pub explanation : Explanation

@@ -4,30 +4,36 @@
 
 #![tactic(auto)]
 
-ghost use Rattle.std.specs.Prelude.{◌+◌, ◌≤◌, ◌<◌, ◌*◌, ◌^◌, ◌≡◌, length, set, replicate};
+ghost use Rattle.std.specs.Prelude.{◌+◌, ◌≤◌, ◌<◌, ◌^◌, ◌≡◌, length, replicate, MatchOption};
 ghost use Rattle.scope.specs.Outcome.{outcome_of, result as result_of};
-ghost use Rattle.scope.specs.Plan.{timeout_of, message_count};
 ghost use Rattle.text.specs.Text.{Puts};
-ghost use Rattle.probe_words.specs.Words.{filler, filler16};
-ghost use Rattle.probe_lines.specs.Answers.{Near};
-ghost use Rattle.probe_questions.specs.Asked.{Lays, Judges, Explains, ruling_line, explanation_line, read_answer, write_answer, replay_answer};
+ghost use Rattle.probe_lines.specs.Answers.{Near, Worded};
+ghost use Rattle.probe_questions.specs.Asked.{Lays, Judges, Explains, found_line, read_answer, write_answer, replay_answer};
 ghost use Rattle.probe_questions.specs.Asked.{figure_answer, figures_answer, place_answer, second_line, where_line, spare_line};
 ghost use Rattle.probe_questions.specs.Asked.{spoil_answer, spoilt_row, spoilt_bytes};
 
-use explanations::Explanation;
 use probe_lines::{told, told_bytes, told_list, told_none, unknown};
-use scope::Answer;
-use spare::Spare;
-use verdicts::Ruling;
+use probe_words::{Filling, fill};
+use scope::Refusal;
 
 const MARGIN: usize = 16;
 
-fn count(answer: Answer) -> usize
+// The front of a buffer that is lent for so much room, with the margin behind it, all filled; none where the buffer is too short.
+fn lend<T: Filling>(lent: &mut [T], room: usize) -> Option<&mut [T]>
+    requires { room < 65536 }
+    ensures { MatchOption result (length lent.old < room + 16) (λ front. (room + 16 ≤ length lent.old) × (front.now ≡ replicate (room + 16) T.FILL)) }
+{
+    let front = lent.get_mut(..room + MARGIN)?;
+    fill(front);
+    Some(front)
+}
+
+fn count(answer: Result<usize, Refusal>) -> usize
     ensures { result ≡ result_of (outcome_of answer) }
 {
     match answer {
-        Answer::Gives(n) => n,
-        Answer::Refused(_) => 0,
+        Ok(n) => n,
+        Err(_) => 0,
     }
 }
 
@@ -36,13 +42,11 @@ pub fn read(file: &[u8], room: usize, lent: &mut [u16], out: &mut [u8], at: usiz
     requires { (room < 65536) × (at ≤ 2 ^ 63) }
     ensures { Puts (read_answer (length lent.old) file.now room) out.old out.new at result }
 {
-    let all = room + MARGIN;
-    if lent.len() < all {
+    let Some(lent) = lend(lent, room) else {
         return unknown(out, at);
-    }
-    probe_words::fill_16(&mut lent[..all]);
+    };
     let answer = plan::read_file(file, &mut lent[..room]);
-    told(answer, count(answer), &lent[..all], out, at)
+    told(answer, count(answer), lent, out, at)
 }
 
 // ROOM ROW...
@@ -51,23 +55,14 @@ pub fn write(given: &[u16], lent: &mut [u8], out: &mut [u8], at: usize) -> usize
     ensures { Puts (write_answer (length lent.old) given.now) out.old out.new at result }
 {
     let room = rows::number(given, 0);
-    let all = room + MARGIN;
-    if given.len() < 1 {
+    if given.is_empty() {
         return unknown(out, at);
     }
-    if lent.len() < all {
+    let Some(lent) = lend(lent, room) else {
         return unknown(out, at);
-    }
-    probe_words::fill(&mut lent[..all]);
+    };
     let answer = plan::write_file(&given[1..], &mut lent[..room]);
-    told_bytes(answer, &lent[..all], out, at)
-}
-
-// How many numbers the events of a row's cycle are.
-fn events(row: &[u16]) -> usize
-    ensures { result ≡ timeout_of row.now * (2 * message_count row.now) }
-{
-    rows::timeout(row) * (2 * rows::messages(row))
+    told_bytes(answer, lent, out, at)
 }
 
 // ROOM C c... ROW..., where C says how many numbers of cuts follow
@@ -77,27 +72,38 @@ pub fn replay(given: &[u16], lent: &mut [u16], out: &mut [u8], at: usize) -> usi
 {
     let room = rows::number(given, 0);
     let split = rows::number(given, 1) + 2;
-    let all = room + MARGIN;
     if given.len() < split {
         return unknown(out, at);
     }
-    if lent.len() < all {
+    let Some(lent) = lend(lent, room) else {
         return unknown(out, at);
-    }
-    probe_words::fill_16(&mut lent[..all]);
+    };
     let answer = cut_replay::replay(&given[split..], &given[2..split], &mut lent[..room]);
-    told(answer, events(&given[split..]), &lent[..all], out, at)
+    told(
+        answer,
+        cut_replay::event_numbers(&given[split..]),
+        lent,
+        out,
+        at,
+    )
 }
 
-// A verdict: resistant, or how many pairs with their numbers.
-fn told_ruling(ruling: Ruling, lent: &[u16], out: &mut [u8], at: usize) -> usize
-    requires { Near at lent.now }
-    ensures { Puts (ruling_line ruling lent.now) out.old out.new at result }
+// A list that is found, with how many pairs it has, or that there is none: each after its word.
+fn told_found(
+    none: &[u8],
+    some: &[u8],
+    found: Result<Option<usize>, Refusal>,
+    lent: &[u16],
+    out: &mut [u8],
+    at: usize,
+) -> usize
+    requires { Worded at none.now lent.now × Worded at some.now lent.now × Near at lent.now }
+    ensures { Puts (found_line none.now some.now found lent.now) out.old out.new at result }
 {
-    match ruling {
-        Ruling::Resistant => told_none(b"ok resistant", lent, out, at),
-        Ruling::Failing(pairs) => told_list(b"ok failing ", pairs, lent, out, at),
-        Ruling::Refused(r) => told(Answer::Refused(r), 0, lent, out, at),
+    match found {
+        Ok(None) => told_none(none, lent, out, at),
+        Ok(Some(pairs)) => told_list(some, pairs, lent, out, at),
+        Err(r) => told(Err(r), 0, lent, out, at),
     }
 }
 
@@ -109,28 +115,14 @@ pub fn verdict(given: &[u16], lent: &mut [u16], out: &mut [u8], at: usize) -> us
     let k = rows::number(given, 0);
     let l = rows::number(given, 1);
     let room = rows::number(given, 2);
-    let all = room + MARGIN;
     if given.len() < 3 {
         return unknown(out, at);
     }
-    if lent.len() < all {
+    let Some(lent) = lend(lent, room) else {
         return unknown(out, at);
-    }
-    probe_words::fill_16(&mut lent[..all]);
+    };
     let ruling = verdicts::verdict(&given[3..], k, l, &mut lent[..room]);
-    told_ruling(ruling, &lent[..all], out, at)
-}
-
-// An explanation: that there is none, or how many pairs with their numbers.
-fn told_explanation(explanation: Explanation, lent: &[u16], out: &mut [u8], at: usize) -> usize
-    requires { Near at lent.now }
-    ensures { Puts (explanation_line explanation lent.now) out.old out.new at result }
-{
-    match explanation {
-        Explanation::Unexplained => told_none(b"ok unexplained", lent, out, at),
-        Explanation::Listed(pairs) => told_list(b"ok list ", pairs, lent, out, at),
-        Explanation::Refused(r) => told(Answer::Refused(r), 0, lent, out, at),
-    }
+    told_found(b"ok resistant", b"ok failing ", ruling, lent, out, at)
 }
 
 // K ROOM COUNT n... ROW..., where COUNT says how many numbers of the capture follow
@@ -141,21 +133,19 @@ pub fn explain(given: &[u16], lent: &mut [u16], out: &mut [u8], at: usize) -> us
     let k = rows::number(given, 0);
     let room = rows::number(given, 1);
     let split = rows::number(given, 2) + 3;
-    let all = room + MARGIN;
     if given.len() < split {
         return unknown(out, at);
     }
-    if lent.len() < all {
+    let Some(lent) = lend(lent, room) else {
         return unknown(out, at);
-    }
-    probe_words::fill_16(&mut lent[..all]);
+    };
     let explanation = explanations::explain(
         &given[split..],
         k,
         &given[3..split],
         &mut lent[..room],
     );
-    told_explanation(explanation, &lent[..all], out, at)
+    told_found(b"ok unexplained", b"ok list ", explanation, lent, out, at)
 }
 
 // K ROW...
@@ -164,7 +154,7 @@ pub fn figure(given: &[u16], out: &mut [u8], at: usize) -> usize
     ensures { Puts (figure_answer given.now) out.old out.new at result }
 {
     let k = rows::number(given, 0);
-    if given.len() < 1 {
+    if given.is_empty() {
         return unknown(out, at);
     }
     let answer = figures::figure(&given[1..], k);
@@ -178,16 +168,14 @@ pub fn figures(given: &[u16], lent: &mut [u16], out: &mut [u8], at: usize) -> us
 {
     let k = rows::number(given, 0);
     let room = rows::number(given, 1);
-    let all = room + MARGIN;
     if given.len() < 2 {
         return unknown(out, at);
     }
-    if lent.len() < all {
+    let Some(lent) = lend(lent, room) else {
         return unknown(out, at);
-    }
-    probe_words::fill_16(&mut lent[..all]);
+    };
     let answer = figures::figures(&given[2..], k, &mut lent[..room]);
-    told(answer, count(answer), &lent[..all], out, at)
+    told(answer, count(answer), lent, out, at)
 }
 
 // A second path, which has at most 16 links.
@@ -217,10 +205,9 @@ fn slack_row(row: &[u16], m: usize, p: usize, out: &mut [u8], at: usize) -> usiz
     requires { at ≤ 2 ^ 63 }
     ensures { Puts (spare_line row.now m p) out.old out.new at result }
 {
-    let spare = spare::slack(row, m, p);
-    match spare {
-        Spare::Slots(slots) => probe_lines::told_slack(slots, out, at),
-        Spare::Refused(r) => probe_lines::told_refusal(r, out, at),
+    match spare::slack(row, m, p) {
+        Ok(slots) => probe_lines::told_slack(slots, out, at),
+        Err(r) => probe_lines::told_refusal(r, out, at),
     }
 }
 
@@ -249,46 +236,32 @@ pub fn of_place(asks: OfPlace, given: &[u16], out: &mut [u8], at: usize) -> usiz
     }
 }
 
-// A lent row that is filled, but for the number at an index; and the same with bytes.
-fn spoil_number(lent: &mut [u16], index: usize)
-    ensures { lent.new ≡ set (replicate (length lent.old) filler16) index 0 }
-{
-    probe_words::fill_16(lent);
-    if index < lent.len() {
-        lent[index] = 0;
-    }
-}
-
-fn spoil_byte(lent: &mut [u8], index: usize)
-    ensures { lent.new ≡ set (replicate (length lent.old) filler) index 0 }
-{
-    probe_words::fill(lent);
-    if index < lent.len() {
-        lent[index] = 0;
-    }
-}
-
-// What is told of it by a call that is taken to have written nothing.
+// What is told of a lent row by a call that is taken to have written nothing, where the number at an index has changed.
 fn spoil_row(index: usize, lent: &mut [u16], out: &mut [u8], at: usize) -> usize
     requires { at ≤ 2 ^ 63 }
     ensures { Puts (spoilt_row (length lent.old) index) out.old out.new at result }
 {
-    if lent.len() < MARGIN {
+    let Some(lent) = lend(lent, 0) else {
         return unknown(out, at);
+    };
+    if index < MARGIN {
+        lent[index] = 0;
     }
-    spoil_number(&mut lent[..MARGIN], index);
-    told(Answer::Gives(0), 0, &lent[..MARGIN], out, at)
+    told(Ok(0), 0, lent, out, at)
 }
 
+// The same with bytes.
 fn spoil_bytes(index: usize, lent: &mut [u8], out: &mut [u8], at: usize) -> usize
     requires { at ≤ 2 ^ 63 }
     ensures { Puts (spoilt_bytes (length lent.old) index) out.old out.new at result }
 {
-    if lent.len() < MARGIN {
+    let Some(lent) = lend(lent, 0) else {
         return unknown(out, at);
+    };
+    if index < MARGIN {
+        lent[index] = 0;
     }
-    spoil_byte(&mut lent[..MARGIN], index);
-    told_bytes(Answer::Gives(0), &lent[..MARGIN], out, at)
+    told_bytes(Ok(0), lent, out, at)
 }
 
 // BITS INDEX, which shows that a spoilt buffer is told: 16 for a row, and else bytes.

@@ -1,4 +1,3 @@
 pub mod Parts
-pub mod Filling
 pub mod Items
 pub mod Found

@@ -1,13 +1,10 @@
 -- What the words of a line say, and the words that are written: the probe's own forms, beside those of document 01 (`Lines`).
-use Rattle.std.specs.Prelude.{ℕ, zero, suc, ◌+◌, ◌-◌, ◌*◌, ◌/◌, ◌%◌, ◌≤◌, ◌≡◌, Bool, true, cond, ◌&&◌, ◌||◌, List, [], ◌∷◌, ◌++◌, length, take, drop, ltb, leb, eqb}
+use Rattle.std.specs.Prelude.{ℕ, zero, suc, ◌+◌, ◌-◌, ◌*◌, ◌/◌, ◌%◌, ◌≤◌, ◌≡◌, Bool, cond, Option, Some, None, ◌&&◌, ◌||◌, List, [], ◌∷◌, ◌++◌, length, take, drop, ltb, leb, eqb}
+use Rattle.std.specs.List.{list_all}
 use Rattle.scope.specs.Lines.{byte_at, is_digit}
 use Rattle.text.specs.Text.{Puts}
 use Rattle.text.specs.Reading.{size_at, value_at}
 use Rattle.text.specs.declared.Number.{Number}
-use Rattle.probe_words.specs.declared.Count.{Count}
-
-abbrev pub least_of : ℕ → ℕ → ℕ
-least_of a b = cond (ltb a b) a b
 
 -- a part of a list, empty where there is no such part
 abbrev pub part_of : List ℕ → ℕ → ℕ → List ℕ
@@ -19,7 +16,7 @@ last_word line at = cond (eqb (byte_at line at) 32) (drop (at + 1) line) []
 
 -- Things that stand one after another in a line. `value` says what the one at an index is, and `next` is the index behind it; it is the
 -- index itself where there is none. As many of them from an index on as there is room for, and where they end:
-unfoldable pub items : (ℕ → ℕ) → (ℕ → ℕ) → ℕ → ℕ → List ℕ
+unfoldable pub items : {A : Type 0} → (ℕ → A) → (ℕ → ℕ) → ℕ → ℕ → List A
 items value next zero i = []
 items value next (suc room) i = cond (ltb i (next i)) (value i ∷ items value next room (next i)) []
 
@@ -34,11 +31,20 @@ pub record Finds (value next : ℕ → ℕ) (most size i : ℕ) (r : Number) : T
   pub small : r.value ≤ most
   pub within : r.next ≤ i + (size - i)
 
--- they were written to the front of a buffer, as many as it has room for: how many, and whether the line has nothing else
-pub record Lists (value next : ℕ → ℕ) (size at : ℕ) (entry exit : List ℕ) (r : Count) : Type 0 where
-  pub puts : Puts (items value next (length entry) at) entry exit 0 r.n
-  pub good : r.good ≡ leb size (items_end next (length entry) at)
-  pub few : r.n ≤ length entry
+-- one of them with the index behind it, none where there is none
+abbrev pub found : {A : Type 0} → (ℕ → A) → (ℕ → ℕ) → ℕ → Option (A × ℕ)
+found value next i = cond (ltb i (next i)) (Some (value i, next i)) None
+
+-- that is what calls give
+abbrev pub ReadsThem : {A : Type 0} → (ℕ → Option (A × ℕ) → Type 0) → (ℕ → A) → (ℕ → ℕ) → Type 0
+ReadsThem {A} gives value next = (i : ℕ) (r : Option (A × ℕ)) → gives i r → r ≡ found value next i
+
+-- they were written to the front of a buffer, as many as it has room for: how many, and where they end
+pub record Lists {A : Type 0} (value : ℕ → A) (next : ℕ → ℕ) (at : ℕ) (entry exit : List A) (r : ℕ × ℕ) : Type 0 where
+  pub buffer : exit ≡ items value next (length entry) at ++ drop r.0 entry
+  pub count : r.0 ≡ length (items value next (length entry) at)
+  pub end : r.1 ≡ items_end next (length entry) at
+  pub few : r.0 ≤ length entry
 
 -- a number of 16 bits behind one space
 abbrev pub is_number : List ℕ → ℕ → Bool
@@ -75,10 +81,11 @@ bytes_in room word = items (pair_value word) (pair_next word) room 0
 abbrev pub is_bytes : ℕ → List ℕ → Bool
 is_bytes room word = is_dash word || (ltb 0 (length word) && leb (length word) (items_end (pair_next word) room 0))
 
-pub record Bytes (word entry exit : List ℕ) (r : Count) : Type 0 where
-  pub puts : Puts (bytes_in (length entry) word) entry exit 0 r.n
-  pub good : r.good ≡ is_bytes (length entry) word
-  pub few : r.n ≤ length entry
+-- they were written to the front of a buffer: how many, none where it is no such word
+pub record Bytes (word entry exit : List ℕ) (r : Option ℕ) : Type 0 where
+  pub buffer : Puts (bytes_in (length entry) word) entry exit 0 (length (bytes_in (length entry) word))
+  pub count : r ≡ cond (is_bytes (length entry) word) (Some (length (bytes_in (length entry) word))) None
+  pub few : length (bytes_in (length entry) word) ≤ length entry
 
 -- the numbers of a line from an index on, as many as there is room for, and whether the line then ends
 abbrev pub numbers_from : ℕ → List ℕ → ℕ → List ℕ
@@ -113,6 +120,5 @@ abbrev pub filler16 : ℕ
 filler16 = 42405
 
 -- all the numbers of a list are this one
-unfoldable pub all_are : ℕ → List ℕ → Bool
-all_are x [] = true
-all_are x (y ∷ s) = eqb y x && all_are x s
+abbrev pub all_are : ℕ → List ℕ → Bool
+all_are x = list_all (λ y. eqb y x)

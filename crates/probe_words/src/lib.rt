@@ -4,97 +4,76 @@
 
 #![tactic(auto)]
 
-ghost use Rattle.std.specs.Prelude.{◌≡◌, ◌+◌, ◌<◌, ◌/◌, ◌%◌, [], ◌∷◌, length, take, drop, replicate};
+ghost use Rattle.std.specs.Prelude.{◌≡◌, ℕ, Some, None, MatchOption, cond, ltb, ◌+◌, ◌<◌, ◌/◌, ◌%◌, [], ◌∷◌, length, take, drop, replicate, min};
+ghost use Rattle.std.specs.List.{list_all};
 ghost use Rattle.scope.specs.Lines.{decimal};
 ghost use Rattle.scope.specs.Lines.{spaced as Lines·spaced};
 ghost use Rattle.text.specs.Text.{Puts, Told};
-ghost use Rattle.probe_words.specs.Words.{least_of, part_of, last_word, hex_of, Finds, Lists, number_next, number_value};
-ghost use Rattle.probe_words.specs.Words.{pair_next, pair_value, Bytes, Numbers, glyph_of, hex_word, pairs_of, filler, filler16, all_are};
+ghost use Rattle.probe_words.specs.Words.{part_of, last_word, hex_of, Finds, ReadsThem, Lists, found, number_next, number_value};
+ghost use Rattle.probe_words.specs.Words.{pair_next, pair_value, Bytes, Numbers, glyph_of, hex_word, pairs_of, filler, filler16};
 
 use bits::byte;
 use text::{Number, number_at, put_decimal, put_word};
-
-// How many things were read from a line, and whether it has nothing else.
-#[derive(Clone, Copy)]
-pub struct Count {
-    pub n: usize,
-    pub good: bool,
-}
-
-pub fn least(a: usize, b: usize) -> usize
-    ensures { result ≡ least_of a b }
-{
-    if a < b { a } else { b }
-}
 
 // A part of some bytes, empty where there is no such part.
 pub fn part(s: &[u8], from: usize, to: usize) -> &[u8]
     ensures { result.now ≡ part_of s.now from to }
 {
-    if from <= to {
-        if to <= s.len() {
-            return &s[from..to];
-        }
-        return &s[..0];
-    }
-    &s[..0]
+    s.get(from..to).unwrap_or(&[])
 }
 
 // What stands behind one space at an index of a line, to its end.
 pub fn last_word(line: &[u8], at: usize) -> &[u8]
     ensures { result.now ≡ last_word line.now at }
 {
-    if line.len() <= at {
-        return &line[..0];
+    match line.get(at..) {
+        Some([b' ', word @ ..]) => word,
+        _ => &[],
     }
-    if byte(line, at) != 32 {
-        return &line[..0];
-    }
-    &line[at + 1..]
 }
 
 // The number that stands behind one space at an index of a line, at most 65535.
-pub fn number(line: &[u8], at: usize) -> Number
-    ensures { Finds (number_value line.now) (number_next line.now) 65535 (length line.now) at result }
+pub fn number(line: &[u8], at: usize) -> Option<Number>
+    ensures { MatchOption result (number_next line.now at ≡ at)
+        (λ r. (at < number_next line.now at) × Finds (number_value line.now) (number_next line.now) 65535 (length line.now) at r) }
 {
-    let none = Number { value: 0, next: at };
     if line.len() <= at {
-        return none;
+        return None;
     }
     if byte(line, at) != 32 {
-        return none;
+        return None;
     }
-    let found = number_at(line, at + 1, 65535);
-    if found.next == at + 1 {
-        return none;
-    }
-    found
+    number_at(line, at + 1, 65535)
 }
 
-// Numbers of a line from an index on, each behind one space, into the front of what is lent.
-fn listed(line: &[u8], at: usize, into: &mut [u16]) -> Count
-    ensures { Lists (number_value line.now) (number_next line.now) (length line.now) at
-        into.old into.new result }
+// The same as a number of 16 bits and the index behind it, none where there is no such number.
+fn next_number(line: &[u8], at: usize) -> Option<(u16, usize)>
+    ensures { result ≡ found (number_value line.now) (number_next line.now) at }
+{
+    let found = number(line, at)?;
+    Some((found.value as u16, found.next))
+}
+
+// Things of a line from an index on, as `read` finds each with the index behind it, into the front of what is lent: how many, and where
+// they end.
+fn listed<T: Copy, F: Fn(usize) -> Option<(T, usize)>>(
+    at: usize,
+    into: &mut [T],
+    read: F,
+) -> (usize, usize)
+    requires { F.IsAlwaysCallable read }
+    ensures { (value : ℕ → T) → (next : ℕ → ℕ) → ReadsThem (F.post read) value next
+        → Lists value next at into.old into.new result }
 {
     let mut i = at;
-    let mut n = 0;
-    while n < into.len() {
-        let found = number(line, i);
-        let next = found.next;
-        if next <= i {
-            return Count {
-                n,
-                good: line.len() <= i,
-            };
-        }
-        into[n] = found.value as u16;
-        n += 1;
-        i = next;
+    for n in 0..into.len() {
+        let Some(found) = read(i) else {
+            return (n, i);
+        };
+        into[n] = found.0;
+        i = found.1;
     }
-    Count {
-        n,
-        good: line.len() <= i,
-    }
+    (into.len(), i)
 }
 
 // The numbers of a line from an index to its end, each behind one space, into the front of what is lent: how many, 0 where the line
@@ -102,113 +81,56 @@ fn listed(line: &[u8], at: usize, into: &mut [u16]) -> Count
 pub fn numbers(line: &[u8], at: usize, into: &mut [u16]) -> usize
     ensures { Numbers line.now at into.old into.new result }
 {
-    let got = listed(line, at, into);
-    if got.good {
-        return got.n;
-    }
-    0
+    let (n, end) = listed(at, into, |i| next_number(line, i));
+    if end < line.len() { 0 } else { n }
 }
 
-// What a hexadecimal digit stands for, 16 for any other byte.
-fn digit(b: usize) -> usize
-    ensures { result ≡ hex_of b }
+// What a hexadecimal digit stands for, none for any other byte.
+fn digit(b: u8) -> Option<u8>
+    ensures { result ≡ cond (ltb (hex_of b) 16) (Some (hex_of b)) None }
 {
-    if b < 48 {
-        16
-    } else if b < 58 {
-        b - 48
-    } else if b < 97 {
-        16
-    } else if b < 103 {
-        b - 87
-    } else {
-        16
+    match b {
+        b'0'..=b'9' => Some(b - b'0'),
+        b'a'..=b'f' => Some(b - b'a' + 10),
+        _ => None,
     }
 }
 
-// The byte that two hexadecimal digits at an index stand for.
-fn pair(word: &[u8], i: usize) -> Number
-    ensures { Finds (pair_value word.now) (pair_next word.now) 255 (length word.now) i result }
+// The byte that two hexadecimal digits at an index stand for, and the index behind them.
+fn pair(word: &[u8], i: usize) -> Option<(u8, usize)>
+    ensures { result ≡ found (pair_value word.now) (pair_next word.now) i }
 {
-    let none = Number { value: 0, next: i };
-    if word.len() <= i {
-        return none;
-    }
-    if word.len() <= i + 1 {
-        return none;
-    }
-    let high = digit(byte(word, i));
-    let low = digit(byte(word, i + 1));
-    if 15 < high {
-        return none;
-    }
-    if 15 < low {
-        return none;
-    }
-    Number {
-        value: high * 16 + low,
-        next: i + 2,
+    match word.get(i..) {
+        Some([high, low, ..]) => Some((digit(*high)? * 16 + digit(*low)?, i + 2)),
+        _ => None,
     }
 }
 
-// The bytes that pairs of hexadecimal digits stand for, into the front of what is lent.
-fn pairs(word: &[u8], into: &mut [u8]) -> Count
-    ensures { Lists (pair_value word.now) (pair_next word.now) (length word.now) 0
-        into.old into.new result }
-{
-    let mut i = 0;
-    let mut n = 0;
-    while n < into.len() {
-        let found = pair(word, i);
-        let next = found.next;
-        if next <= i {
-            return Count {
-                n,
-                good: word.len() <= i,
-            };
-        }
-        into[n] = found.value as u8;
-        n += 1;
-        i = next;
-    }
-    Count {
-        n,
-        good: word.len() <= i,
-    }
-}
-
-// The bytes of a word: pairs of digits, or `-` for none.
-pub fn bytes(word: &[u8], into: &mut [u8]) -> Count
+// The bytes of a word, pairs of digits, or `-` for none, into the front of what is lent: how many, none where it is no such word.
+pub fn bytes(word: &[u8], into: &mut [u8]) -> Option<usize>
     ensures { Bytes word.now into.old into.new result }
 {
-    let got = pairs(word, into);
-    let n = got.n;
-    if word.len() == 0 {
-        return Count { n, good: false };
-    }
-    if word.len() == 1 {
-        return Count {
-            n,
-            good: byte(word, 0) == 45,
-        };
-    }
-    got
+    let (n, end) = listed(0, into, |i| pair(word, i));
+    let whole = match word.len() {
+        0 => false,
+        1 => word[0] == b'-',
+        len => len <= end,
+    };
+    whole.then_some(n)
 }
 
 // A word at an index of a buffer, or at its end where the index lies behind it, as far as the buffer goes; the index after the word.
 pub fn put(out: &mut [u8], at: usize, word: &[u8]) -> usize
-    ensures { Puts word.now out.old out.new (least_of at (length out.old)) result }
+    ensures { Puts word.now out.old out.new (min at (length out.old)) result }
 {
-    let from = least(at, out.len());
-    put_word(out, from, word)
+    put_word(out, at.min(out.len()), word)
 }
 
 // A number in decimal, likewise.
 pub fn put_number(out: &mut [u8], at: usize, n: usize) -> usize
-    ensures { Puts (decimal n) out.old out.new (least_of at (length out.old)) result }
+    ensures { Puts (decimal n) out.old out.new (min at (length out.old)) result }
 {
-    let from = least(at, out.len());
-    put_decimal(out, from, n)
+    put_decimal(out, at.min(out.len()), n)
 }
 
 // The first so many numbers of a row, each behind one space.
@@ -216,8 +138,7 @@ pub fn put_numbers(out: &mut [u8], at: usize, row: &[u16], n: usize) -> usize
     requires { Told at (Lines·spaced (take n row.now)) }
     ensures { Puts (Lines·spaced (take n row.now)) out.old out.new at result }
 {
-    let most = least(n, row.len());
-    verdict_lines::spaced(out, at, &row[..most])
+    verdict_lines::spaced(out, at, &row[..n.min(row.len())])
 }
 
 // A hexadecimal digit.
@@ -225,7 +146,7 @@ fn glyph(d: u8) -> u8
     requires { d < 16 }
     ensures { result ≡ glyph_of d }
 {
-    if d < 10 { 48 + d } else { 87 + d }
+    if d < 10 { b'0' + d } else { b'a' + (d - 10) }
 }
 
 // A byte as two of them.
@@ -242,10 +163,8 @@ fn put_pairs(out: &mut [u8], at: usize, bytes: &[u8]) -> usize
     ensures { Puts (pairs_of bytes.now) out.old out.new at result }
 {
     let mut next = at;
-    let mut i = 0;
-    while i < bytes.len() {
-        next = put_pair(out, next, bytes[i]);
-        i += 1;
+    for b in bytes {
+        next = put_pair(out, next, *b);
     }
     next
 }
@@ -255,80 +174,58 @@ pub fn put_bytes(out: &mut [u8], at: usize, bytes: &[u8], n: usize) -> usize
     requires { Told at (hex_word (take n bytes.now)) }
     ensures { Puts (hex_word (take n bytes.now)) out.old out.new at result }
 {
-    let most = least(n, bytes.len());
-    if most == 0 {
-        return put_word(out, at, b"-");
+    match &bytes[..n.min(bytes.len())] {
+        [] => put_word(out, at, b"-"),
+        first => put_pairs(out, at, first),
     }
-    put_pairs(out, at, &bytes[..most])
 }
 
 // What a lent buffer is filled with before a call.
-const FILL: u8 = 0xA5;
+pub trait Filling: Copy + PartialEq {
+    ghost FILL: { Self };
 
-const FILL_16: u16 = 0xA5A5;
+    const FILL: Self;
 
-pub fn fill(bytes: &mut [u8])
-    ensures { bytes.new ≡ replicate (length bytes.old) filler }
-{
-    let mut i = 0;
-    while i < bytes.len() {
-        bytes[i] = FILL;
-        i += 1;
-    }
+    // A copy of it is the same.
+    ghost copied: { Self.is_infallible FILL × ((x : Self) → Self.is_clone FILL x → x ≡ FILL) };
 }
 
-pub fn fill_16(row: &mut [u16])
-    ensures { row.new ≡ replicate (length row.old) filler16 }
+impl Filling for u8 {
+    ghost FILL = { filler };
+
+    const FILL: u8 = 0xA5;
+
+    ghost copied = { (tt, λ x e. e) };
+}
+
+impl Filling for u16 {
+    ghost FILL = { filler16 };
+
+    const FILL: u16 = 0xA5A5;
+
+    ghost copied = { (tt, λ x e. e) };
+}
+
+pub fn fill<T: Filling>(items: &mut [T])
+    ensures { items.new ≡ replicate (length items.old) T.FILL }
 {
-    let mut i = 0;
-    while i < row.len() {
-        row[i] = FILL_16;
-        i += 1;
-    }
+    items.fill(T::FILL);
 }
 
 // Whether the filling stands from an index on.
-pub fn kept(bytes: &[u8], from: usize) -> bool
-    ensures { result ≡ all_are filler (drop from bytes.now) }
+pub fn kept<T: Filling>(items: &[T], from: usize) -> bool
+    ensures { result ≡ list_all (λ x. T.eq x T.FILL) (drop from items.now) }
 {
-    let mut i = from;
-    while i < bytes.len() {
-        if bytes[i] != FILL {
-            return false;
-        }
-        i += 1;
-    }
-    true
-}
-
-pub fn kept_16(row: &[u16], from: usize) -> bool
-    ensures { result ≡ all_are filler16 (drop from row.now) }
-{
-    let mut i = from;
-    while i < row.len() {
-        if row[i] != FILL_16 {
-            return false;
-        }
-        i += 1;
-    }
-    true
+    items.iter().skip(from).all(|x| *x == T::FILL)
 }
 
 // Moves a part to the front.
 pub fn shift(s: &mut [u8], from: usize, to: usize) -> usize
     ensures { Puts (part_of s.old from to) s.old s.new 0 result }
 {
-    if to <= from {
+    if to <= from || s.len() < to {
         return 0;
     }
-    if s.len() < to {
-        return 0;
-    }
-    let n = to - from;
-    let mut i = 0;
-    while i < n {
-        s[i] = s[from + i];
-        i += 1;
-    }
-    n
+    s.copy_within(from..to, 0);
+    to - from
 }

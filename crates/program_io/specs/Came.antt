@@ -1,11 +1,9 @@
 -- What reading gives. Which bytes an operating system hands over no definition can say; that they were asked for, and that asking did not
 -- fail, can be kept apart from a number that was made up.
-use Rattle.std.specs.Prelude.{ℕ, ◌≤◌, ◌≡◌, Bool, true, List, [], ◌∷◌, length}
+use Rattle.std.specs.Prelude.{ℕ, ◌≤◌, ◌≡◌, Bool, true, List, [], ◌∷◌, length, Option, Some, None}
 use Rattle.program_io.specs.Counts.{IsPrefixLen}
-use Rattle.scope.specs.declared.Answer.{Answer}
+use Rattle.scope.specs.Outcome.{Answer}
 use Rattle.scope.specs.Outcome.{outcome_of, gives}
-use Rattle.program_io.specs.declared.Read.{Read}
-use Rattle.program_io.specs.declared.Read.TheVariants.{Bytes, Failed}
 
 -- a file by its name, or standard input; a file that is missing or cannot be read has nothing
 pub data Source : Type 0 where
@@ -22,9 +20,9 @@ unfoldable pub Came : Source → ℕ → List ℕ → Type 0
 Came source n buffer = n ≤ length buffer
 
 -- what a read of standard input says: how many bytes came, or that reading failed, which is no end and no count
-abbrev pub Reads : Read → List ℕ → Type 0
-Reads (Bytes n) buffer = Came standard_input n buffer × IsPrefixLen n buffer
-Reads Failed buffer = Unit {0}
+abbrev pub Reads : Option ℕ → List ℕ → Type 0
+Reads (Some n) buffer = Came standard_input n buffer × IsPrefixLen n buffer
+Reads None buffer = Unit {0}
 
 -- "all was written" is said only of a count that an answer gives and that lies within the buffer
 abbrev pub Prints : Bool → Answer → List ℕ → Type 0

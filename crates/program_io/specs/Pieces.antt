@@ -1,9 +1,7 @@
 -- What comes from standard input piece by piece. As with `Came`, only the functions of this crate say so, and no proof of another crate unfolds
 -- it: a program that leaves out a piece, invents one, or takes a failed read for the end, is refused.
-use Rattle.std.specs.Prelude.{ℕ, ◌+◌, ◌≡◌, List, ◌++◌, take}
+use Rattle.std.specs.Prelude.{ℕ, ◌+◌, ◌≡◌, List, ◌++◌, take, Option, Some, None}
 use Rattle.program_io.specs.Counts.{IsPrefixLen}
-use Rattle.program_io.specs.declared.Read.{Read}
-use Rattle.program_io.specs.declared.Read.TheVariants.{Bytes, Failed}
 
 -- these bytes came in so many reads, one piece after another
 unfoldable pub CameIn : ℕ → List ℕ → Type 0
@@ -19,6 +17,6 @@ pub record Piece (n turns : ℕ) (buffer : List ℕ) : Type 0 where
   pub more : (before : List ℕ) → CameIn turns before → CameIn (turns + 1) (before ++ take n buffer)
   pub end : n ≡ 0 → (before : List ℕ) → CameIn turns before → CameWhole before
 
-abbrev pub ReadsPiece : Read → ℕ → List ℕ → Type 0
-ReadsPiece (Bytes n) turns buffer = Piece n turns buffer
-ReadsPiece Failed turns buffer = Unit {0}
+abbrev pub ReadsPiece : Option ℕ → ℕ → List ℕ → Type 0
+ReadsPiece (Some n) turns buffer = Piece n turns buffer
+ReadsPiece None turns buffer = Unit {0}

@@ -11,7 +11,7 @@ ghost use Rattle.program_io.specs.Counts.{IsPrefixLen};
 ghost use Rattle.program_io.specs.More.{says, More};
 ghost use Rattle.program_io.specs.Pieces.{ReadsPiece};
 
-use scope::Answer;
+use scope::Refusal;
 use std::fs::{File, OpenOptions};
 use std::io::{Cursor, Write};
 use std::rt::Clock;
@@ -28,23 +28,6 @@ const BESIDE: [u8; 15] = *b"plan.bin.xxxxxx";
 
 // How many such names are tried.
 const TRIED: u64 = 238328;
-
-// How many bytes came, or that a read failed: an error is never an end.
-#[derive(Drop)]
-pub enum Read {
-    Bytes(usize),
-    Failed,
-}
-
-// What the answer of a read says of the bytes that it was handed: how many of them came, 0 at the end.
-fn said(got: io::Result<usize>, rest: &[u8]) -> Read
-    ensures { result ≡ says got (length rest.now) }
-{
-    let Ok(n) = got else {
-        return Read::Failed;
-    };
-    Read::Bytes(n.min(rest.len()))
-}
 
 // One read behind the first bytes of a buffer.
 fn read_more<R: io::Read>(source: &mut R, buf: &mut [u8], from: usize) -> io::Result<usize>
@@ -108,10 +91,7 @@ fn text(name: &[u8]) -> io::Result<&str> {
     if name.contains(&0) {
         return Err(io::Error::from_raw_os_error(INVALID));
     }
-    match str::from_utf8(name) {
-        Ok(text) => Ok(text),
-        Err(_) => Err(io::Error::from_raw_os_error(NO_TEXT)),
-    }
+    str::from_utf8(name).map_err(|_| io::Error::from_raw_os_error(NO_TEXT))
 }
 
 // The file of a name, to be read.
@@ -119,19 +99,20 @@ fn open(rt: &HostRuntime, name: &[u8]) -> io::Result<File> {
     File::open(rt, text(name)?)
 }
 
-// Reads the file of a name until the buffer is full or the file ends, and answers how many bytes it put at the buffer's start. A file that is
-// missing or cannot be read, or whose name is no text, which `std` opens no file by, counts as empty, and a line on standard error says which.
+// Reads the file of a name until the buffer is full or the file ends.
+fn read_file(rt: &HostRuntime, name: &[u8], buf: &mut [u8]) -> io::Result<usize>
+    ensures { More result 0 buf.new }
+{
+    let mut file = open(rt, name)?;
+    read_all(&mut file, buf)
+}
+
+// Reads a file in this way, and answers how many bytes it put at the buffer's start. A file that is missing or cannot be read, or whose name is
+// no text, which `std` opens no file by, counts as empty, and a line on standard error says which.
 pub fn read_named(rt: &HostRuntime, program: &[u8], name: &[u8], buf: &mut [u8]) -> usize
     ensures { Came (named name.now) result buf.new × IsPrefixLen result buf.new }
 {
-    let mut file = match open(rt, name) {
-        Ok(file) => file,
-        Err(why) => {
-            tell_empty(rt, program, name, why);
-            return 0;
-        }
-    };
-    match read_all(&mut file, buf) {
+    match read_file(rt, name, buf) {
         Ok(n) => n,
         Err(why) => {
             tell_empty(rt, program, name, why);
@@ -147,48 +128,43 @@ pub fn read_plan(rt: &HostRuntime, program: &[u8], buf: &mut [u8]) -> usize
     read_named(rt, program, b"plan.bin", buf)
 }
 
-// A read of standard input that failed: a line on standard error says why.
-fn tell_input(rt: &HostRuntime, name: &[u8], got: io::Result<usize>) {
-    if let Err(why) = got {
-        tell(rt, name, b": standard input cannot be read", why);
+// What a read of standard input says of the bytes that it was handed: how many of them came, 0 at the end. An error is never an end: there is
+// no count, and a line on standard error says why.
+fn said(rt: &HostRuntime, name: &[u8], got: io::Result<usize>, rest: &[u8]) -> Option<usize>
+    ensures { result ≡ says got (length rest.now) }
+{
+    match got {
+        Ok(n) => Some(n.min(rest.len())),
+        Err(why) => {
+            tell(rt, name, b": standard input cannot be read", why);
+            None
+        }
     }
 }
 
 // Reads standard input in the same way. A read that fails is no end of it: a line on standard error says so, and there is no count.
-pub fn read_input(rt: &HostRuntime, name: &[u8], buf: &mut [u8]) -> Read
+pub fn read_input(rt: &HostRuntime, name: &[u8], buf: &mut [u8]) -> Option<usize>
     ensures { Reads result buf.new }
 {
     let got = read_all(&mut rt.stdin(), buf);
-    match said(got, buf) {
-        Read::Bytes(n) => Read::Bytes(n),
-        Read::Failed => {
-            tell_input(rt, name, got);
-            Read::Failed
-        }
-    }
+    said(rt, name, got, buf)
 }
 
 // One read of standard input, after `turn` others: as many bytes as came, at least one, or none at its end.
 // A read that fails is no end of it, as above. Only the promise looks at `turn`: what came is what came in all turns before, and this piece.
-pub fn read_piece(rt: &HostRuntime, name: &[u8], turn: u64, buf: &mut [u8]) -> Read
+pub fn read_piece(rt: &HostRuntime, name: &[u8], turn: u64, buf: &mut [u8]) -> Option<usize>
     requires { 0 < length buf.old }
     ensures { ReadsPiece result turn buf.new }
 {
-    let got = read_more(&mut rt.stdin(), buf, 0);
-    match said(got, buf) {
-        Read::Bytes(came) => Read::Bytes(came),
-        Read::Failed => {
-            tell_input(rt, name, got);
-            Read::Failed
-        }
-    }
+    let piece = read_more(&mut rt.stdin(), buf, 0);
+    said(rt, name, piece, buf)
 }
 
 // As many bytes of a buffer as an answer says, in one go, on standard output.
-fn write_answer(rt: &HostRuntime, answer: Answer, buf: &[u8]) -> io::Result<()>
+fn write_answer(rt: &HostRuntime, answer: Result<usize, Refusal>, buf: &[u8]) -> io::Result<()>
     ensures { OnOk result (Prints true answer buf.now) }
 {
-    if let Answer::Gives(n) = answer {
+    if let Ok(n) = answer {
         if n <= buf.len() {
             return io::Print::write_all(&rt.stdout(), &buf[..n]);
         }
@@ -198,7 +174,7 @@ fn write_answer(rt: &HostRuntime, answer: Answer, buf: &[u8]) -> io::Result<()>
 
 // Writes as many bytes of a buffer as an answer says, in one go, on standard output: whether all were written. Where they were not, a line
 // on standard error says so.
-pub fn print(rt: &HostRuntime, name: &[u8], answer: Answer, buf: &[u8]) -> bool
+pub fn print(rt: &HostRuntime, name: &[u8], answer: Result<usize, Refusal>, buf: &[u8]) -> bool
     ensures { Prints result answer buf.now }
 {
     match write_answer(rt, answer, buf) {
@@ -210,11 +186,11 @@ pub fn print(rt: &HostRuntime, name: &[u8], answer: Answer, buf: &[u8]) -> bool
     }
 }
 
-// The second that the clock shows, -1 where it cannot be read.
-pub fn seconds(rt: &HostRuntime) -> i64 {
+// The second that the clock shows, if it can be read.
+pub fn seconds(rt: &HostRuntime) -> Option<u64> {
     match rt.since_1970() {
-        Ok(now) => now.as_secs().cast_signed(),
-        Err(_) => -1,
+        Ok(now) => Some(now.as_secs()),
+        Err(_) => None,
     }
 }
 
@@ -280,10 +256,7 @@ fn save_beside(rt: &HostRuntime, plan: &[u8]) -> io::Result<()> {
     let mut path = BESIDE;
     let file = new_file(rt, &mut path)?;
     let path = str::from_utf8(&path).unwrap_or("");
-    let saved = match fill(file, plan) {
-        Ok(()) => take_name(rt, path),
-        Err(why) => Err(why),
-    };
+    let saved = fill(file, plan).and_then(|()| take_name(rt, path));
     if saved.is_err() {
         let _ = fs::remove_file(rt, path);
     }

@@ -9,21 +9,19 @@ ghost use Rattle.listing.specs.Prints.{Front, Printed};
 ghost use Rattle.listing.specs.Room.{listing_room};
 ghost use Rattle.program_io.specs.Came.{Came, plan_file, standard_input};
 
-use program_io::Read;
-use scope::{Answer, limits};
+use scope::{Refusal, limits};
 
 // What is printed for what was read, the first p bytes of one buffer and the first i of the other: the text of the whole plan file and the
 // whole input, however long they are.
-fn text(plan: &[u8], p: usize, input: &[u8], i: usize, out: &mut [u8]) -> Answer
+fn text(plan: &[u8], p: usize, input: &[u8], i: usize, out: &mut [u8]) -> Result<usize, Refusal>
     requires came { Came plan_file p plan.now × Came standard_input i input.now }
     requires plan_len { (length plan.now ≡ plan_room) × (length input.now ≡ cuts_room) × (length out.old ≡ listing_room) }
     ensures { (file cuts : List ℕ) → Front plan.now p file → Front input.now i cuts →
         Printed (replay_text file cuts) out.old out.new result }
 {
-    let answer = replay_text::replay_text(&plan[..p], &input[..i], out);
-    match answer {
-        Answer::Gives(n) => Answer::Gives(n),
-        Answer::Refused(refusal) => listing::refusal_text(refusal, out),
+    match replay_text::replay_text(&plan[..p], &input[..i], out) {
+        Ok(n) => Ok(n),
+        Err(refusal) => listing::refusal_text(refusal, out),
     }
 }
 
@@ -32,8 +30,7 @@ fn main(rt: HostRuntime) {
     let mut input = [0u8; limits::CUTS_ROOM];
     let mut out = [0u8; listing::ROOM];
     let p = program_io::read_plan(&rt, b"replay", &mut plan);
-    let read = program_io::read_input(&rt, b"replay", &mut input);
-    if let Read::Bytes(i) = read {
+    if let Some(i) = program_io::read_input(&rt, b"replay", &mut input) {
         let answer = text(&plan, p, &input, i, &mut out);
         program_io::print(&rt, b"replay", answer, &out);
     }

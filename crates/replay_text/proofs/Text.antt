@@ -7,8 +7,8 @@ use native.Mathlib.Omega.{arith}
 use native.Mathlib.Nat.{mul_assoc}
 use lib.ListN.{length, get_or, take, drop, length-append, get_or-append}
 use lib.Seq.{take_all, take_at}
-use Rattle.scope.specs.declared.Answer.{Answer}
-use Rattle.scope.specs.declared.Answer.TheVariants.{Gives, Refused}
+use Rattle.scope.specs.Outcome.{Answer}
+use Rattle.std.specs.Prelude.{Ok, Err}
 use Rattle.scope.specs.declared.Refusal.{Refusal}
 use Rattle.scope.specs.Outcome.{Outcome, outcome_of, gives, refused}
 use Rattle.scope.specs.Plan.{Plan, plan_of}
@@ -57,15 +57,15 @@ played_text row cuts entry exit r l h =
 
 -- a replay that gave n arrivals, and one that was refused
 module _ (row cuts entry exit : List ℕ) (a : Answer) (l : length entry ≡ longest_events) (h : Replays row cuts entry exit a) where
-  pub played_given : (n : ℕ) → a ≡ Gives n → {out out' : List ℕ} {r : Answer} → Prints (listing (gives n) (plan_of row) exit) out out' r →
+  pub played_given : (n : ℕ) → a ≡ Ok n → {out out' : List ℕ} {r : Answer} → Prints (listing (gives n) (plan_of row) exit) out out' r →
       Says (replay row cuts longest_events) (text_of row cuts) out out' r
   played_given n e p =
       let o : outcome_of a ≡ gives n = ap outcome_of e in
       says_given n (ap (replay row cuts) (sym l) ∙ sym h.answer ∙ o)
       (prints_as (ap (λ (o : Outcome). listing o (plan_of row) exit) (sym o) ∙ played_text row cuts entry exit a l h) p)
 
-  pub played_refused : (r : Refusal) → a ≡ Refused r → (out : List ℕ) → Says (replay row cuts longest_events)
-      (text_of row cuts) out out (Refused r)
+  pub played_refused : (r : Refusal) → a ≡ Err r → (out : List ℕ) → Says (replay row cuts longest_events)
+      (text_of row cuts) out out (Err r)
   played_refused r e out =
       says-refused (text_of row cuts) out r (ap (replay row cuts) (sym l) ∙ sym h.answer ∙ ap outcome_of e)
 

@@ -7,7 +7,7 @@ use native.Mathlib.Omega.{arith}
 use lib.ListN.{length, get_or, take}
 use lib.Seq.{take-take}
 use borrow.Author.Tests.{le-leb}
-use Rattle.scope.specs.declared.Answer.{Answer}
+use Rattle.scope.specs.Outcome.{Answer}
 use Rattle.scope.specs.Outcome.{Outcome, gives, refused, outcome_of, and_then}
 use Rattle.scope.specs.File.{row_of}
 use Rattle.scope.specs.Plan.{plan_of}

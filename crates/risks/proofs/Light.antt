@@ -1,14 +1,8 @@
 -- A link that is not worth a cut leads to no list that is sought: neither in its slot nor in a later one, with as many pairs after it as were
 -- counted or with fewer. Nor do pairs picked after which all is in vain.
-use Prim.Native.Nat.{ℕ, zero, suc, ◌+◌, ◌-◌, ◌*◌, ◌≤◌, ◌<◌}
-use native.Mathlib.Omega.{arith}
-use native.Mathlib.Nat.{mul-le-mul_right}
-use mathlib.Core.Path.{◌≡◌, refl}
-use mathlib.Core.Bool.{Bool, true, false, not, ◌&&◌, cond}
-use mathlib.Core.List.{List, [], ◌∷◌, ◌++◌}
-use lib.ListN.{length}
-use lib.Dec.{ltb, eqb}
-use borrow.Author.Tests.{eqb-true, ne_eqb, ltb-true, ltb-false, not-false}
+use Rattle.std.proofs.Common.{ℕ, zero, suc, ◌+◌, ◌-◌, ◌*◌, ◌≤◌, ◌<◌, arith, mul-le-mul_right, ◌≡◌, refl, Bool, true, false, not, ◌&&◌, cond, List, []}
+use Rattle.std.proofs.Common.{◌∷◌, ◌++◌, length, ltb, eqb, eqb-true, ne_eqb, ltb-true, ltb-false}
+use borrow.Author.Tests.{not-false}
 use Rattle.scope.specs.Limits.{most_links}
 use Rattle.scope.specs.Lowest.{seek}
 use Rattle.scope.specs.Plan.{plan_of}
@@ -27,7 +21,7 @@ use Rattle.picks.specs.Picks.{cuts_of, Playable, Holding}
 use Rattle.picks.proofs.Picking.{closed_already}
 use Rattle.risks.specs.declared.Risk.{Risk}
 use Rattle.risks.specs.declared.Rest.{Rest}
-use Rattle.risks.specs.Weighed.{rest_of, loss_of, loss_with, too_light, in_vain, passes, Counted, Leaves}
+use Rattle.risks.specs.Weighed.{rest_of, loss_with, too_light, in_vain, passes, Counted, Leaves}
 use Rattle.risks.proofs.Weigh.{which, too_light_lem, all_too_light}
 
 -- the next link found is a later one
@@ -70,12 +64,12 @@ module _ (row table weights most : List ℕ) (z : Sizes) (p : Picked) (Answers :
               few,
             )
 
-    light_pairs : (j k : ℕ) → j ≤ k → too_light need (loss_of (rest_of risk k most s)) ≡ true → (x : List ℕ) → length x ≡ 2 * j →
+    light_pairs : (j k : ℕ) → j ≤ k → too_light need (rest_of risk k most s).loss ≡ true → (x : List ℕ) → length x ≡ 2 * j →
         Not (plan_of row) Answers (cuts_of p ++ x)
     light_pairs j k fewer light x long good it =
         let plan = plan_of row in
         let later = not_earlier j x long good it in
-        which ⊥ need (loss_of (rest_of risk k most s)) light
+        which ⊥ need (rest_of risk k most s).loss light
         (λ less.
         all_too_light plan Answers need (harmed plan) (weight_in weights 0) (top_in most 0) bounds.touches few (cuts_of p) x p.count j k s
         h.chosen.long long fewer early later (omega (arith, less, v.touched)) good it)
@@ -146,7 +140,7 @@ module _ (row table weights most : List ℕ) (z : Sizes) (p : Picked) (Answers :
         -- too few can be stripped: by one last pair that touches enough, or by any
         strips_light : (t : Bool) → eqb rest.pairs 1 ≡ t →
             cond t (rest.stripped + weight_in weights 1 s b + front_in most s (need - (rest.touched + weight_in weights 0 s b)))
-            (rest.strips + weight_in weights 1 s b) <
+            (rest.loss.strips + weight_in weights 1 s b) <
             need → Not (plan_of row) Answers (cuts_of p ++ i ∷ b ∷ x)
         strips_light true one less = last_light j refl less (omega (arith, v.pairs, eqb-true rest.pairs 1 one))
         strips_light false one less = any_strips (omega (arith, less, v.strips, tops (top_in most 1 s)))

@@ -1,14 +1,9 @@
 -- The sets hold every message that the pairs picked touch and strip, so no fewer messages are counted at risk.
-use Prim.Native.Nat.{ℕ, ◌+◌, ◌*◌, ◌≤◌, ◌<◌}
-use native.Mathlib.Omega.{arith}
-use mathlib.Core.Path.{◌≡◌, refl, sym, ◌∙◌, ap, ap₂}
-use mathlib.Core.Bool.{Bool, true, false, cond, not, ◌&&◌, ◌||◌, and-true, and-false, or-true, or-false, and-eq-true_iff}
-use mathlib.Core.List.{List, [], ◌∷◌, ◌++◌}
-use lib.ListN.{length, get_or, take, get_or-map}
-use lib.Seq.{get_or-take}
-use lib.Dec.{ltb, eqb}
-use lib.Arith.{lt_of_le-ne}
-use borrow.Author.Tests.{ltb-true, ltb-false, eqb-true, eqb-false, lt-ltb, le-ltb}
+use Rattle.std.proofs.Common.{ℕ, ◌+◌, ◌*◌, ◌≤◌, ◌<◌, arith, ◌≡◌, refl, sym, ◌∙◌, ap, ap₂, Bool, true, false, not, ◌&&◌, ◌||◌, List, [], ◌∷◌}
+use Rattle.std.proofs.Common.{◌++◌, length, get_or, take, get_or-take, ltb, eqb, ltb-true, lt-ltb}
+use Rattle.std.proofs.lemmas.Bool.Decides.{nat_tests}
+use mathlib.Core.Bool.{and-eq-true_iff}
+use lib.ListN.{get_or-map}
 use Rattle.scope.specs.Limits.{most_cuts, most_messages, most_slots, tops_size}
 use Rattle.scope.specs.Plan.{Plan, plan_of, places_at}
 use Rattle.scope.specs.Slot as S
@@ -24,13 +19,11 @@ use Rattle.step.proofs.Steps.{home-is}
 use Rattle.step.specs.declared.Standing.{Standing}
 use Rattle.step.specs.Stand.{home}
 use Rattle.sets.specs.Sums.{sum_of, one_if}
-use Rattle.sets.specs.Sets.{has, size, IsOneIf, IsEither, IsBoth}
+use Rattle.sets.specs.Sets.{has, size, IsBoth}
 use Rattle.sets.proofs.Sums.{sum_le, sum_same, sum-fewer, tests_few}
-use Rattle.sets.proofs.Sets.{has-none}
 use Rattle.losses.specs.Touch.{harm, on_cable}
 use Rattle.losses.specs.Harmed.{hers_on, hers, is_touched, stands, away}
 use Rattle.losses.specs.Strips.{strips_on, strips, is_stripped, lost}
-use Rattle.table.specs.Table.{index_of}
 use Rattle.bound.specs.Sets.{set_in}
 use Rattle.losses.proofs.Parts.{harm-both}
 use Rattle.losses.proofs.OneCable.{hers-most, strips-most}
@@ -41,7 +34,7 @@ use Rattle.risks.specs.declared.Hits.{Hits}
 use Rattle.risks.specs.declared.Risk.{Risk}
 use Rattle.risks.specs.declared.Rest.{Rest}
 use Rattle.risks.specs.Weighed.{no_hits, rest_of, Fits, Hittable, AreAway, Covers, Counted, Leaves}
-use Rattle.risks.specs.Risks.{count_in, risks_of, IsHitIn, IsHit, MayWeigh}
+use Rattle.risks.specs.Risks.{count_in, risks_of, IsHit, MayWeigh}
 
 -- what one pair weighs
 one_pair : (weight : ℕ → ℕ → ℕ) (s e : ℕ) → harm weight (s ∷ e ∷ []) 1 ≡ weight s e
@@ -52,7 +45,7 @@ one_pair weight s e = let z : 0 + weight s e ≡ weight s e = omega arith in z
 hit-more : (weight : ℕ → ℕ → ℕ) (cuts : List ℕ) (d s e : ℕ) (old pair new : Bool) → length cuts ≡ 2 * d → (0 < weight s e → pair ≡ true) →
     (ltb 0 (harm weight cuts (pairs cuts)) ≡ true → old ≡ true) → new ≡ (old || pair) →
     ltb 0 (harm weight (cuts ++ s ∷ e ∷ []) (pairs (cuts ++ s ∷ e ∷ []))) ≡ true → new ≡ true
-hit-more weight cuts d s e old pair new long there before is some = is ∙ by (ltb 0 (harm weight cuts (pairs cuts))) refl
+hit-more weight cuts d s e old pair new long there before is some = grind (arith, nat_tests, both, there, before)
   where
     count : pairs cuts ≡ d
     count = omega arith
@@ -61,13 +54,6 @@ hit-more weight cuts d s e old pair new long there before is some = is ∙ by (l
     both =
         ap (harm weight (cuts ++ s ∷ e ∷ [])) (pairs-both cuts (s ∷ e ∷ []) d long 1 refl) ∙ harm-both weight cuts (s ∷ e ∷ []) d long 1 ∙
         ap₂ (λ (n x : ℕ). harm weight cuts n + x) (sym count) (one_pair weight s e)
-
-    by : (b : Bool) → ltb 0 (harm weight cuts (pairs cuts)) ≡ b → (old || pair) ≡ true
-    by true q = rw (before q)
-    by false q =
-        let none = ltb-false 0 (harm weight cuts (pairs cuts)) q in
-        let all = ltb-true 0 (harm weight (cuts ++ s ∷ e ∷ []) (pairs (cuts ++ s ∷ e ∷ []))) some in
-        rw (there (omega (arith, both))) (or-true old)
 
 -- nobody is hit by no pair
 pub covers-none : (row : List ℕ) → Covers row [] no_hits
@@ -78,25 +64,10 @@ covers-none row =
       stripped = λ m l z. absurd (omega (arith, ltb-true 0 0 z));
     }
 
--- with one pair more, from the sets at the indices of its cable's links
-pub hit_in : (sets : List ℕ) (s e o k j old pair new : ℕ) → k ≡ index_of s e → j ≡ index_of s o →
-    IsEither (get_or sets k 0) (get_or sets j 0) pair → IsEither old pair new → IsHitIn sets s e o old new
-hit_in sets s e o k j old pair new p q a b m =
-    let there : (i f : ℕ) → i ≡ index_of s f → has (get_or sets i 0) m ≡ has (set_in sets s f) m =
-    λ i f is. ap (λ (n : ℕ). has (get_or sets n 0) m) is in
-    b m ∙ ap (λ (x : Bool). has old m || x) (a m ∙ ap₂ ◌||◌ (there k e p) (there j o q))
-
 -- whom a pair hits is hit on one of its cable's links
 on_one : (plan : Plan) (e : ℕ) → e < length plan.links → (count : ℕ → ℕ) (hit : ℕ → Bool) →
     ((d : ℕ) → d < length plan.links → 0 < count d → hit d ≡ true) → 0 < on_cable plan e count → (hit e || hit (other_way plan e)) ≡ true
-on_one plan e there count hit on = by (ltb 0 (count e)) refl (ltb e (other_way plan e))
-  where
-    by : (b : Bool) → ltb 0 (count e) ≡ b → (t : Bool) → 0 < count e + cond t (count (other_way plan e)) 0 →
-        (hit e || hit (other_way plan e)) ≡ true
-    by true q t some = rw (on e there (ltb-true 0 (count e) q))
-    by false q true some =
-        rw (on (other_way plan e) (other-below plan e there) (omega (arith, ltb-false 0 (count e) q))) (or-true (hit e))
-    by false q false some = absurd (omega (arith, ltb-false 0 (count e) q))
+on_one plan e there count hit on some = grind (arith, nat_tests, on e there, on (other_way plan e) (other-below plan e there))
 
 -- one pair more
 pub covers_more : (row touch_sets strip_sets : List ℕ) (z : Sizes) (cuts : List ℕ) (d s e : ℕ) (old new : Hits) →
@@ -124,8 +95,7 @@ covers_more row touch_sets strip_sets z cuts d s e old new y ways long early the
 
 -- what is hit more is counted no less
 more-away : (a b c : Bool) → (a ≡ true → b ≡ true) → one_if (a && not c) ≤ one_if (b && not c)
-more-away true b c h = rw (h refl) (omega arith)
-more-away false b c h = omega arith
+more-away a b c h = grind (arith, h)
 
 module _ (row : List ℕ) (n : ℕ) (cuts : List ℕ) (s : ℕ) (st : Standing) (stand : StandAt row n cuts s st)
     (count : n ≡ length (plan_of row).messages) (set : ℕ) (are : AreAway st.positions n set) where
@@ -188,9 +158,9 @@ module _ (row : List ℕ) (n : ℕ) (cuts : List ℕ) (s : ℕ) (st : Standing) 
           touched = omega (arith, all.touched, ap (λ (l : Rest). l.touched) so);
           stripped = omega (arith, all.stripped, ap (λ (l : Rest). l.stripped) so);
           pairs = ap (λ (l : Rest). l.pairs) so;
-          touches = omega (arith, all.touched, ap (λ (l : Rest). l.touches) so);
-          strips = omega (arith, all.stripped, ap (λ (l : Rest). l.strips) so);
-          both = omega (arith, all.touched, all.stripped, ap (λ (l : Rest). l.both) so);
+          touches = omega (arith, all.touched, ap (λ (l : Rest). l.loss.touches) so);
+          strips = omega (arith, all.stripped, ap (λ (l : Rest). l.loss.strips) so);
+          both = omega (arith, all.touched, all.stripped, ap (λ (l : Rest). l.loss.both) so);
           fits = fits;
         }
 
@@ -223,35 +193,3 @@ at_risk_is hits away touched stripped hit lost r t s h l e f g =
     same : (x y z : ℕ) → x ≡ (risks_of hits away).touched → y ≡ (risks_of hits away).stripped → z ≡ (risks_of hits away).lost →
         ◌≡◌ {A = Risk} (record { touched = x; stripped = y; lost = z }) (risks_of hits away)
     same x y z a b c = rw (a, b, c)
-
--- the loop that gathers those away: of the messages below k it has them
-pub record Gathering (ps : List Position) (n k set : ℕ) : Type 0 where
-  pub few : k ≤ n
-  pub long : length ps ≡ most_messages
-  pub are : AreAway ps k set
-
-pub gathered_none : (ps : List Position) (n : ℕ) → length ps ≡ most_messages → Gathering ps n 0 0
-gathered_none ps n long =
-    record { few = omega arith; long = long; are = λ m. has-none m ∙ rw (le-ltb m 0 (omega arith)) }
-
-pub gathered_more : (ps : List Position) (n k set one new : ℕ) → Gathering ps n k set → k < n →
-    IsOneIf (not (eqb (get_or ps k home).left 0)) k one → IsEither set one new → Gathering ps n (k + 1) new
-gathered_more ps n k set one new g l is either = record { few = omega arith; long = g.long; are = more }
-  where
-    gone : ℕ → Bool
-    gone m = not (eqb (get_or ps m home).left 0)
-
-    -- by whether she is below k, or k herself
-    by : (m : ℕ) (b d : Bool) → ltb m k ≡ b → eqb m k ≡ d → ((b && gone m) || (gone k && d)) ≡ (ltb m (k + 1) && gone m)
-    by m true true h q = absurd (omega (arith, ltb-true m k h, eqb-true m k q))
-    by m true false h q = rw (lt-ltb m (k + 1) (omega (arith, ltb-true m k h)), and-false (gone k)) (or-false (gone m))
-    by m false true h q = rw (lt-ltb m (k + 1) (omega (arith, eqb-true m k q)), and-true (gone k)) (ap gone (sym (eqb-true m k q)))
-    by m false false h q =
-        let up : k < m = lt_of_le-ne (ltb-false m k h) (λ e. eqb-false m k q (sym e)) in
-        rw (le-ltb m (k + 1) (omega arith)) (and-false (gone k))
-
-    more : AreAway ps (k + 1) new
-    more m = either m ∙ rw (g.are m, is m) (by m (ltb m k) (eqb m k) refl refl)
-
-pub gathered : (ps : List Position) (n k set : ℕ) → Gathering ps n k set → n ≤ k → AreAway ps n set
-gathered ps n k set g l = let e : k ≡ n = omega (arith, g.few) in rw e at g.are

@@ -22,44 +22,43 @@ rest_of risk n most s =
       touched = risk.touched;
       stripped = risk.stripped;
       pairs = n;
-      touches = risk.touched + n * top_in most 0 s;
-      strips = risk.stripped + n * top_in most 1 s;
-      both = risk.touched + risk.stripped + n * top_in most 2 s;
+      loss =
+          record {
+            touches = risk.touched + n * top_in most 0 s;
+            strips = risk.stripped + n * top_in most 1 s;
+            both = risk.touched + risk.stripped + n * top_in most 2 s;
+          };
     }
 
 -- how many messages can be stripped with a pair of slot s that touches and strips so many: one last pair must touch what is then still wanting
 abbrev pub strips_with : Rest → List ℕ → ℕ → ℕ → ℕ → ℕ → ℕ
 strips_with rest most need s touches strips =
-    cond (eqb rest.pairs 1) (rest.stripped + strips + front_in most s (need - (rest.touched + touches))) (rest.strips + strips)
+    cond (eqb rest.pairs 1) (rest.stripped + strips + front_in most s (need - (rest.touched + touches))) (rest.loss.strips + strips)
 
 -- what can be lost with the pair (s, e)
 abbrev pub loss_with : Rest → List ℕ → List ℕ → ℕ → ℕ → ℕ → Loss
 loss_with rest weights most need s e =
     record {
-      touches = rest.touches + weight_in weights 0 s e;
+      touches = rest.loss.touches + weight_in weights 0 s e;
       strips = strips_with rest most need s (weight_in weights 0 s e) (weight_in weights 1 s e);
-      both = rest.both + weight_in weights 2 s e;
+      both = rest.loss.both + weight_in weights 2 s e;
     }
 
 -- what can be lost is no large number
 pub record Fits (rest : Rest) : Type 0 where
   pub touched : rest.touched ≤ 262144
   pub stripped : rest.stripped ≤ 262144
-  pub touches : rest.touches ≤ 262144
-  pub strips : rest.strips ≤ 262144
-  pub both : rest.both ≤ 262144
+  pub touches : rest.loss.touches ≤ 262144
+  pub strips : rest.loss.strips ≤ 262144
+  pub both : rest.loss.both ≤ 262144
 
 -- too few messages are touched, or stripped, or both together
 abbrev pub too_light : ℕ → Loss → Bool
 too_light need loss = ltb loss.touches need || ltb loss.strips need || ltb loss.both (2 * need)
 
--- what can be lost without one pair more
-abbrev pub loss_of : Rest → Loss
-loss_of rest = record { touches = rest.touches; strips = rest.strips; both = rest.both }
-
 -- no list with n pairs more from slot s on can answer: with none it loses too few, and with some not even the heaviest pairs lose enough
 abbrev pub in_vain : Risk → ℕ → List ℕ → ℕ → ℕ → Bool
-in_vain risk n most need s = cond (eqb n 0) (ltb risk.lost need) (too_light need (loss_of (rest_of risk n most s)))
+in_vain risk n most need s = cond (eqb n 0) (ltb risk.lost need) (too_light need (rest_of risk n most s).loss)
 
 -- a link that may still be named, and with which a list can answer where so much is lost besides
 abbrev pub passes : List ℕ → List ℕ → List ℕ → ℕ → Rest → ℕ → ℕ → Bool
@@ -98,7 +97,7 @@ pub record Leaves (row cuts most : List ℕ) (s k : ℕ) (rest : Rest) : Type 0 
   pub touched : harmed (plan_of row) cuts s ≤ rest.touched
   pub stripped : bared (plan_of row) cuts s ≤ rest.stripped
   pub pairs : rest.pairs ≡ k
-  pub touches : harmed (plan_of row) cuts s + k * top_in most 0 s ≤ rest.touches
-  pub strips : bared (plan_of row) cuts s + k * top_in most 1 s ≤ rest.strips
-  pub both : harmed_and_bared (plan_of row) cuts s + k * top_in most 2 s ≤ rest.both
+  pub touches : harmed (plan_of row) cuts s + k * top_in most 0 s ≤ rest.loss.touches
+  pub strips : bared (plan_of row) cuts s + k * top_in most 1 s ≤ rest.loss.strips
+  pub both : harmed_and_bared (plan_of row) cuts s + k * top_in most 2 s ≤ rest.loss.both
   pub fits : Fits rest

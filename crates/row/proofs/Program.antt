@@ -4,8 +4,8 @@ use mathlib.Core.Path.{◌≡◌}
 use mathlib.Core.List.{List}
 use native.Mathlib.Omega.{arith}
 use lib.ListN.{length, take}
-use Rattle.scope.specs.declared.Answer.{Answer}
-use Rattle.scope.specs.declared.Answer.TheVariants.{Gives, Refused}
+use Rattle.scope.specs.Outcome.{Answer}
+use Rattle.std.specs.Prelude.{Ok, Err}
 use Rattle.scope.specs.declared.Refusal.{Refusal}
 use Rattle.scope.specs.Limits.{plan_room, longest_row}
 use Rattle.scope.specs.Questions.{read_file}
@@ -21,11 +21,11 @@ module _ (plan : List ℕ) (p : ℕ) (entry exit : List ℕ) (a : Answer) (l : l
   fits : length (row_text (take p plan)) ≤ length entry
   fits = omega (arith, text-room (take p plan))
 
-  pub given : (n : ℕ) → a ≡ Gives n → (file : List ℕ) → Front plan p file → Printed (row_text file) entry exit (Gives n)
+  pub given : (n : ℕ) → a ≡ Ok n → (file : List ℕ) → Front plan p file → Printed (row_text file) entry exit (Ok n)
   given n e file f =
       printed_given (row_text (take p plan)) entry fits (read_file (take p plan) longest_row) (row_text file) (front plan file p l f) a s n e
 
-  pub refuses : (r : Refusal) → a ≡ Refused r → (exit' : List ℕ) (b : Answer) → Prints (refused_line r) exit exit' b →
+  pub refuses : (r : Refusal) → a ≡ Err r → (exit' : List ℕ) (b : Answer) → Prints (refused_line r) exit exit' b →
       (file : List ℕ) → Front plan p file → Printed (row_text file) entry exit' b
   refuses r e exit' b q file f =
       printed-refused (row_text (take p plan)) entry fits (read_file (take p plan) longest_row) (row_text file) (front plan file p l f) a s r e

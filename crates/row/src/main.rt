@@ -8,17 +8,16 @@ ghost use Rattle.listing.specs.Prints.{Front, Printed};
 ghost use Rattle.row_text.specs.Rows.{row_text, row_text_room};
 ghost use Rattle.program_io.specs.Came.{Came, plan_file};
 
-use scope::{Answer, limits};
+use scope::{Refusal, limits};
 
 // What is printed for what was read, the first p bytes of a buffer: the text of the whole plan file, however long it is.
-fn text(plan: &[u8], p: usize, out: &mut [u8]) -> Answer
+fn text(plan: &[u8], p: usize, out: &mut [u8]) -> Result<usize, Refusal>
     requires { Came plan_file p plan.now × (length plan.now ≡ plan_room) × (length out.old ≡ row_text_room) }
     ensures { (file : List ℕ) → Front plan.now p file → Printed (row_text file) out.old out.new result }
 {
-    let answer = row_text::row_text(&plan[..p], out);
-    match answer {
-        Answer::Gives(n) => Answer::Gives(n),
-        Answer::Refused(refusal) => listing::refusal_text(refusal, out),
+    match row_text::row_text(&plan[..p], out) {
+        Ok(n) => Ok(n),
+        Err(refusal) => listing::refusal_text(refusal, out),
     }
 }
 

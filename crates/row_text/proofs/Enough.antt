@@ -9,8 +9,8 @@ use lib.ListN.{length, get_or, take, length-take}
 use lib.Seq.{take_all}
 use lib.Dec.{ltb}
 use borrow.Author.Tests.{ltb-true, leb-true}
-use Rattle.scope.specs.declared.Answer.{Answer}
-use Rattle.scope.specs.declared.Answer.TheVariants.{Gives}
+use Rattle.scope.specs.Outcome.{Answer}
+use Rattle.std.specs.Prelude.{Ok}
 use Rattle.scope.specs.Lines.{is_digit}
 use Rattle.scope.proofs.Bools.{and_left, and_right}
 use Rattle.text.specs.Reading.{goes_on}
@@ -106,7 +106,7 @@ packs_whole text entry exit n r l w = record { all = λ whole f. written whole (
         (same _ _ (ap numbers_of front) w)
 
 -- and lies within the bytes that it is written to, since what was read is the front of itself
-pub packs_within : (text entry exit : List ℕ) (n : ℕ) (r : Answer) → Packs text n entry exit r → (bytes : ℕ) → r ≡ Gives bytes →
+pub packs_within : (text entry exit : List ℕ) (n : ℕ) (r : Answer) → Packs text n entry exit r → (bytes : ℕ) → r ≡ Ok bytes →
     bytes ≤ length exit
 packs_within text entry exit n r p bytes e =
     let front : Front text n (take n text) = sym (take_all (length text) (take n text) (omega (arith, length-take n text))) in

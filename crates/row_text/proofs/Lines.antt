@@ -18,9 +18,6 @@ drop_more row i h = rw (add-one, drop-cons row i 0)
 pub mark-more : (row : List ℕ) (i : ℕ) → i + 1 < length row → 32 ≡ mark (drop (i + 1) row)
 mark-more row i h = ap mark (sym (drop_more row (i + 1) h))
 
-pub mark-last : (row : List ℕ) (i : ℕ) → length row ≤ i + 1 → 10 ≡ mark (drop (i + 1) row)
-mark-last row i h = ap mark (sym (drop_of_length-le row h))
-
 pub line-more : (row : List ℕ) (i n m : ℕ) → i < length row → n ≡ get_or row i 0 → m ≡ mark (drop (i + 1) row) →
     row_line (drop i row) ≡ (decimal n ++ (m ∷ [])) ++ row_line (drop (i + 1) row)
 unfolding row_line

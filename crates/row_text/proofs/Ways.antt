@@ -1,11 +1,14 @@
 -- One law for each way out of a function of this crate, from what its callees ensure.
-use Prim.Native.Nat.{ℕ, ◌+◌, ◌≤◌, ◌<◌, ◌^◌}
-use mathlib.Core.Path.{◌≡◌, sym, ◌∙◌, ap, subst}
+use Prim.Native.Nat.{ℕ, ◌+◌, ◌≤◌, ◌<◌, ◌^◌, min}
+use mathlib.Core.Path.{◌≡◌, refl, sym, ◌∙◌, ap}
+use mathlib.Core.Bool.{Bool, true, false}
 use mathlib.Core.List.{List, [], ◌++◌, append-nil}
 use native.Mathlib.Omega.{arith}
 use lib.ListN.{length, take, drop, take-append-drop, drop_of_length-le}
-use lib.Seq.{take_at, length-take-le}
-use Rattle.scope.specs.declared.Answer.{Answer}
+use lib.Seq.{take_at, take_all, length-take-le}
+use lib.Dec.{leb}
+use borrow.Author.Tests.{leb-true, leb-false}
+use Rattle.scope.specs.Outcome.{Answer}
 use Rattle.scope.specs.declared.Refusal.{Refusal}
 use Rattle.scope.specs.Outcome.{gives, refused}
 use Rattle.scope.specs.File.{row_of}
@@ -62,14 +65,20 @@ module _ {s b c : List ℕ} {n : ℕ} (p : Puts s b c 0 n) where
 
 -- packing a text whose numbers were laid over a buffer of one number more than the longest row has
 module _ {s b c : List ℕ} {n : ℕ} (p : Puts s b c 0 n) (l : length b ≡ 10406) where
-  pub packs_fit : n ≤ 10406 → n ≤ length c
-  packs_fit h = omega (arith, laid_kept p)
+  pub packs : {entry exit : List ℕ} {r : Answer} → Writes (take (min n 10406) c) entry exit r → Writes s entry exit r
+  packs {entry} {exit} {r} w = by (leb n 10406) refl
+    where
+      all : n ≤ 10406 → take (min n 10406) c ≡ s
+      all h = let e : min n 10406 ≡ n = omega arith in rw e (laid-all p (omega arith))
 
-  pub packs_all : {entry exit : List ℕ} {r : Answer} → n ≤ 10406 → Writes (take n c) entry exit r → Writes s entry exit r
-  packs_all h w = let e : take n c ≡ s = laid-all p (omega arith) in rw e at w
+      front : 10406 < n → take (min n 10406) c ≡ take 10406 s
+      front h =
+          let e : min n 10406 ≡ 10406 = omega arith in
+          rw e (take_all 10406 c (omega (arith, laid_kept p)) ∙ laid-some p (omega arith) ∙ ap (λ (k : ℕ). take k s) l)
 
-  pub packs_front : {entry exit : List ℕ} {r : Answer} → 10406 < n → Writes c entry exit r → Writes s entry exit r
-  packs_front {entry} {exit} {r} h w =
-      let e = p.ends in
-      writes-front s entry (omega arith) exit r
-      (subst (λ (row : List ℕ). Writes row entry exit r) (laid-some p (omega arith) ∙ ap (λ (k : ℕ). take k s) l) w)
+      by : (t : Bool) → leb n 10406 ≡ t → Writes s entry exit r
+      by true t = rw (all (leb-true n 10406 t)) at w
+      by false t =
+          let e = p.ends in
+          let h = leb-false n 10406 t in
+          writes-front s entry (omega arith) exit r (rw (front h) at w)

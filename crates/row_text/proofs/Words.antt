@@ -11,7 +11,7 @@ use borrow.Author.Tests.{lt-ltb, le-ltb}
 use Rattle.scope.specs.Lines.{byte_at}
 use Rattle.text.specs.Reading.{goes_on, size_at, value_at, Reads}
 use Rattle.text.specs.declared.Number.{Number}
-use Rattle.text.proofs.Read.{run_along, number_stops}
+use Rattle.text.proofs.Read.{run_along, number_stops, number_read, read_here}
 use Rattle.row_text.specs.Rows.{ends, no_number, numbers_from}
 use Rattle.row_text.proofs.Lines.{drop_more}
 
@@ -60,16 +60,16 @@ module _ (text : List ℕ) (i : ℕ) (r : Number) (p : Reads 65535 text i r) whe
       let byte : get_or (drop i text) size 0 ≡ byte_at text r.next = get_or-drop i text size 0 ∙ ap (byte_at text) (sym n) in
       rw (p.value, ← byte, ← e) (number_stops 65535 false 0 (drop i text) (omega arith))
 
-  pub word_none : i < length text → r.next ≡ i → numbers_from false 0 (drop i text) ≡ (no_number ∷ []) ++ []
+  word_none : i < length text → r.next ≡ i → numbers_from false 0 (drop i text) ≡ (no_number ∷ []) ++ []
   word_none h e =
       let n = p.next in
       let none : ltb 0 size ≡ false = le-ltb 0 size (omega arith) in
       along false none ∙ from-bad text false r.value r.next (omega arith) (byte_at text r.next) refl
       (stops false none (omega arith)) refl
 
-  module _ (some : r.next ≡ i → ⊥) where
+  module _ (some : 0 < size_at 65535 text i) where
     begun : ltb 0 size ≡ true
-    begun = let n = p.next in lt-ltb 0 size (omega arith)
+    begun = lt-ltb 0 size some
 
     pub word_last : length text ≤ r.next → numbers_from false 0 (drop i text) ≡ (r.value ∷ []) ++ []
     word_last h = along true begun ∙ from_last text true r.value r.next h refl
@@ -80,3 +80,7 @@ module _ (text : List ℕ) (i : ℕ) (r : Number) (p : Reads 65535 text i r) whe
 
       pub word_bad : ends true b ≡ false → numbers_from false 0 (drop i text) ≡ (no_number ∷ []) ++ []
       word_bad e = along true begun ∙ from-bad text true r.value r.next h b is (rw is (stops true begun h)) e
+
+-- and where there is none
+pub no_word : (text : List ℕ) (i : ℕ) → i < length text → size_at 65535 text i ≡ 0 → numbers_from false 0 (drop i text) ≡ (no_number ∷ []) ++ []
+no_word text i h z = word_none text i (number_read 65535 text i) (read_here 65535 text i) h (omega arith)

@@ -1,6 +1,6 @@
 -- A row as a line of decimals, and the row that a text says: what the programs `row` and `pack` print and read.
 use Rattle.std.specs.Prelude.{ℕ, ◌+◌, ◌-◌, ◌*◌, Bool, true, false, cond, ◌&&◌, ◌||◌, List, [], ◌∷◌, ◌++◌, eqb}
-use Rattle.scope.specs.declared.Answer.{Answer}
+use Rattle.scope.specs.Outcome.{Answer}
 use Rattle.scope.specs.Outcome.{Outcome, gives, refused}
 use Rattle.scope.specs.File.{row_of}
 use Rattle.scope.specs.Questions.{read_file}

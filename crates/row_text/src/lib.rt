@@ -3,7 +3,7 @@
 
 #![tactic(auto)]
 
-ghost use Rattle.std.specs.Prelude.{◌≡◌, ◌+◌, ◌<◌, ◌^◌, length, drop, true, [], ◌∷◌};
+ghost use Rattle.std.specs.Prelude.{◌≡◌, ◌+◌, ◌<◌, ◌^◌, length, drop, true};
 ghost use Rattle.text.specs.Text.{Puts};
 ghost use Rattle.scope.specs.Limits.{longest_row};
 ghost use Rattle.scope.specs.Questions.{read_file};
@@ -13,9 +13,8 @@ ghost use Rattle.row_text.specs.Rows.{mark, row_line, numbers_of};
 ghost use Rattle.row_text.specs.Rows.{ends as Rows·ends, row_text as Rows·row_text};
 
 use bits::byte;
-use rows::number;
-use scope::{Answer, limits, refuse};
-use text::{number_at, put_number};
+use scope::{Refusal, limits};
+use text::{number_at, put, put_number};
 
 // Bytes enough for the longest row as text, or for a refusal, with at most six bytes a number.
 pub const ROOM: usize = 6 * limits::ROW;
@@ -44,40 +43,28 @@ fn row_line(out: &mut [u8], row: &[u16]) -> usize
     ensures { Puts (row_line row.now) out.old out.new 0 result }
 {
     let mut next = 0;
-    let mut i = 0;
-    while i < row.len() {
-        let n = number(row, i);
-        let mark = mark_after(row, i);
-        next = put_number(out, next, n, mark);
-        i += 1;
+    for (i, &n) in row.iter().enumerate() {
+        next = put_number(out, next, n as usize, mark_after(row, i));
     }
     next
 }
 
-// The line of a row: how many bytes, or refusal 13 with the bytes needed.
-fn listed(row: &[u16], out: &mut [u8]) -> Answer
+// The line of a row.
+fn listed(row: &[u16], out: &mut [u8]) -> Result<usize, Refusal>
     requires { length row.now < 2 ^ 32 }
     ensures { Prints (row_line row.now) out.old out.new result }
 {
-    let needed = row_line(&mut out[..0], row);
-    if out.len() < needed {
-        return refuse(13, needed);
-    }
-    row_line(out, row);
-    Answer::Gives(needed)
+    listing::print(out, |part| row_line(part, row))
 }
 
 // The row of a plan file as text: how many bytes, or refusal 1, 2, 4 to 10, 14 to 19, 13, and then nothing is written.
-pub fn row_text(file: &[u8], out: &mut [u8]) -> Answer
+pub fn row_text(file: &[u8], out: &mut [u8]) -> Result<usize, Refusal>
     ensures { Says (read_file file.now longest_row) (Rows·row_text file.now) out.old
         out.new result }
 {
     let mut row = [0u16; limits::ROW];
-    let read = plan::read_file(file, &mut row);
-    match read {
-        Answer::Gives(n) => listed(&row[..n], out),
-        Answer::Refused(refusal) => Answer::Refused(refusal),
-    }
+    let n = plan::read_file(file, &mut row)?;
+    listed(&row[..n], out)
 }
 
 // A space or a line feed ends a number.
@@ -87,18 +74,6 @@ fn ends(b: usize) -> bool
     b == 32 || b == 10
 }
 
-// One number, if the buffer goes so far, and the index after it.
-fn put(out: &mut [u16], at: usize, n: u16) -> usize
-    requires { at + 1 < 2 ^ 64 }
-    ensures { Puts (n ∷ []) out.old out.new at result }
-{
-    if at < out.len() {
-        out[at] = n;
-        return at + 1;
-    }
-    at + 1
-}
-
 // The numbers of a text, as far as the buffer goes, and how many the text has.
 fn numbers(text: &[u8], out: &mut [u16]) -> usize
     ensures { Puts (numbers_of text.now) out.old out.new 0 result }
@@ -106,31 +81,26 @@ fn numbers(text: &[u8], out: &mut [u16]) -> usize
     let mut n = 0;
     let mut i = 0;
     while i < text.len() {
-        let word = number_at(text, i, 65535);
-        let next = word.next;
-        if next == i {
+        let Some(word) = number_at(text, i, 65535) else {
             return put(out, n, NO_NUMBER);
-        }
-        if text.len() <= next {
+        };
+        if text.len() <= word.next {
             return put(out, n, word.value as u16);
         }
-        if !ends(byte(text, next)) {
+        if !ends(byte(text, word.next)) {
             return put(out, n, NO_NUMBER);
         }
         n = put(out, n, word.value as u16);
-        i = next + 1;
+        i = word.next + 1;
     }
     n
 }
 
 // The plan file of the row that a text says: how many bytes, or refusal 1 to 10, 14 to 19, 13.
-pub fn pack_text(text: &[u8], file: &mut [u8]) -> Answer
+pub fn pack_text(text: &[u8], file: &mut [u8]) -> Result<usize, Refusal>
     ensures { Writes (numbers_of text.now) file.old file.new result }
 {
     let mut row = [0u16; ROW_ROOM];
     let n = numbers(text, &mut row);
-    if n <= ROW_ROOM {
-        return plan::write_file(&row[..n], file);
-    }
-    plan::write_file(&row, file)
+    plan::write_file(&row[..n.min(ROW_ROOM)], file)
 }

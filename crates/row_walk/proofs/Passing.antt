@@ -11,6 +11,7 @@ use Rattle.scope.specs.declared.Refusal.{Refusal}
 use Rattle.scope.specs.Outcome.{Outcome, gives, refused, refuse, and_then}
 use Rattle.scope.specs.Fields.{next_place, next_message, after_flag, edition}
 use Rattle.scope.specs.Row.{walk_row}
+use Rattle.scope.proofs.Outcomes.{not-both}
 use Rattle.row_walk.specs.Walk.{fields_from, rest_of, Passes}
 use Rattle.row_walk.proofs.Walk.{from_end, from_more, row_opens}
 use Rattle.row_walk.proofs.Parts.{Steps, at, fields_pass, link_steps, second_steps, twice, twice_is, next_place_lem, next-message}
@@ -86,33 +87,53 @@ module _ (row : List ℕ) (whole : Outcome) (f g : Field) (k : ℕ) (going : Goi
   pub going-bad : (r : Refusal) → o ≡ refused r → refused r ≡ whole
   going-bad r e = sym (going.same ∙ turn ∙ ap (λ (o : Outcome). and_then o (rest_of row g)) e)
 
--- a place more, and a message more: how many places it has
-module _ (row : List ℕ) (places messages k : ℕ) (o : Outcome) where
-  pub place-turn : 0 < places → Passes row Link next_place k o →
-      rest_of row (next_place places messages) k ≡ and_then o (rest_of row (next_place (places - 1) messages))
-  place-turn some passes = ap (λ (f : Field). rest_of row f k) (next_place_lem places some messages) ∙ passes.same (places - 1) messages
+-- a place more, of n at first, where k are left
+module _ (row : List ℕ) (n k i at : ℕ) (some : 0 < k) (left : (m : ℕ) → Going row (rest_of row (next_place n m) i) (next_place k m) at) (o : Outcome)
+    (passes : Passes row Link next_place at o) where
+  turn : (m : ℕ) → rest_of row (next_place k m) at ≡ and_then o (rest_of row (next_place (k - 1) m))
+  turn m = ap (λ (f : Field). rest_of row f at) (next_place_lem k some m) ∙ passes.same (k - 1) m
 
-  pub message-turn : places ≡ 0 → 0 < messages → k ≤ length row → o ≡ fields_from 4 1 k (drop k row) → (n : ℕ) → n ≡ get_or row k 0 + 1 →
-      rest_of row (next_place places messages) k ≡ and_then o (rest_of row (next_place n (messages - 1)))
-  message-turn none some l e n is =
-      let less : n - 1 ≡ get_or row k 0 = omega (arith, is) in
-      let first : next_place places messages ≡ Length (messages - 1) = ap (λ p. next_place p messages) none ∙ next-message messages some in
-      let after : Link (get_or row k 0) (messages - 1) ≡ next_place n (messages - 1) =
-      sym (next_place_lem n (omega (arith, is)) (messages - 1) ∙ ap (λ p. Link p (messages - 1)) less) in
-      ap (λ (f : Field). rest_of row f k) first ∙ (count_of_message row k l o e).same 0 (messages - 1) ∙
-      ap (λ (f : Field). and_then o (rest_of row f)) after
+  pub place_more : (j : ℕ) → o ≡ gives j → (m : ℕ) → Going row (rest_of row (next_place n m) i) (next_place (k - 1) m) j
+  place_more j e m = going_next row _ (next_place k m) (next_place (k - 1) m) at (left m) o (turn m) j e (passes.inside j e)
+
+  pub place_bad : (r : Refusal) → o ≡ refused r → Passes row (λ p m. next_place n m) (λ p m. next_message m) i (refused r)
+  place_bad r e =
+      record {
+        same = λ p m. sym (going-bad row _ (next_place k m) (next_place (k - 1) m) at (left m) o (turn m) r e);
+        inside = λ j gave. not-both gave;
+      }
+
+-- and no place more
+pub places_done : (row : List ℕ) (n i at : ℕ) → ((m : ℕ) → Going row (rest_of row (next_place n m) i) (next_place 0 m) at) →
+    Passes row (λ p m. next_place n m) (λ p m. next_message m) i (gives at)
+places_done row n i at left =
+    record { same = λ p m. (left m).same; inside = λ j gave. let is : at ≡ j = cc in omega (arith, is, (left 0).inside) }
+
+-- a message: its number of places, and these
+pub places_of_message : (row : List ℕ) (v n j : ℕ) (o : Outcome) → n ≡ v + 1 → Passes row (λ p m. next_place n m) (λ p m. next_message m) j o →
+    Passes row (λ p m. Link v m) (λ p m. next_message m) j o
+places_of_message row v n j o is passes =
+    let less : n - 1 ≡ v = omega (arith, is) in
+    record {
+      same = λ p m. ap (λ (f : Field). rest_of row f j) (sym (next_place_lem n (omega (arith, is)) m ∙ ap (λ p. Link p m) less)) ∙ passes.same p m;
+      inside = passes.inside;
+    }
+
+-- a message more, where k are left
+pub message_turn : (row : List ℕ) (k at : ℕ) (o : Outcome) → 0 < k → Passes row (λ p m. Length m) (λ p m. next_message m) at o →
+    rest_of row (next_message k) at ≡ and_then o (rest_of row (next_message (k - 1)))
+message_turn row k at o some passes = ap (λ (f : Field). rest_of row f at) (next-message k some) ∙ passes.same 0 (k - 1)
 
 -- the last message
-module _ (row : List ℕ) (whole : Outcome) (places messages k : ℕ) (going : Going row whole (next_place places messages) k) (p : places ≡ 0)
-    (m : messages ≡ 0) where
-  last : whole ≡ rest_of row (next_place 0 0) k
-  last = going.same ∙ ap (λ n. rest_of row (next_place n messages) k) p ∙ ap (λ n. rest_of row (next_place 0 n) k) m
+module _ (row : List ℕ) (whole : Outcome) (messages k : ℕ) (going : Going row whole (next_message messages) k) (none : messages ≡ 0) where
+  last : whole ≡ rest_of row (next_message 0) k
+  last = going.same ∙ ap (λ n. rest_of row (next_message n) k) none
 
   pub messages-more : k < length row → refuse 4 k ≡ whole
-  messages-more l = sym (last ∙ from_more row (at (next_place 0 0)) k l refl)
+  messages-more l = sym (last ∙ from_more row (at (next_message 0)) k l refl)
 
   pub messages-done : length row ≤ k → gives k ≡ whole
-  messages-done l = sym (last ∙ from_end row (at (next_place 0 0)) k l refl)
+  messages-done l = sym (last ∙ from_end row (at (next_message 0)) k l refl)
 
 -- the whole row
 module _ (row : List ℕ) (some : 0 < length row) (first : get_or row 0 0 ≡ edition) (o : Outcome)

@@ -11,148 +11,111 @@ ghost use Rattle.scope.specs.Fields.{next_place, next_message};
 ghost use Rattle.scope.specs.declared.Field.TheVariants.{Vertices, Length, Link, SecondLength};
 ghost use Rattle.row_walk.specs.Walk.{fields_from, rest_of, Stops, Passes};
 
-use scope::{Answer, refuse};
+use scope::{Refusal, refuse};
 
 // Where n numbers from an index of a row on end: after them, or at the end of the row.
 fn stop(row: &[u16], i: usize, n: usize) -> usize
     requires { i ≤ length row.now }
     ensures { Stops (length row.now) i n result }
 {
-    if n <= row.len() - i {
-        return i + n;
-    }
-    row.len()
+    i + n.min(row.len() - i)
 }
 
 // So many fields of w bits from an index of a row on: refusal 2 or 3, or the index after them.
-fn walk_fields(row: &[u16], i: usize, n: usize, w: usize) -> Answer
+fn walk_fields(row: &[u16], i: usize, n: usize, w: usize) -> Result<usize, Refusal>
     requires { (i ≤ length row.now) × (w ≤ 16) }
     ensures { outcome_of result ≡ fields_from w n i (drop i row.now) }
 {
     let most = bits::power(w);
     let end = stop(row, i, n);
-    let mut k = i;
-    while k < end {
+    for k in i..end {
         if most <= row[k] as usize {
             return refuse(3, k);
         }
-        k += 1;
     }
-    if end - i < n {
-        return refuse(2, k);
-    }
-    Answer::Gives(k)
+    if end - i < n { refuse(2, end) } else { Ok(end) }
 }
 
 // The numbers V, E, M, t and the ends of the links, which come before the messages.
-fn walk_head(row: &[u16]) -> Answer
+fn walk_head(row: &[u16]) -> Result<usize, Refusal>
     requires { 1 ≤ length row.now }
     ensures { Passes row.now (λ p m. Vertices) (λ p m. Length (at row.now 3)) 1 (outcome_of result) }
 {
-    let sizes = walk_fields(row, 1, 2, 6);
-    match sizes {
-        Answer::Gives(i) => {
-            let messages = walk_fields(row, i, 1, 5);
-            match messages {
-                Answer::Gives(j) => walk_fields(row, j, rows::links(row) * 2 + 1, 6),
-                Answer::Refused(r) => Answer::Refused(r),
-            }
-        }
-        Answer::Refused(r) => Answer::Refused(r),
-    }
+    let i = walk_fields(row, 1, 2, 6)?;
+    let j = walk_fields(row, i, 1, 5)?;
+    walk_fields(row, j, rows::links(row) * 2 + 1, 6)
 }
 
 // A second path, from its number of links on.
-fn walk_second(row: &[u16], i: usize) -> Answer
+fn walk_second(row: &[u16], i: usize) -> Result<usize, Refusal>
     requires { i ≤ length row.now }
     ensures { Passes row.now SecondLength next_place i (outcome_of result) }
 {
-    let count = walk_fields(row, i, 1, 4);
-    match count {
-        Answer::Gives(j) => walk_fields(row, j, rows::number(row, i) + 1, 6),
-        Answer::Refused(r) => Answer::Refused(r),
-    }
+    let j = walk_fields(row, i, 1, 4)?;
+    walk_fields(row, j, rows::number(row, i) + 1, 6)
 }
 
 // A place: its link, slot and flag, and the second path from there.
-fn walk_place(row: &[u16], i: usize) -> Answer
+fn walk_place(row: &[u16], i: usize) -> Result<usize, Refusal>
     requires { i ≤ length row.now }
     ensures { Passes row.now Link next_place i (outcome_of result) }
 {
-    let held = walk_fields(row, i, 2, 6);
-    match held {
-        Answer::Gives(at) => {
-            let flag = walk_fields(row, at, 1, 1);
-            match flag {
-                Answer::Gives(j) => {
-                    if rows::number(row, at) == 1 {
-                        return walk_second(row, j);
-                    }
-                    Answer::Gives(j)
-                }
-                Answer::Refused(r) => Answer::Refused(r),
-            }
-        }
-        Answer::Refused(r) => Answer::Refused(r),
+    let at = walk_fields(row, i, 2, 6)?;
+    let j = walk_fields(row, at, 1, 1)?;
+    if rows::number(row, at) == 1 {
+        walk_second(row, j)
+    } else {
+        Ok(j)
     }
 }
 
-// So many messages, each its number of places and these, and refusal 4 where more follows.
-fn walk_messages(row: &[u16], i: usize, n: usize) -> Answer
-    requires { (i ≤ length row.now) × (n ≤ 65536) }
+// So many places, one after another.
+fn walk_places(row: &[u16], i: usize, n: usize) -> Result<usize, Refusal>
+    requires { i ≤ length row.now }
+    ensures { Passes row.now (λ p m. next_place n m) (λ p m. next_message m) i (outcome_of result) }
+{
+    let mut at = i;
+    for _p in 0..n {
+        at = walk_place(row, at)?;
+    }
+    Ok(at)
+}
+
+// A message: its number of places, and these.
+fn walk_message(row: &[u16], i: usize) -> Result<usize, Refusal>
+    requires { i ≤ length row.now }
+    ensures { Passes row.now (λ p m. Length m) (λ p m. next_message m) i (outcome_of result) }
+{
+    let j = walk_fields(row, i, 1, 4)?;
+    walk_places(row, j, rows::place_count(row, i))
+}
+
+// So many messages, and refusal 4 where more follows.
+fn walk_messages(row: &[u16], i: usize, n: usize) -> Result<usize, Refusal>
+    requires { i ≤ length row.now }
     ensures { outcome_of result ≡ rest_of row.now (next_message n) i }
 {
     let mut at = i;
-    let mut messages = n;
-    let mut places: usize = 0;
-    loop {
-        if places != 0 {
-            let place = walk_place(row, at);
-            match place {
-                Answer::Gives(next) => {
-                    at = next;
-                }
-                Answer::Refused(r) => {
-                    return Answer::Refused(r);
-                }
-            }
-            places -= 1;
-            continue;
-        }
-        if messages == 0 {
-            break;
-        }
-        let count = walk_fields(row, at, 1, 4);
-        match count {
-            Answer::Gives(next) => {
-                places = rows::place_count(row, at);
-                at = next;
-            }
-            Answer::Refused(r) => {
-                return Answer::Refused(r);
-            }
-        }
-        messages -= 1;
+    for _m in 0..n {
+        at = walk_message(row, at)?;
     }
     if at < row.len() {
-        return refuse(4, at);
+        refuse(4, at)
+    } else {
+        Ok(at)
     }
-    Answer::Gives(at)
 }
 
 // Refusals 1 to 4 of a row, or how many numbers it has.
-pub fn walk_row(row: &[u16]) -> Answer
+pub fn walk_row(row: &[u16]) -> Result<usize, Refusal>
     ensures { outcome_of result ≡ walk_row row.now }
 {
-    if row.len() == 0 {
+    if row.is_empty() {
         return refuse(2, 0);
     }
     if rows::number(row, 0) != 1 {
         return refuse(1, 0);
     }
-    let head = walk_head(row);
-    match head {
-        Answer::Gives(i) => walk_messages(row, i, rows::messages(row)),
-        Answer::Refused(r) => Answer::Refused(r),
-    }
+    let i = walk_head(row)?;
+    walk_messages(row, i, rows::messages(row))
 }

@@ -32,21 +32,12 @@ module _ (row : List ℕ) where
       let f : n - k ≡ zero = omega arith in
       rw f
 
-  -- a loop at message k of n: it begins, it goes on, it is done
-  pub messages-first : (i n : ℕ) → after_messages row i (n - 0) ≡ after_messages row i n
-  messages-first i n = ap (after_messages row i) (omega arith)
-
+  -- a loop at message k of n goes on
   pub messages-next : (i n k a : ℕ) → k < n → a ≡ after_message row i → after_messages row a (n - (k + 1)) ≡ after_messages row i (n - k)
   unfolding after_messages
   messages-next i n k a h e =
       let f : n - k ≡ suc (n - (k + 1)) = omega arith in
       rw (f, e)
-
-  pub messages-done : (i n k : ℕ) → n ≤ k → after_messages row i (n - k) ≡ i
-  unfolding after_messages
-  messages-done i n k h =
-      let f : n - k ≡ zero = omega arith in
-      rw f
 
   -- one place more, and one message more
   pub places_suc : (i p : ℕ) → after_places row i (p + 1) ≡ after_places row i p + place_size row (after_places row i p)

@@ -2,4 +2,3 @@ pub mod Index
 pub mod Parts
 pub mod Walked
 pub mod Second
-pub mod Copied

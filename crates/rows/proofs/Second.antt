@@ -1,7 +1,7 @@
 -- Laws of the second path of a message from a place: as a part of the row, and as the plan has it.
-use Prim.Native.Nat.{ℕ, ◌+◌, ◌-◌, ◌≤◌, ◌<◌}
+use Prim.Native.Nat.{ℕ, ◌+◌, ◌≤◌, ◌<◌}
 use mathlib.Core.Path.{◌≡◌, refl, sym, ◌∙◌, ap}
-use mathlib.Core.Bool.{Bool, true, false, cond}
+use mathlib.Core.Bool.{Bool, true, false, cond, true≢false}
 use mathlib.Core.List.{List, []}
 use native.Mathlib.Omega.{arith}
 use borrow.Author.Tests.{lt-ltb, le-ltb, ltb-true, ltb-false}
@@ -10,9 +10,9 @@ use lib.Dec.{ltb}
 use Rattle.scope.specs.Plan.{Place, numbers_at, flagged, second_start, second_count, second_at, place_at, place_count, message_at, message_count, place_of}
 use Rattle.scope.specs.Plan.{plan_of, path_of}
 use Rattle.scope.specs.SecondPath.{message_index, place_index, has_second}
-use Rattle.rows.specs.View.{IsPlace, IsSpan, second_part, second_index, second_end}
+use Rattle.rows.specs.View.{IsPlace, IsSpan, second_part}
 use Rattle.rows.specs.declared.RowPlace.{RowPlace}
-use Rattle.rows.specs.declared.Span.{Span}
+use Rattle.std.specs.declared.ops.Range.{Range}
 use Rattle.rows.specs.Lies.{SecondLies, PlanLies}
 use Rattle.rows.proofs.Parts.{numbers-part, places_length, places_at_lem, message-count, path_at}
 
@@ -76,44 +76,6 @@ module _ (row : List ℕ) (m p : ℕ) where
       take (second_count row (place_index row m p)) (drop (second_start (place_index row m p)) row) ≡ second_part row m p
   part-there e = rw e
 
-  -- where it stands: nowhere, for each reason; or from the index that the place says
-  none-at : (r : Span) → r.from ≡ 0 → r.to ≡ 0 → has_second row m p ≡ false → IsSpan (second_index row m p) (second_end row m p) r
-  none-at r f t e = record { begins = rw e f; ends = rw e t }
-
-  module _ (r : Span) (f : r.from ≡ 0) (t : r.to ≡ 0) where
-    pub span_no_message : message_count row ≤ m → IsSpan (second_index row m p) (second_end row m p) r
-    span_no_message h = none-at r f t (has_no_message h)
-
-    pub span_no_place : m < message_count row → place_count row (message_index row m) ≤ p → IsSpan (second_index row m p) (second_end row m p) r
-    span_no_place g h = none-at r f t (has_no_place g h)
-
-    pub span_no_second : m < message_count row → p < place_count row (message_index row m) → flagged row (place_index row m p) ≡ false →
-        IsSpan (second_index row m p) (second_end row m p) r
-    span_no_second g h u = none-at r f t (has-flag g h ∙ u)
-
-  pub span_there : (r : Span) → m < message_count row → p < place_count row (message_index row m) → flagged row (place_index row m p) ≡ true →
-      r.from ≡ second_start (place_index row m p) → r.to ≡ place_index row m p + (4 + second_count row (place_index row m p)) →
-      IsSpan (second_index row m p) (second_end row m p) r
-  span_there r g h u f t =
-      let e : has_second row m p ≡ true = has-flag g h ∙ u in
-      record { begins = rw e f; ends = rw e (omega (arith, t)) }
-
-  -- the part of the row there is the second path
-  pub part_between : (r : Span) → IsSpan (second_index row m p) (second_end row m p) r →
-      take (r.to - r.from) (drop r.from row) ≡ second_part row m p
-  part_between r s = by (has_second row m p) refl
-    where
-      by : (t : Bool) → has_second row m p ≡ t → take (r.to - r.from) (drop r.from row) ≡ second_part row m p
-      by true e =
-          let f : r.from ≡ second_start (place_index row m p) = s.begins ∙ rw e in
-          let t : r.to ≡ second_start (place_index row m p) + second_count row (place_index row m p) = s.ends ∙ rw e in
-          let n : r.to - r.from ≡ second_count row (place_index row m p) = omega arith in
-          rw (n, f) (part-there e)
-      by false e =
-          let t : r.to ≡ 0 = s.ends ∙ rw e in
-          let n : r.to - r.from ≡ 0 = omega arith in
-          rw n (part_none e)
-
   -- it lies in the row
   pub part_lies : PlanLies row → m < message_count row → p < place_count row (message_index row m) → flagged row (place_index row m p) ≡ true
       → SecondLies row (place_index row m p)
@@ -157,25 +119,16 @@ module _ (row : List ℕ) (m p : ℕ) where
           sym (part_none (has_no_message h)) ∙ sym (ap (λ q. q.second) (path [] (get_or-eq_default (plan_of row).messages [] b)))
 
   -- and it lies within the row
-  pub span_within : PlanLies row → (r : Span) → IsSpan (second_index row m p) (second_end row m p) r → (r.from ≤ r.to) × (r.to ≤ length row)
+  pub span_within : PlanLies row → (r : Range ℕ) → IsSpan row m p r → r.end ≤ length row
   span_within l r s =
-      by (ltb m (message_count row)) (ltb p (place_count row (message_index row m))) (flagged row (place_index row m p)) refl refl refl
+      by (ltb m (message_count row)) (ltb p (place_count row (message_index row m))) (flagged row (place_index row m p)) refl refl refl s.there
     where
-      nowhere : has_second row m p ≡ false → (r.from ≤ r.to) × (r.to ≤ length row)
-      nowhere e =
-          let f : r.from ≡ 0 = s.begins ∙ rw e in
-          let t : r.to ≡ 0 = s.ends ∙ rw e in
-          (omega arith, omega arith)
-
       by : (x y z : Bool) → ltb m (message_count row) ≡ x → ltb p (place_count row (message_index row m)) ≡ y →
-          flagged row (place_index row m p) ≡ z →
-          (r.from ≤ r.to) × (r.to ≤ length row)
-      by true true true a b c =
-          let e : has_second row m p ≡ true = rw (a, b, c) in
-          let f : r.from ≡ second_start (place_index row m p) = s.begins ∙ rw e in
-          let t : r.to ≡ second_start (place_index row m p) + second_count row (place_index row m p) = s.ends ∙ rw e in
+          flagged row (place_index row m p) ≡ z → has_second row m p ≡ true → r.end ≤ length row
+      by true true true a b c e =
+          let t : r.end ≡ second_start (place_index row m p) + second_count row (place_index row m p) = s.ends ∙ rw e in
           let w = (part_lies l (ltb-true m (message_count row) a) (ltb-true p (place_count row (message_index row m)) b) c).lies in
-          (omega arith, omega (arith, w, t))
-      by true true false a b c = nowhere (rw (a, b, c))
-      by true false z a b c = nowhere (rw (a, b))
-      by false y z a b c = nowhere (rw a)
+          omega (arith, w, t)
+      by true true false a b c e = absurd (true≢false (sym e ∙ rw (a, b, c)))
+      by true false z a b c e = absurd (true≢false (sym e ∙ rw (a, b)))
+      by false y z a b c e = absurd (true≢false (sym e ∙ rw a))

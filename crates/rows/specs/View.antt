@@ -1,9 +1,9 @@
 -- What looking at a row gives.
-use Rattle.std.specs.Prelude.{ℕ, ◌+◌, ◌*◌, ◌<◌, ◌≤◌, ◌≡◌, cond, List, [], take, drop}
+use Rattle.std.specs.Prelude.{ℕ, ◌+◌, ◌*◌, ◌<◌, ◌≤◌, ◌≡◌, true, cond, List, [], take, drop}
+use Rattle.std.specs.declared.ops.Range.{Range}
 use Rattle.scope.specs.Plan.{at, slot_at, flagged, second_start, second_count, place_size}
 use Rattle.scope.specs.SecondPath.{place_index, has_second}
 use Rattle.rows.specs.declared.RowPlace.{RowPlace}
-use Rattle.rows.specs.declared.Span.{Span}
 
 -- r is the number at index i of a row, which has 16 bits
 pub record Number (row : List ℕ) (i r : ℕ) : Type 0 where
@@ -18,7 +18,7 @@ pub record Is (value most r : ℕ) : Type 0 where
 -- r is the place at index i of a row
 pub record IsPlace (row : List ℕ) (i : ℕ) (r : RowPlace) : Type 0 where
   pub link : r.link ≡ at row i
-  pub link-small : r.link < 65536
+  pub link_small : r.link < 65536
   pub slot : r.slot ≡ slot_at row i
   pub slot_small : r.slot < 65536
   pub second : r.second ≡ second_start i
@@ -26,11 +26,6 @@ pub record IsPlace (row : List ℕ) (i : ℕ) (r : RowPlace) : Type 0 where
   pub few : r.count ≤ 65536
   pub next : r.next ≡ i + place_size row i
   pub near : r.next ≤ i + 65540
-
--- r reaches from one index of a row to another
-pub record IsSpan (from to : ℕ) (r : Span) : Type 0 where
-  pub begins : r.from ≡ from
-  pub ends : r.to ≡ to
 
 -- a part of a row, or an empty one: what it holds, and that it begins at this index of the row itself, whose numbers take 2 bytes each
 pub record PartAt (holds : List ℕ) (index : ℕ) (row : ℕ × ℕ) (now : List ℕ) (part : ℕ × ℕ) : Type 0 where
@@ -52,3 +47,9 @@ second_index row m p = cond (has_second row m p) (second_start (place_index row 
 -- and where it ends
 abbrev pub second_end : List ℕ → ℕ → ℕ → ℕ
 second_end row m p = cond (has_second row m p) (second_start (place_index row m p) + second_count row (place_index row m p)) 0
+
+-- r is where the second path of message m from place p stands in a row, from one index to another
+pub record IsSpan (row : List ℕ) (m p : ℕ) (r : Range ℕ) : Type 0 where
+  pub there : has_second row m p ≡ true
+  pub begins : r.start ≡ second_index row m p
+  pub ends : r.end ≡ second_end row m p

@@ -7,12 +7,14 @@
 
 #![tactic(auto)]
 
-ghost use Rattle.std.specs.Prelude.{◌≡◌, ◌++◌, ◌+◌, ◌-◌, ◌*◌, ◌<◌, ◌≤◌, ◌^◌, length, take, drop};
+ghost use Rattle.std.specs.Prelude.{◌≡◌, ◌++◌, ◌+◌, ◌*◌, ◌<◌, ◌≤◌, ◌^◌, false, length, drop, MatchOption};
 ghost use Rattle.scope.specs.Outcome.{gives};
 ghost use Rattle.scope.specs.Row.{walk_row};
 ghost use Rattle.scope.specs.Plan.{slot_at, after_places, after_message, vertex_count, link_count, message_count, timeout_of, place_count};
-ghost use Rattle.scope.specs.SecondPath.{message_index, place_index};
-ghost use Rattle.rows.specs.View.{Number, Is, IsPlace, IsSpan, PartAt, second_part, second_index, second_end};
+ghost use Rattle.scope.specs.SecondPath.{message_index, place_index, has_second};
+ghost use Rattle.rows.specs.View.{Number, Is, IsPlace, IsSpan, PartAt, second_part, second_index};
+
+use std::ops::Range;
 
 // The number at an index of a row, 0 past its end.
 pub fn number(row: &[u16], i: usize) -> usize
@@ -99,16 +101,15 @@ pub fn place_at(row: &[u16], i: usize) -> RowPlace
 }
 
 // The index after so many places.
+#[tactic(auto, using(crate::proofs::Index::places_suc), unfolding(scope::specs::Plan::after_places))]
 pub fn after_places(row: &[u16], i: usize, n: usize) -> usize
     requires { (i < 2 ^ 61) × (n ≤ 65536) }
     ensures { Is (after_places row.now i n) (i + n * 65540) result }
 {
     let mut at = i;
-    let mut k = 0;
-    while k < n {
+    for _k in 0..n {
         let here = place_at(row, at);
         at = here.next;
-        k += 1;
     }
     at
 }
@@ -122,15 +123,14 @@ pub fn after_message(row: &[u16], i: usize) -> usize
 }
 
 // Where message m stands.
+#[tactic(auto, using(crate::proofs::Index::messages_suc), unfolding(scope::specs::Plan::after_messages))]
 pub fn message_index(row: &[u16], m: usize) -> usize
     requires { m ≤ 65536 }
     ensures { Is (message_index row.now m) (131077 + m * 4295229441) result }
 {
     let mut at = links(row) * 2 + 5;
-    let mut k = 0;
-    while k < m {
+    for _k in 0..m {
         at = after_message(row, at);
-        k += 1;
     }
     at
 }
@@ -143,40 +143,22 @@ pub fn place_index(row: &[u16], m: usize, p: usize) -> usize
     after_places(row, message_index(row, m) + 1, p)
 }
 
-// Where the second path of message m from place p stands in a row: from one index to another, both 0 where there is none.
-#[derive(Clone, Copy)]
-pub struct Span {
-    pub from: usize,
-    pub to: usize,
-}
-
-pub fn second_span(row: &[u16], m: usize, p: usize) -> Span
-    ensures { IsSpan (second_index row.now m p) (second_end row.now m p) result }
+// Where the second path of message m from place p stands in a row, if there is one.
+pub fn second_span(row: &[u16], m: usize, p: usize) -> Option<Range<usize>>
+    ensures { MatchOption result (has_second row.now m p ≡ false) (IsSpan row.now m p) }
 {
     if messages(row) <= m {
-        return Span { from: 0, to: 0 };
+        return None;
     }
     let i = message_index(row, m);
     if place_count(row, i) <= p {
-        return Span { from: 0, to: 0 };
+        return None;
     }
-    let at = after_places(row, i + 1, p);
-    let here = place_at(row, at);
+    let here = place_at(row, after_places(row, i + 1, p));
     if here.count == 0 {
-        return Span { from: 0, to: 0 };
+        return None;
     }
-    Span {
-        from: here.second,
-        to: here.next,
-    }
-}
-
-// The numbers of a row from index a to index b, as a part of the row.
-fn part(row: &[u16], a: usize, b: usize) -> &[u16]
-    requires { (a ≤ b) × (b ≤ length row.now) }
-    ensures { PartAt (take (b - a) (drop a row.now)) a row.entry.ref_ptr result.now result.ref_ptr }
-{
-    &row[a..b]
+    Some(here.second..here.next)
 }
 
 // The second path of message m from place p, as a part of the row: length 0 where there is no such message, place or second path.
@@ -184,8 +166,10 @@ pub fn second_path_part(row: &[u16], m: usize, p: usize) -> &[u16]
     requires { walk_row row.now ≡ gives (length row.now) }
     ensures { PartAt (second_part row.now m p) (second_index row.now m p) row.entry.ref_ptr result.now result.ref_ptr }
 {
-    let span = second_span(row, m, p);
-    part(row, span.from, span.to)
+    match second_span(row, m, p) {
+        Some(span) => &row[span],
+        None => &row[..0],
+    }
 }
 
 // One list of numbers into the front of another.
@@ -193,9 +177,5 @@ pub fn copy(from: &[u16], to: &mut [u16])
     requires { length from.now ≤ length to.old }
     ensures { to.new ≡ from.now ++ drop (length from.now) to.old }
 {
-    let mut i = 0;
-    while i < from.len() {
-        to[i] = from[i];
-        i += 1;
-    }
+    to[..from.len()].copy_from_slice(from);
 }

@@ -1,31 +1,44 @@
--- Laws of the loops that find where messages stand and the lowest thing that breaks a rule, and of the order of the rules.
-use Prim.Native.Nat.{ℕ, zero, suc, ◌+◌, ◌-◌, ◌*◌, ◌^◌, ◌≤◌, ◌<◌}
+-- Laws of the loop that notes where messages stand, of rules asked one after another, and of the order of the rules of paths.
+use Prim.Native.Nat.{ℕ, zero, suc, ◌+◌, ◌*◌, ◌^◌, ◌≤◌, ◌<◌}
 use mathlib.Core.Path.{◌≡◌, refl, sym, ◌∙◌, ap, subst}
-use mathlib.Core.Bool.{Bool, true, false, cond, ◌||◌, true≢false}
+use mathlib.Core.Bool.{Bool, true, false, cond, ◌&&◌}
 use mathlib.Core.List.{List}
 use native.Mathlib.Omega.{arith}
-use borrow.Author.Tests.{lt-ltb, le-ltb, ltb-true, ltb-false, eqb-true, eqb-false, eq-eqb, ne_eqb}
+use borrow.Author.Tests.{lt-ltb, le-ltb, ltb-true, ltb-false, eqb-true, eqb-false}
 use lib.ListN.{length, get_or, set, length-set, replicate, length-replicate, get_or-replicate}
 use lib.Seq.{get_or-set_same, get_or-set_other}
 use lib.Dec.{ltb, eqb}
+use Rattle.std.specs.declared.option.Option.{Option}
+use Rattle.std.specs.declared.option.Option.TheVariants.{Some, None}
+use Rattle.std.specs.declared.result.Result.{Result}
+use Rattle.std.specs.declared.result.Result.TheVariants.{Ok, Err}
+use Rattle.std.specs.Prelude.{⊤}
+use Rattle.std.specs.Option.{MatchOption, IsSomeAnd}
 use Rattle.scope.specs.declared.Refusal.{Refusal}
 use Rattle.scope.specs.Lowest.{seek, lowest, some}
-use Rattle.scope.specs.Outcome.{Outcome, gives, refused, refuse_on, refusal_at, refusal_on}
-use Rattle.scope.specs.Limits.{most_messages}
-use Rattle.scope.specs.Plan.{link_count, Plan, Place, message_at, after_message, first_message, message_count, plan_of, path_of}
+use Rattle.scope.specs.Outcome.{Outcome, gives, refused, refuse_on, refusal_at, refusal_on, unless_some}
+use Rattle.scope.specs.Plan.{Plan, link_count, message_at, after_message, first_message, message_count, plan_of, path_of}
 use Rattle.scope.specs.Good.{bad_ends, repeats, bad_slots, bad_table}
-use Rattle.scope.specs.PathRules.{breaks_it, place_broken, step_broken}
 use Rattle.scope.specs.Rules.{rules}
+use Rattle.scope.specs.PathRules.{PathRule, breaks_it, place_broken, step_broken, unless_on}
 use Rattle.scope.specs.SecondPath.{message_index}
+use Rattle.scope.specs.Cycle.{table_of}
+use Rattle.scope.proofs.Some.{none}
 use Rattle.rows.specs.View.{Is}
 use Rattle.rows.specs.Lies.{MessageLies, PlanLies}
 use Rattle.rows.proofs.Index.{messages_suc}
-use Rattle.rows.proofs.Parts.{path_at, message-count, link-count}
+use Rattle.rows.proofs.Parts.{path_at, link-count, message-count}
 use Rattle.paths.specs.declared.Fault.{Fault}
-use Rattle.faults.specs.Broken.{FaultOf, FirstFault, SecondFault, first_rule, second_rule, place_in}
+use Rattle.paths.specs.declared.Rule.{Rule}
+use Rattle.paths.specs.declared.Rule.TheVariants.{NoLink, Apart, Astray, Again, Replaced}
+use Rattle.paths.specs.Path.{order, order_of, message_of, at_of, step_of}
 use Rattle.paths.proofs.Earliest.{earliest-none, earliest-next, either}
-use Rattle.rules.specs.Rules.{Starts, Judging, Single, breaks, count_for, rule_count, number_of, round_rule, MessageFault, PlanFault}
-use Rattle.rules.specs.Rules.{path_rules, round_of, rounds_of, Says}
+use Rattle.table.specs.Table.{Table}
+use Rattle.faults.specs.Broken.{broken_slots, held_below}
+use Rattle.rules.proofs.Below.{taken_is}
+use Rattle.rules.specs.declared.Paths.{Paths}
+use Rattle.rules.specs.declared.Paths.TheVariants.{First, Second}
+use Rattle.rules.specs.Rules.{Starts, number_of, round_rule, MessageFault, PlanFault, path_rules, early_rules, late_rules, told, Says}
 
 -- a loop over messages that notes where they stand, at message m, which stands at index j
 pub record Noting (row : List ℕ) (m j : ℕ) (starts : List ℕ) : Type 0 where
@@ -124,229 +137,245 @@ module _ (row starts : List ℕ) (lies : PlanLies row) (noted : Starts row (mess
         near = omega (arith, noted.small m few);
       }
 
--- of what rule n asks
-module _ (plan : Plan) (n : ℕ) where
-  pub count-links : n < 7 → length plan.links ≡ count_for plan n
-  count-links l = let t : ltb n 7 ≡ true = lt-ltb n 7 l in rw t
+  -- and what is asked of the message there is asked of message m, of so many
+  module _ (messages : ℕ) (fm : messages ≡ message_count row) (m : ℕ) (h : m < messages) (b : Bool) where
+    inside : m < length (plan_of row).messages
+    inside = omega (arith, message-count row)
 
-  pub count-messages : 7 ≤ n → length plan.messages ≡ count_for plan n
-  count-messages l = let t : ltb n 7 ≡ false = le-ltb n 7 l in rw t
+    pub by_slots : b ≡ broken_slots (plan_of row) (message_at row (get_or starts m 0)) → b ≡ bad_slots (plan_of row) m
+    by_slots e = e ∙ sym (ap (broken_slots (plan_of row)) (here m inside).is)
 
-module _ (plan : Plan) (m n : ℕ) where
-  pub of-links : n < 7 → m < count_for plan n → m < length plan.links
-  of-links l h = omega (arith, count-links plan n l, h)
+    pub by_table : (table : List ℕ) → Table (table_of (plan_of row)) table →
+        b ≡ held_below table m (message_at row (get_or starts m 0)) → b ≡ bad_table (plan_of row) m
+    by_table table t e =
+        let at = here m inside in
+        e ∙ taken_is (plan_of row) m table t inside row (get_or starts m 0) at.lies at.is
 
-  pub of-messages : 7 ≤ n → m < count_for plan n → m < length plan.messages
-  of-messages l h = omega (arith, count-messages plan n l, h)
+-- a rule that is asked of links or messages: the lowest that breaks it is refused, or nothing is
+module _ (test : ℕ → Bool) (n number : ℕ) where
+  pub refuses_lowest : (i : ℕ) → i < n → i ≡ lowest test n → Says (unless_some number test n) (Err (refusal_at number i))
+  refuses_lowest i h e =
+      let f : lowest test n ≡ i = sym e in
+      let t : ltb i n ≡ true = lt-ltb i n h in
+      record { says = λ after. rw (f, t) }
 
-module _ (row starts table : List ℕ) (n : ℕ) (g : Judging row starts table n) where
-  pub links-few : length (plan_of row).links ≤ 64
-  links-few = omega (arith, link-count row, g.lies.links)
+  pub refuses_none : some test n ≡ false → Says (unless_some number test n) (Ok tt)
+  refuses_none h = record { says = λ after. rw h }
 
-  pub few : (m : ℕ) → 7 ≤ n → m < count_for (plan_of row) n → m < most_messages
-  few m l h = omega (arith, of-messages (plan_of row) m n l h, messages-few row g.lies)
+  counted : (m : ℕ) (r : Result ⊤ Refusal) → Says (unless_some number test m) r → m ≡ n → Says (unless_some number test n) r
+  counted m r h e = subst (λ k. Says (unless_some number test k) r) e h
 
--- what serves up to a round serves up to an earlier one
-pub judging_up_to : (row starts table : List ℕ) (n : ℕ) → Judging row starts table n → (k : ℕ) → k ≤ n → Judging row starts table k
-judging_up_to row starts table n g k h =
-    record { lies = g.lies; starts_are = g.starts_are; table_is = λ l. g.table_is (omega arith) }
+-- one rule after another: the first refuses, or it does not and the others say what is refused
+stops : (rule rest : Outcome → Outcome) (e : Refusal) → Says rule (Err e) → Says (λ after. rule (rest after)) (Err e)
+stops rule rest e h = record { says = λ after. h.says (rest after) }
 
--- and what it asks
-module _ (plan : Plan) (m : ℕ) where
-  pub rule_five : (n : ℕ) → n ≡ 5 → bad_ends plan m ≡ breaks plan n m
-  rule_five n e = rw e
+goes_on : (rule rest : Outcome → Outcome) (x : ⊤) (r : Result ⊤ Refusal) → Says rule (Ok x) → Says rest r →
+    Says (λ after. rule (rest after)) r
+goes_on rule rest x r h others = record { says = λ after. h.says (rest after) ∙ others.says after }
 
-  pub rule_eight : (n : ℕ) → n ≡ 8 → bad_slots plan m ≡ breaks plan n m
-  rule_eight n e = rw e
+-- the rules that are asked first, of so many links and messages
+module _ (row : List ℕ) (links : ℕ) (fl : links ≡ link_count row) where
+  abbrev of_row : Plan
+  of_row = plan_of row
 
-  pub rule_nine : (n : ℕ) → n ≡ 9 → bad_table plan m ≡ breaks plan n m
-  rule_nine n e = rw e
+  abbrev ends : Outcome → Outcome
+  ends = unless_some 5 (bad_ends of_row) (length of_row.links)
 
--- the rule of links that repeat
-pub six : (row : List ℕ) (n count r : ℕ) → n ≡ 6 → count ≡ count_for (plan_of row) n → r ≡ lowest (repeats (plan_of row)) (link_count row) →
-    r ≡ lowest (breaks (plan_of row) n) count
-six row n count r is counted e = rw (counted, is) (e ∙ ap (lowest (repeats (plan_of row))) (sym (link-count row)))
+  abbrev repeated : Outcome → Outcome
+  repeated = unless_some 6 (repeats of_row) (length of_row.links)
 
--- a round of one rule: it refuses, it refuses nothing
-module _ (plan : Plan) (n : ℕ) (one : Single n) (count m : ℕ) (fc : count ≡ count_for plan n) (fm : m ≡ lowest (breaks plan n) count) where
-  no_paths : (eqb n 7 || eqb n 10) ≡ false
-  no_paths = rw (ne_eqb n 7 one.other, ne_eqb n 10 (λ e. omega (arith, e, one.below)))
+  abbrev slots : Outcome → Outcome
+  slots = unless_some 8 (bad_slots of_row) (length of_row.messages)
 
-  pub single_broken : m < count → (r : Refusal) → r ≡ refusal_at n m → Says (round_of plan n) r
-  single_broken b r e after =
-      let t : ltb (lowest (breaks plan n) (count_for plan n)) (count_for plan n) ≡ true = rw (← fc, ← fm) (lt-ltb m count b) in
-      let f : lowest (breaks plan n) (count_for plan n) ≡ m = sym (fm ∙ ap (lowest (breaks plan n)) fc) in
-      let z : eqb n 0 ≡ false = ne_eqb n 0 (λ x. omega (arith, x, one.from)) in
-      rw (no_paths, t, f, e, z)
+  all_links : links ≡ length of_row.links
+  all_links = fl ∙ sym (link-count row)
 
-  pub single_kept : count ≤ m → (r : Refusal) → r ≡ refusal_at 0 0 → Says (round_of plan n) r
-  single_kept b r e after =
-      let t : ltb (lowest (breaks plan n) (count_for plan n)) (count_for plan n) ≡ false = rw (← fc, ← fm) (le-ltb m count b) in
-      rw (no_paths, t, e)
+  pub ends_refused : (e : Refusal) → Says (unless_some 5 (bad_ends of_row) links) (Err e) → Says (early_rules of_row) (Err e)
+  ends_refused e h =
+      stops ends (λ after. repeated (path_rules of_row First (slots after))) e
+      (counted (bad_ends of_row) (length of_row.links) 5 links (Err e) h all_links)
 
--- what is found of a message in the round of first paths, and in that of second paths
-module _ (plan : Plan) (n : ℕ) (ps : List Place) (r : Fault) where
-  abbrev ByRound : Bool → Type 0
-  ByRound b =
-      FaultOf (λ x p s. cond b (first_rule plan ps x p s) (second_rule plan ps x p s)) (λ p. cond b (length ps) (length (place_in ps p).second))
-      (cond b 3 5) (length ps) r
+  module _ (x : ⊤) (kept : Says (unless_some 5 (bad_ends of_row) links) (Ok x)) where
+    after_ends : (r : Result ⊤ Refusal) → Says (λ after. repeated (path_rules of_row First (slots after))) r → Says (early_rules of_row) r
+    after_ends r =
+        goes_on ends (λ after. repeated (path_rules of_row First (slots after))) x r
+        (counted (bad_ends of_row) (length of_row.links) 5 links (Ok x) kept all_links)
 
-  pub message-first : n < 10 → FirstFault plan ps r → MessageFault plan n ps r
-  message-first h g = subst ByRound (sym (lt-ltb n 10 h)) g
+    pub repeat_refused : (i : ℕ) → (i < link_count row) × (i ≡ lowest (repeats of_row) (link_count row)) →
+        Says (early_rules of_row) (Err (refusal_at 6 i))
+    repeat_refused i h =
+        after_ends (Err (refusal_at 6 i))
+        (stops repeated (λ after. path_rules of_row First (slots after)) (refusal_at 6 i)
+        (counted (repeats of_row) (length of_row.links) 6 (link_count row) (Err (refusal_at 6 i))
+        (refuses_lowest (repeats of_row) (link_count row) 6 i h.0 h.1) (sym (link-count row))))
 
-  pub message-second : 10 ≤ n → SecondFault plan ps r → MessageFault plan n ps r
-  message-second h g = subst ByRound (sym (le-ltb n 10 h)) g
+    module _ (unlike : some (repeats of_row) (link_count row) ≡ false) where
+      after_repeats : (r : Result ⊤ Refusal) → Says (λ after. path_rules of_row First (slots after)) r → Says (early_rules of_row) r
+      after_repeats r h =
+          after_ends r
+          (goes_on repeated (λ after. path_rules of_row First (slots after)) tt r
+          (counted (repeats of_row) (length of_row.links) 6 (link_count row) (Ok tt)
+          (refuses_none (repeats of_row) (link_count row) 6 unlike) (sym (link-count row))) h)
 
--- a round of paths has few rules
-pub few-rules : (n x : ℕ) → x < rule_count n → x < 5
-few-rules n x h = by (ltb n 10) h
-  where
-    by : (t : Bool) → x < cond t 3 5 → x < 5
-    by true h = omega arith
-    by false h = h
+      pub paths_refused : (e : Refusal) → Says (path_rules of_row First) (Err e) → Says (early_rules of_row) (Err e)
+      paths_refused e h = after_repeats (Err e) (stops (path_rules of_row First) slots e h)
 
--- a round of paths, by its earliest rule that is broken
-module _ (plan : Plan) (n : ℕ) where
+      pub slots_last : (y : ⊤) → Says (path_rules of_row First) (Ok y) → (messages : ℕ) → messages ≡ message_count row →
+          (r : Result ⊤ Refusal) → Says (unless_some 8 (bad_slots of_row) messages) r → Says (early_rules of_row) r
+      slots_last y g messages fm r h =
+          after_repeats r
+          (goes_on (path_rules of_row First) slots y r g
+          (counted (bad_slots of_row) (length of_row.messages) 8 messages r h (fm ∙ sym (message-count row))))
+
+-- the rules that are asked with a table
+module _ (row : List ℕ) (messages : ℕ) (fm : messages ≡ message_count row) where
+  taken : (r : Result ⊤ Refusal) → Says (unless_some 9 (bad_table (plan_of row)) messages) r →
+      Says (unless_some 9 (bad_table (plan_of row)) (length (plan_of row).messages)) r
+  taken r h = counted (bad_table (plan_of row)) (length (plan_of row).messages) 9 messages r h (fm ∙ sym (message-count row))
+
+  pub table_refused : (e : Refusal) → Says (unless_some 9 (bad_table (plan_of row)) messages) (Err e) → Says (late_rules (plan_of row)) (Err e)
+  table_refused e h =
+      stops (unless_some 9 (bad_table (plan_of row)) (length (plan_of row).messages)) (path_rules (plan_of row) Second) e (taken (Err e) h)
+
+  pub seconds_last : (x : ⊤) → Says (unless_some 9 (bad_table (plan_of row)) messages) (Ok x) → (r : Result ⊤ Refusal) →
+      Says (path_rules (plan_of row) Second) r → Says (late_rules (plan_of row)) r
+  seconds_last x h r g =
+      goes_on (unless_some 9 (bad_table (plan_of row)) (length (plan_of row).messages)) (path_rules (plan_of row) Second) x r (taken (Ok x) h) g
+
+-- all of them, and nothing after them
+module _ (plan : Plan) where
+  pub early_refused : (e : Refusal) → Says (early_rules plan) (Err e) → Says (λ after. early_rules plan (late_rules plan after)) (Err e)
+  early_refused = stops (early_rules plan) (late_rules plan)
+
+  pub late_last : (x : ⊤) → Says (early_rules plan) (Ok x) → (r : Result ⊤ Refusal) → Says (late_rules plan) r →
+      Says (λ after. early_rules plan (late_rules plan after)) r
+  late_last x h r g = goes_on (early_rules plan) (late_rules plan) x r h g
+
+  pub nothing_after : (r : Result ⊤ Refusal) → Says (λ after. early_rules plan (late_rules plan after)) r → told r (gives 0) ≡ rules plan
+  unfolding rules
+  nothing_after r h = sym (h.says (gives 0))
+
+-- a rule of paths that is never broken
+never : (plan : Plan) (k : ℕ) (rule : PathRule) (after : Outcome) → ((m : ℕ) → breaks_it plan rule m ≡ false) →
+    unless_on plan k rule after ≡ after
+never plan k rule after h = let f : some (breaks_it plan rule) (length plan.messages) ≡ false = none _ _ (λ m l. h m) in rw f
+
+-- these paths of a plan, by their earliest rule that is broken
+module _ (plan : Plan) (paths : Paths) where
   abbrev M : ℕ
   M = length plan.messages
 
   refusal : ℕ → Outcome
   refusal x =
-      let m = lowest (breaks_it plan (round_rule plan n x)) M in
-      refuse_on (number_of n x) m (place_broken plan (round_rule plan n x) m) (step_broken plan (round_rule plan n x) m)
+      let m = lowest (breaks_it plan (round_rule plan paths x)) M in
+      refuse_on (number_of paths x) m (place_broken plan (round_rule plan paths x) m) (step_broken plan (round_rule plan paths x) m)
 
-  in_order : (k x top : ℕ) → x + k ≡ top → (after : Outcome) → path_rules plan n k x after ≡
-      (let y = seek (λ z. some (breaks_it plan (round_rule plan n z)) M) k x in cond (ltb y top) (refusal y) after)
-  unfolding seek path_rules refusal
+  -- k rules from rule x on
+  in_turn : ℕ → ℕ → Outcome → Outcome
+  in_turn zero x after = after
+  in_turn (suc k) x after = unless_on plan (number_of paths x) (round_rule plan paths x) (in_turn k (x + 1) after)
+
+  in_order : (k x top : ℕ) → x + k ≡ top → (after : Outcome) → in_turn k x after ≡
+      (let y = seek (λ z. some (breaks_it plan (round_rule plan paths z)) M) k x in cond (ltb y top) (refusal y) after)
+  unfolding seek refusal in_turn
   in_order zero x top h after = let t : ltb x top ≡ false = le-ltb x top (omega arith) in rw t
-  in_order (suc k) x top h after = by (some (breaks_it plan (round_rule plan n x)) M) (in_order k (x + 1) top (omega arith) after)
+  in_order (suc k) x top h after = by (some (breaks_it plan (round_rule plan paths x)) M) (in_order k (x + 1) top (omega arith) after)
     where
       next : ℕ
-      next = seek (λ z. some (breaks_it plan (round_rule plan n z)) M) k (x + 1)
+      next = seek (λ z. some (breaks_it plan (round_rule plan paths z)) M) k (x + 1)
 
-      by : (t : Bool) → path_rules plan n k (x + 1) after ≡ cond (ltb next top) (refusal next) after →
-          cond t (refusal x) (path_rules plan n k (x + 1) after) ≡ cond (ltb (cond t x next) top) (refusal (cond t x next)) after
+      by : (t : Bool) → in_turn k (x + 1) after ≡ cond (ltb next top) (refusal next) after →
+          cond t (refusal x) (in_turn k (x + 1) after) ≡ cond (ltb (cond t x next) top) (refusal (cond t x next)) after
       by true e = let t : ltb x top ≡ true = lt-ltb x top (omega arith) in rw t
       by false e = e
 
-  module _ (paths : (eqb n 7 || eqb n 10) ≡ true) (f : Fault) (g : PlanFault plan n M f) where
-    whole : (after : Outcome) → round_of plan n after ≡ cond (ltb f.rule (rule_count n)) (refusal f.rule) after
-    whole after =
-        rw paths (in_order (rule_count n) 0 (rule_count n) (omega arith) after ∙ ap (λ x. cond (ltb x (rule_count n)) (refusal x) after) (sym
-        g.found.earliest))
+both_false : (b : Bool) → (b && false) ≡ false
+both_false true = refl
+both_false false = refl
 
-    numbered : eqb (number_of n f.rule) 0 ≡ false
-    numbered = ne_eqb (number_of n f.rule) 0 (by (eqb f.rule 0) (ltb n 10) (eqb n 7) (eqb n 10) refl refl paths)
-      where
-        by : (a b c d : Bool) → eqb n 7 ≡ c → eqb n 10 ≡ d → (c || d) ≡ true → cond a n (cond b (13 + f.rule) (15 + f.rule)) ≡ 0 → ⊥
-        by true b true d e h k z = omega (arith, eqb-true n 7 e, z)
-        by true b false true e h k z = omega (arith, eqb-true n 10 h, z)
-        by true b false false e h k z = true≢false (sym k)
-        by false true c d e h k z = omega (arith, z)
-        by false false c d e h k z = omega (arith, z)
+-- they are the rules of the document, in its order
+all_in_turn : (plan : Plan) (paths : Paths) (after : Outcome) → path_rules plan paths after ≡ in_turn plan paths 5 0 after
+unfolding in_turn
+all_in_turn plan First after =
+    let rule : ℕ → PathRule = round_rule plan First in
+    let left = unless_on plan 15 (rule 3) (unless_on plan 15 (rule 4) after) in
+    sym (ap (λ o. unless_on plan 7 (rule 0) (unless_on plan 14 (rule 1) o))
+    (never plan 15 (rule 2) left (λ m. none _ _ (λ p l. none _ _ (λ s k. both_false (eqb s p)))) ∙
+    ap (unless_on plan 15 (rule 3)) (never plan 15 (rule 4) after (λ m. none _ _ (λ p l. none _ _ (λ s k. both_false (eqb s p)))))))
+all_in_turn plan Second after = refl
 
-    pub paths_broken : f.rule < rule_count n → (number : ℕ) → number ≡ number_of n f.rule → (r : Refusal) →
-        r ≡ refusal_on number f.message f.at f.step → Says (round_of plan n) r
-    unfolding refusal
-    paths_broken h number fn r e after =
-        let x = f.rule in
-        let rule = round_rule plan n x in
-        let t : ltb x (rule_count n) ≡ true = lt-ltb x (rule_count n) h in
-        let named : refusal x ≡ refused r =
-        ap (λ m. refuse_on (number_of n x) m (place_broken plan rule m) (step_broken plan rule m)) (sym (g.found.first h)) ∙
-        ap (λ p. refuse_on (number_of n x) f.message p (step_broken plan rule f.message)) (sym (g.at h)) ∙
-        ap (refuse_on (number_of n x) f.message f.at) (sym (g.step h)) ∙
-        ap (λ k. refuse_on k f.message f.at f.step) (sym fn) ∙ ap refused (sym e) in
-        let z : eqb r.no 0 ≡ false = ap (λ y. eqb y.no 0) e ∙ ap (λ k. eqb k 0) fn ∙ numbered in
-        whole after ∙ ap (λ b. cond b (refusal x) after) t ∙ named ∙ sym (ap (λ b. cond b after (refused r)) z)
+module _ (plan : Plan) (paths : Paths) (r : Option Fault) (g : PlanFault plan paths (length plan.messages) r) where
+  whole : (after : Outcome) → path_rules plan paths after ≡ cond (ltb (order r) 5) (refusal plan paths (order r)) after
+  whole after =
+      all_in_turn plan paths after ∙ in_order plan paths 5 0 5 refl after ∙
+      ap (λ x. cond (ltb x 5) (refusal plan paths x) after) (sym g.found.earliest)
 
-    pub paths_kept : rule_count n ≤ f.rule → (r : Refusal) → r ≡ refusal_at 0 0 → Says (round_of plan n) r
-    paths_kept h r e after =
-        let t : ltb f.rule (rule_count n) ≡ false = le-ltb f.rule (rule_count n) h in
-        whole after ∙ rw (t, e)
+  pub paths_broken : order r < 5 → (number : ℕ) → number ≡ number_of paths (order r) → (e : Refusal) →
+      e ≡ refusal_on number (message_of r) (at_of r) (step_of r) → Says (path_rules plan paths) (Err e)
+  unfolding refusal
+  paths_broken h number fn e is =
+      let x = order r in
+      let rule = round_rule plan paths x in
+      let t : ltb x 5 ≡ true = lt-ltb x 5 h in
+      let named : refusal plan paths x ≡ refused e =
+      ap (λ m. refuse_on (number_of paths x) m (place_broken plan rule m) (step_broken plan rule m)) (sym (g.found.first h)) ∙
+      ap (λ p. refuse_on (number_of paths x) (message_of r) p (step_broken plan rule (message_of r))) (sym (g.at h)) ∙
+      ap (refuse_on (number_of paths x) (message_of r) (at_of r)) (sym (g.step h)) ∙
+      ap (λ k. refuse_on k (message_of r) (at_of r) (step_of r)) (sym fn) ∙ ap refused (sym is) in
+      record { says = λ after. whole after ∙ ap (λ b. cond b (refusal plan paths x) after) t ∙ named }
 
-  -- a loop over the messages, at message m
-  pub messages-first : (f : Fault) → f.rule ≡ rule_count n → PlanFault plan n 0 f
-  messages-first f e =
+  pub paths_kept : order r ≡ 5 → Says (path_rules plan paths) (Ok tt)
+  paths_kept h = record { says = λ after. whole after ∙ rw h }
+
+pub order-few : (x : Rule) → order_of x < 5
+order-few NoLink = omega arith
+order-few Apart = omega arith
+order-few Astray = omega arith
+order-few Again = omega arith
+order-few Replaced = omega arith
+
+-- a fault told with its message
+pub record ToldOf (m : ℕ) (fault told : Option Fault) : Type 0 where
+  pub rule : order told ≡ order fault
+  pub message : order told < 5 → message_of told ≡ m
+  pub at : at_of told ≡ at_of fault
+  pub step : step_of told ≡ step_of fault
+
+pub told_of : (m : ℕ) (fault told : Option Fault) (post : Fault → Fault → Type 0) →
+    ((x r : Fault) → post x r → r ≡ record { rule = x.rule; message = m; at = x.at; step = x.step }) →
+    MatchOption fault (told ≡ None) (λ x. IsSomeAnd told (post x)) → ToldOf m fault told
+told_of m None told post is h = rw h (record { rule = refl; message = λ l. absurd (omega arith); at = refl; step = refl })
+told_of m (Some x) None post is h = elim h [ ]
+told_of m (Some x) (Some r) post is h =
+    let e = is x r h in
+    record {
+      rule = ap (λ f. order_of f.rule) e;
+      message = λ l. ap (λ f. f.message) e;
+      at = ap (λ f. f.at) e;
+      step = ap (λ f. f.step) e;
+    }
+
+-- a loop over the messages, at message m
+module _ (plan : Plan) (paths : Paths) where
+  pub messages-first : PlanFault plan paths 0 None
+  messages-first =
+      record { found = earliest-none _ 5 0; at = λ h. absurd (omega arith); step = λ h. absurd (omega arith) }
+
+  pub messages-next : (m : ℕ) (kept here next fault : Option Fault) → PlanFault plan paths m kept →
+      MessageFault plan paths (path_of plan m) fault → ToldOf m fault here →
+      next ≡ cond (ltb (order here) (order kept)) here kept → PlanFault plan paths (m + 1) next
+  messages-next m kept here next fault g f t e =
       record {
-        found = rw e (earliest-none _ (rule_count n) f.message);
-        at = λ h. absurd (omega (arith, e));
-        step = λ h. absurd (omega (arith, e));
-      }
-
-  pub messages-next : (m : ℕ) (kept here next fault : Fault) → PlanFault plan n m kept → MessageFault plan n (path_of plan m) fault →
-      here.rule ≡ fault.rule → here.message ≡ m → here.at ≡ fault.at → here.step ≡ fault.step →
-      next ≡ cond (ltb here.rule kept.rule) here kept → PlanFault plan n (m + 1) next
-  messages-next m kept here next fault g f fr fm fa fs e =
-      record {
-        found = earliest-next _ (rule_count n) m (λ r. r.message) kept here next g.found fm (fr ∙ f.found.earliest) e;
-        at = one (λ r. r.rule < rule_count n → r.at ≡ place_broken plan (round_rule plan n r.rule) r.message) g.at (λ h. place (inside
-            h));
-        step =
-            one (λ r. r.rule < rule_count n → r.step ≡ step_broken plan (round_rule plan n r.rule) r.message) g.step (λ h. way (inside
-            h));
+        found = earliest-next _ 5 m message_of kept here next g.found t.message (t.rule ∙ f.found.earliest) e;
+        at = one (λ r. order r < 5 → at_of r ≡ place_broken plan (round_rule plan paths (order r)) (message_of r)) g.at place;
+        step = one (λ r. order r < 5 → step_of r ≡ step_broken plan (round_rule plan paths (order r)) (message_of r)) g.step way;
       }
     where
-      one : (P : Fault → Type 0) → P kept → P here → P next
-      one = either _ (rule_count n) m (λ r. r.message) kept here next g.found fm (fr ∙ f.found.earliest) e
+      one : (P : Option Fault → Type 0) → P kept → P here → P next
+      one = either _ 5 m message_of kept here next g.found t.message (t.rule ∙ f.found.earliest) e
 
-      inside : here.rule < rule_count n → fault.rule < rule_count n
-      inside h = rw (← fr) h
+      place : order here < 5 → at_of here ≡ place_broken plan (round_rule plan paths (order here)) (message_of here)
+      place h = let l : order fault < 5 = rw (← t.rule) h in rw (t.at, t.rule, t.message h) (f.found.first l)
 
-      place : fault.rule < rule_count n → here.at ≡ place_broken plan (round_rule plan n here.rule) here.message
-      place h = rw (fa, fr, fm) (f.found.first h)
-
-      way : fault.rule < rule_count n → here.step ≡ step_broken plan (round_rule plan n here.rule) here.message
-      way h = rw (fs, fr, fm, ← f.found.first h) (f.step h)
-
--- a loop over the rounds from `from` on, up to `to`, at round n: it begins, it goes on, it gives a refusal, it is done
-module _ (plan : Plan) (from to : ℕ) where
-  pub record Rounds (n : ℕ) : Type 0 where
-    pub same : (after : Outcome) → rounds_of plan (to - n) n after ≡ rounds_of plan (to - from) from after
-    pub first : from ≤ n
-    pub most : n ≤ to
-
-  pub rounds_first : from ≤ to → Rounds from
-  rounds_first h = record { same = λ after. refl; first = omega arith; most = h }
-
-  module _ (n : ℕ) (w : Rounds n) where
-    module _ (h : n < to) (r : Refusal) (says : Says (round_of plan n) r) where
-      one_more : (after : Outcome) → rounds_of plan (to - n) n after ≡ cond (eqb r.no 0) (rounds_of plan (to - (n + 1)) (n + 1) after) (refused
-          r)
-      unfolding rounds_of
-      one_more after =
-          let left : to - n ≡ suc (to - (n + 1)) = omega arith in
-          ap (λ k. rounds_of plan k n after) left ∙ says (rounds_of plan (to - (n + 1)) (n + 1) after)
-
-      pub rounds_next : r.no ≡ 0 → Rounds (n + 1)
-      rounds_next e =
-          let t : eqb r.no 0 ≡ true = eq-eqb r.no 0 e in
-          record { same = λ after. sym (one_more after ∙ rw t) ∙ w.same after; first = omega (arith, w.first); most = omega arith }
-
-      pub rounds_broken : (r.no ≡ 0 → ⊥) → Says (rounds_of plan (to - from) from) r
-      rounds_broken e after =
-          let t : eqb r.no 0 ≡ false = ne_eqb r.no 0 e in
-          sym (w.same after) ∙ one_more after ∙ rw t
-
-    pub rounds_done : to ≤ n → (r : Refusal) → r ≡ refusal_at 0 0 → Says (rounds_of plan (to - from) from) r
-    unfolding rounds_of
-    rounds_done h r e after = let z : to - n ≡ zero = omega arith in sym (w.same after) ∙ ap (λ k. rounds_of plan k n after) z ∙ rw e
-
--- all rounds: the early ones refuse, the late ones do, none does
-module _ (plan : Plan) (early : Refusal) (e : Says (rounds_of plan 4 5) early) where
-  all : rules plan ≡ cond (eqb early.no 0) (rounds_of plan 2 9 (gives 0)) (refused early)
-  unfolding rounds_of path_rules rules
-  all = e (rounds_of plan 2 9 (gives 0))
-
-  pub early-broken : (early.no ≡ 0 → ⊥) → refused early ≡ rules plan
-  early-broken h = let t : eqb early.no 0 ≡ false = ne_eqb early.no 0 h in sym (all ∙ rw t)
-
-  module _ (h : early.no ≡ 0) (late : Refusal) (l : Says (rounds_of plan 2 9) late) where
-    both : rules plan ≡ cond (eqb late.no 0) (gives 0) (refused late)
-    both = let t : eqb early.no 0 ≡ true = eq-eqb early.no 0 h in all ∙ rw t (l (gives 0))
-
-    pub late_broken : (late.no ≡ 0 → ⊥) → refused late ≡ rules plan
-    late_broken g = let t : eqb late.no 0 ≡ false = ne_eqb late.no 0 g in sym (both ∙ rw t)
-
-    pub none-broken : late.no ≡ 0 → gives 0 ≡ rules plan
-    none-broken g = let t : eqb late.no 0 ≡ true = eq-eqb late.no 0 g in sym (both ∙ rw t)
+      way : order here < 5 → step_of here ≡ step_broken plan (round_rule plan paths (order here)) (message_of here)
+      way h = let l : order fault < 5 = rw (← t.rule) h in rw (t.step, t.rule, t.message h, ← f.found.first l) (f.step l)

@@ -72,10 +72,6 @@ longest_events = 4096
 abbrev pub slot_events : ℕ
 slot_events = 64
 
--- who has tried which link in a slot: how many have, then a link and a message for each
-abbrev pub tries_size : ℕ
-tries_size = 65
-
 -- "k (0 to 3)"
 abbrev pub most_cuts : ℕ
 most_cuts = 3

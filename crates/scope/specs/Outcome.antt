@@ -1,10 +1,8 @@
 -- "A refusal gives its number and place, zero in every other result." What an answer says, in document 01's numbers; with the place and
 -- the step of request [1].
-use Rattle.std.specs.Prelude.{ℕ, Bool, cond, ◌&&◌, ◌||◌, ltb, leb, eqb}
+use Rattle.std.specs.Prelude.{ℕ, Bool, cond, ◌&&◌, ◌||◌, ltb, leb, eqb, Result, Ok, Err}
 use Rattle.scope.specs.Lowest.{lowest}
 use Rattle.scope.specs.declared.Refusal.{Refusal}
-use Rattle.scope.specs.declared.Answer.{Answer}
-use Rattle.scope.specs.declared.Answer.TheVariants.{Gives, Refused}
 
 -- "With the message come the place and the step of the first link at fault": the refusal of a rule of paths
 abbrev pub refusal_on : ℕ → ℕ → ℕ → ℕ → Refusal
@@ -28,10 +26,14 @@ refuse k p = refused (refusal_at k p)
 abbrev pub refuse_on : ℕ → ℕ → ℕ → ℕ → Outcome
 refuse_on k m p s = refused (refusal_on k m p s)
 
+-- an answer that is one number: a count of numbers or bytes, or the number of arrivals; or the refusal
+abbrev pub Answer : Type 0
+Answer = Result ℕ Refusal
+
 -- the number and values of each case of an answer
 abbrev pub outcome_of : Answer → Outcome
-outcome_of (Gives n) = gives n
-outcome_of (Refused r) = refused r
+outcome_of (Ok n) = gives n
+outcome_of (Err r) = refused r
 
 -- the numbers of an outcome: those of the refusal, each 0 where there is none, and the result, 0 beside a refusal
 abbrev pub number : Outcome → ℕ

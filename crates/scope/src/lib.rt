@@ -10,20 +10,14 @@ ghost use Rattle.scope.specs.Outcome.{outcome_of, refusal_at, refusal_on, refuse
 pub mod limits;
 
 // A refusal: its number, and its place; of a rule of paths the place is the message, and with it come the place on its first path and
-// the step, zero in every other refusal. One struct in every answer.
+// the step, zero in every other refusal. One struct in every answer. The number is document 01's and stays a number: callers in other
+// languages get it, and `listing::refusal_text` prints the line of any.
 #[derive(Clone, Copy)]
 pub struct Refusal {
     pub no: usize,
     pub place: usize,
     pub at: usize,
     pub step: usize,
-}
-
-// An answer that is one number: a count of numbers or bytes, or the number of arrivals.
-#[derive(Clone, Copy)]
-pub enum Answer {
-    Gives(usize),
-    Refused(Refusal),
 }
 
 // The refusal of a rule of paths: message, place and step. Every refusal is made here.
@@ -46,10 +40,10 @@ pub fn refusal_at(no: usize, place: usize) -> Refusal
 }
 
 // The answer that refuses with a number and a place.
-pub fn refuse(no: usize, place: usize) -> Answer
+pub fn refuse(no: usize, place: usize) -> Result<usize, Refusal>
     ensures { outcome_of result ≡ refuse no place }
 {
-    Answer::Refused(refusal_at(no, place))
+    Err(refusal_at(no, place))
 }
 
 // The next field of a plan after its edition, with how many of each kind follow. The counts are those of the file, "less one":

@@ -1,11 +1,5 @@
 -- A list played to the end, as long as enough messages can be lost.
-use Prim.Native.Nat.{ℕ, ◌+◌, ◌*◌, ◌≤◌, ◌<◌}
-use native.Mathlib.Omega.{arith}
-use mathlib.Core.Path.{◌≡◌, sym, ◌∙◌, ap, ap₂}
-use mathlib.Core.Bool.{Bool, true, false}
-use mathlib.Core.List.{List}
-use lib.ListN.{length, take}
-use lib.Dec.{ltb}
+use Rattle.std.proofs.Common.{◌≡◌, sym, ◌∙◌, ap, ℕ, ◌+◌, ◌≤◌, ◌<◌, Bool, true, false, None, Some, List, ltb, arith}
 use borrow.Author.Tests.{ltb-true, ltb-false}
 use Rattle.scope.specs.Plan.{plan_of}
 use Rattle.scope.specs.Cuts.{is_cut}
@@ -15,78 +9,78 @@ use Rattle.step.specs.Stand.{positions_of}
 use Rattle.order.proofs.Steps.{nothing_more, itself}
 use Rattle.picks.specs.Picks.{cuts_of, StandAt, MayAdvance}
 use Rattle.picks.proofs.Playing.{may_advance}
+use Rattle.board.specs.declared.Board.{Board}
 use Rattle.search.specs.declared.Asked.{Asked}
 use Rattle.picks.specs.declared.Picked.{Picked}
-use Rattle.risks.specs.declared.Hits.{Hits}
+use Rattle.board.specs.declared.Walk.{Walk}
 use Rattle.risks.specs.declared.Risk.{Risk}
-use Rattle.search.specs.declared.Found.{Found}
-use Rattle.search.specs.Hunt.{Seeks, no_found, MayPlayOut, Sought}
+use Rattle.search.specs.Hunt.{Seeks, MaySeek, Sought}
 use Rattle.risks.specs.Weighed.{AreAway}
 use Rattle.risks.specs.Risks.{risks_of}
 use Rattle.risks.proofs.Risks.{lost-counted}
-use Rattle.search.proofs.Telling.{tells_none, tells-some}
+use Rattle.search.proofs.Levels.{}
 
 -- the list picked stands at time i, and those of a set are still away
-pub record Ending (row : List ℕ) (a : Asked) (p : Picked) (i : ℕ) (qs : Standing) (still : ℕ) : Type 0 where
-  pub stand : StandAt row a.sizes.messages (cuts_of p) i qs
-  pub away : AreAway qs.positions a.sizes.messages still
+pub record Ending (row : List ℕ) (board : Board) (p : Picked) (i : ℕ) (qs : Standing) (still : ℕ) : Type 0 where
+  pub stand : StandAt row board.sizes.messages (cuts_of p) i qs
+  pub away : AreAway qs.positions board.sizes.messages still
   pub from : p.slot ≤ i
-  pub early : i ≤ a.sizes.timeout
+  pub early : i ≤ board.sizes.timeout
 
-module _ (row table : List ℕ) (a : Asked) (hits : Hits) (ps : Standing) (left : ℕ) (p : Picked)
-    (m : MayPlayOut row table a hits ps left p) where
-  pub ends-first : Ending row a p p.slot ps left
-  ends-first = record { stand = m.stand; away = m.away; from = omega arith; early = m.holding.slot }
+module _ (row : List ℕ) (board : Board) (a : Asked) (walk : Walk) (m : MaySeek row board a walk 0) where
+  abbrev p : Picked
+  p = walk.picked
+
+  pub ends-first : Ending row board p p.slot walk.standing walk.left
+  ends-first = record { stand = m.walks.stand; away = m.walks.away; from = omega arith; early = m.walks.holding.slot }
 
   -- the answer at the end
-  pub settled_none : (r : Found) (n : ℕ) (b : Bool) → r ≡ no_found → n ≡ arrivals (plan_of row) (cuts_of p) → b ≡ ltb n a.least → b ≡ false →
-      Sought row a p 0 r
-  settled_none r n b is e t so =
-      tells_none row _ _ (p.count + 0) r is
-      (nothing_more (plan_of row) (Seeks row a) (cuts_of p) (λ it. omega (arith, it, ltb-false n a.least (sym t ∙ so))))
+  pub settled_none : (n : ℕ) (b : Bool) → n ≡ arrivals (plan_of row) (cuts_of p) → b ≡ ltb n a.least → b ≡ false → Sought row a p 0 None
+  settled_none n b e t so =
+      nothing_more (plan_of row) (Seeks row a) (cuts_of p) (λ it. omega (arith, it, ltb-false n a.least (sym t ∙ so)))
 
-  pub settled_some : (r : Found) (n : ℕ) (b : Bool) → r.arrivals ≡ n → r.numbers ≡ p.numbers → r.found ≡ true →
-      n ≡ arrivals (plan_of row) (cuts_of p) → b ≡ ltb n a.least → b ≡ true → Sought row a p 0 r
-  settled_some r n b i same f e t so =
-      let z : p.count + 0 ≡ p.count = omega arith in
-      let list : take (2 * (p.count + 0)) r.numbers ≡ cuts_of p = ap₂ (λ (k : ℕ) (l : List ℕ). take (2 * k) l) z same in
-      tells-some row _ _ (p.count + 0) r f (ap length same ∙ m.holding.long)
-      (rw list (itself (plan_of row) (Seeks row a) (cuts_of p) m.holding.chosen.good (omega (arith, ltb-true n a.least (sym t ∙ so)))))
-      (i ∙ e ∙ ap (arrivals (plan_of row)) (sym list)) (λ j l. rw same (m.holding.past j (omega arith)))
+  pub settled_some : (n : ℕ) (b : Bool) → n ≡ arrivals (plan_of row) (cuts_of p) → b ≡ ltb n a.least → b ≡ true →
+      Sought row a p 0 (Some (record { pairs = p.count; arrivals = n; numbers = p.numbers }))
+  settled_some n b e t so =
+      record {
+        told = record { long = m.walks.holding.long; left = e; past = m.walks.holding.past };
+        count = omega arith;
+        first = itself (plan_of row) (Seeks row a) (cuts_of p) m.walks.holding.chosen.good (omega (arith, ltb-true n a.least (sym t ∙ so)));
+      }
 
-  module _ (i : ℕ) (qs : Standing) (still : ℕ) (g : Ending row a p i qs still) where
-    pub ends-may : i < a.sizes.timeout → MayAdvance row table a.sizes qs p
-    ends-may = may_advance row table a.sizes qs p i m.play m.holding g.stand g.from
+  module _ (i : ℕ) (qs : Standing) (still : ℕ) (g : Ending row board p i qs still) where
+    pub ends-may : i < board.sizes.timeout → MayAdvance row board.table board.sizes qs p
+    ends-may = may_advance row board.table board.sizes qs p i m.ready.laid.play m.walks.holding g.stand g.from
 
-    pub ends_more : (rs : Standing) (then : ℕ) → i < a.sizes.timeout → StandAt row a.sizes.messages (cuts_of p) (qs.time.0 + 1) rs →
-        AreAway rs.positions a.sizes.messages then → Ending row a p (i + 1) rs then
+    pub ends_more : (rs : Standing) (then : ℕ) → i < board.sizes.timeout →
+        StandAt row board.sizes.messages (cuts_of p) (qs.time.0 + 1) rs →
+        AreAway rs.positions board.sizes.messages then → Ending row board p (i + 1) rs then
     ends_more rs then l s are =
         record { stand = rw g.stand.time at s; away = are; from = omega (arith, g.from); early = omega arith }
 
     -- too few can be lost
-    pub ends_light : (r : Found) (risk : Risk) (b : Bool) → r ≡ no_found → risk ≡ risks_of hits still → b ≡ ltb risk.lost a.need →
-        b ≡ true → Sought row a p 0 r
-    ends_light r risk b is count t so =
-        let few = lost-counted row a.sizes.messages (cuts_of p) i qs g.stand m.play.messages still g.away hits m.covers in
+    pub ends_light : (risk : Risk) (b : Bool) → risk ≡ risks_of walk.hits still → b ≡ ltb risk.lost a.need → b ≡ true → Sought row a p 0 None
+    ends_light risk b count t so =
+        let play = m.ready.laid.play in
+        let few = lost-counted row board.sizes.messages (cuts_of p) i qs g.stand play.messages still g.away walk.hits m.walks.covers in
         let light = ltb-true risk.lost a.need (sym t ∙ so) in
-        tells_none row _ _ (p.count + 0) r is
-        (nothing_more (plan_of row) (Seeks row a) (cuts_of p)
+        nothing_more (plan_of row) (Seeks row a) (cuts_of p)
         (λ it.
         omega (
           arith,
-          m.bounds.whole (cuts_of p) p.count i (omega (arith, g.early, m.play.timeout)) m.holding.chosen.long
-              m.holding.chosen.good it,
+          m.ready.bounds.whole (cuts_of p) p.count i (omega (arith, g.early, play.timeout)) m.walks.holding.chosen.long
+              m.walks.holding.chosen.good it,
           few,
           ap (λ (x : Risk). x.lost) count,
           light,
-        )))
+        ))
 
     -- the end
-    pub ends_over : (n : ℕ) → a.sizes.timeout ≤ i → n ≡ arrived (positions_of row a.sizes.messages qs.positions) →
+    pub ends_over : (n : ℕ) → board.sizes.timeout ≤ i → n ≡ arrived (positions_of row board.sizes.messages qs.positions) →
         n ≡ arrivals (plan_of row) (cuts_of p)
     unfolding arrivals
     ends_over n l e =
-        let t : i ≡ (plan_of row).timeout = omega (arith, g.early, m.play.timeout) in
+        let t : i ≡ (plan_of row).timeout = omega (arith, g.early, m.ready.laid.play.timeout) in
         e ∙ ap arrived g.stand.next.is ∙
         ap (λ (k : ℕ). arrived
         (positions (order_of (plan_of row)) (is_cut (plan_of row) (cuts_of p)) (table_of (plan_of row)) 0 k (start (plan_of row)))) t

@@ -1,65 +1,33 @@
 // The search for a failing list: lists are tried in the order of document 01's verdict, fewest pairs first; a list is played from its last
 // pair on, and lists that a bound shows not to answer are passed over. What is asked of a list only `answers` knows, and `hopeless` that
-// no list from here can answer. Of the bound it knows only specs/Bounds of `bound`. It leans on `picks` for the pairs picked and a slot
-// played under them, on `order` for the steps from pair to pair and the first list, on `sets` for sets of messages, on `cycle` for the
-// arrivals and on the theorems of `laws`. What `picks` and `order` say serves two questions: this one, and which list explains a capture.
+// no list from here can answer. Of the bound it knows only specs/Bounds of `bound`. It goes over a `board`, and leans on `picks` for the pairs
+// picked and a slot played under them, on `order` for the steps from pair to pair and the first list, on `sets` for sets of messages, on
+// `cycle` for the arrivals and on the theorems of `laws`. What `picks` and `order` say serves two questions: this one, and which list
+// explains a capture.
 
 #![tactic(auto)]
 
 ghost use Rattle.std.specs.Prelude.{◌+◌, ◌-◌, ◌<◌, ◌≡◌, ltb};
 ghost use Rattle.picks.specs.Picks.{with_pair};
-ghost use Rattle.search.specs.Hunt.{no_found, no_hunted};
-ghost use Rattle.search.specs.Hunt.{MayPlayOut, MaySeek, MayGoOn, MaySeekIn, Sought, SoughtIn, MayHunt, Hunts};
+ghost use Rattle.search.specs.Hunt.{MaySeek, MayGoOn, MaySeekIn, Sought, SoughtIn, MayHunt, Hunts};
 
-use picks::{Picked, Sizes};
-use risks::{Hits, Rest};
+use board::{Board, Walk};
+use risks::Rest;
 use scope::limits::CUT_NUMBERS;
-use step::Standing;
 
-// What is asked of a plan: its sizes, the least number of arrivals, and what a list must weigh to leave fewer.
+// What is asked of a plan: a list that leaves fewer arrivals than `least`, and what such a list must weigh.
 #[derive(Clone, Copy)]
 pub struct Asked {
-    pub sizes: Sizes,
     pub least: usize,
     pub need: usize,
 }
 
-// A list that answers, with its arrivals; or none.
+// A list that answers: its pairs and its arrivals, and its numbers with zeros behind them.
 #[derive(Clone, Copy)]
 pub struct Found {
-    pub found: bool,
-    pub arrivals: usize,
-    pub numbers: [u16; CUT_NUMBERS],
-}
-
-// The first list that answers, with its pairs and arrivals; or none.
-#[derive(Clone, Copy)]
-pub struct Hunted {
-    pub found: bool,
     pub pairs: usize,
     pub arrivals: usize,
     pub numbers: [u16; CUT_NUMBERS],
-}
-
-fn nothing() -> Found
-    ensures { result ≡ no_found }
-{
-    Found {
-        found: false,
-        arrivals: 0,
-        numbers: [0u16; CUT_NUMBERS],
-    }
-}
-
-pub fn no_list() -> Hunted
-    ensures { result ≡ no_hunted }
-{
-    Hunted {
-        found: false,
-        pairs: 0,
-        arrivals: 0,
-        numbers: [0u16; CUT_NUMBERS],
-    }
 }
 
 // This list answers: it leaves too few arrivals.
@@ -69,41 +37,32 @@ fn answers(least: usize, arrivals: usize) -> bool
     arrivals < least
 }
 
-// The list picked, played from its last pair on as long as enough messages can be lost; those of `left` are away where it begins.
-fn play_out(
-    row: &[u16],
-    table: &[u8],
-    a: Asked,
-    hits: Hits,
-    ps: Standing,
-    left: u32,
-    p: Picked,
-) -> Found
-    requires { MayPlayOut row.now table.now a hits ps left p }
-    ensures { Sought row.now a p 0 result }
+// The list picked, played from its last pair on as long as enough messages can be lost.
+fn play_out(row: &[u16], board: &Board, a: Asked, walk: Walk) -> Option<Found>
+    requires { MaySeek row.now board.now a walk 0 }
+    ensures { Sought row.now a walk.picked 0 result }
 {
-    let mut qs = ps;
-    let mut still = left;
-    let mut i = p.slot;
-    while i < a.sizes.timeout {
-        let risk = risks::at_risk(hits, still);
+    let p = walk.picked;
+    let mut standing = walk.standing;
+    let mut left = walk.left;
+    for _i in p.slot..board.sizes.timeout {
+        let risk = risks::at_risk(walk.hits, left);
         if risks::too_few(a.need, risk.lost) {
-            return nothing();
+            return None;
         }
-        qs = picks::advance(row, table, a.sizes, qs, p);
-        still = risks::away(qs, a.sizes.messages);
-        i += 1;
+        standing = picks::advance(row, &board.table, board.sizes, standing, p);
+        left = risks::away(standing, board.sizes.messages);
     }
-    let arrivals = cycle::count_home(qs, a.sizes.messages);
+    let arrivals = cycle::count_home(standing, board.sizes.messages);
     if answers(a.least, arrivals) {
         let numbers = p.numbers;
-        Found {
-            found: true,
+        Some(Found {
+            pairs: p.count,
             arrivals,
             numbers,
-        }
+        })
     } else {
-        nothing()
+        None
     }
 }
 
@@ -112,166 +71,123 @@ fn play_out(
 #[cycle(in_slot_level_with_pair)]
 fn with_pair(
     row: &[u16],
-    table: &[u8],
-    touches: &[u32],
-    strips: &[u32],
-    weights: &[u16],
-    most: &[u16],
+    board: &Board,
     a: Asked,
-    hits: Hits,
-    ps: Standing,
-    left: u32,
-    p: Picked,
+    walk: Walk,
     n: usize,
     s: usize,
     e: usize,
-) -> Found
-    requires { MayGoOn row.now table.now touches.now strips.now weights.now most.now a hits ps left p n s e }
-    ensures { Sought row.now a (with_pair a.sizes p s e) (n - 1) result }
+) -> Option<Found>
+    requires { MayGoOn row.now board.now a walk n s e }
+    ensures { Sought row.now a (with_pair board.now.sizes walk.picked s e) (n - 1) result }
 {
-    let more = risks::hit(touches, strips, a.sizes, hits, s, e);
-    let risk = risks::at_risk(more, left);
-    if risks::in_vain(most, a.need, risk, n - 1, s) {
-        return nothing();
+    let more = risks::hit(&board.touches, &board.strips, board.sizes, walk.hits, s, e);
+    let risk = risks::at_risk(more, walk.left);
+    if risks::in_vain(&board.most, a.need, risk, n - 1, s) {
+        return None;
     }
-    let q = picks::pick(a.sizes, p, s, e);
-    level(
-        row,
-        table,
-        touches,
-        strips,
-        weights,
-        most,
-        a,
-        more,
-        ps,
-        left,
-        q,
-        n - 1,
-    )
+    let picked = picks::pick(board.sizes, walk.picked, s, e);
+    let longer = Walk {
+        picked,
+        hits: more,
+        ..walk
+    };
+    level(row, board, a, longer, n - 1)
 }
 
 // All lists that go on with a pair of slot s, from link e on, and have n pairs more, where so much can be lost besides that pair.
 #[cycle(in_slot_level_with_pair)]
 fn in_slot(
     row: &[u16],
-    table: &[u8],
-    touches: &[u32],
-    strips: &[u32],
-    weights: &[u16],
-    most: &[u16],
+    board: &Board,
     a: Asked,
-    hits: Hits,
-    ps: Standing,
-    left: u32,
-    p: Picked,
+    walk: Walk,
     n: usize,
     s: usize,
     e: usize,
     rest: Rest,
-) -> Found
-    requires { MaySeekIn row.now table.now touches.now strips.now weights.now most.now a hits ps left p n s e rest }
-    ensures { SoughtIn row.now a p n s e result }
+) -> Option<Found>
+    requires { MaySeekIn row.now board.now a walk n s e rest }
+    ensures { SoughtIn row.now a walk.picked n s e result }
 {
-    let closed = p.closed;
-    let links = a.sizes.links;
-    let mut i = risks::next_link(&closed, weights, most, a.need, rest, s, e, links);
+    let links = board.sizes.links;
+    let (weights, most) = (&board.weights, &board.most);
+    let mut i = risks::next_link(
+        &walk.picked.closed,
+        weights,
+        most,
+        a.need,
+        rest,
+        s,
+        e,
+        links,
+    );
     while i < links {
-        let r = with_pair(
-            row, table, touches, strips, weights, most, a, hits, ps, left, p, n, s, i,
-        );
-        if r.found {
-            return r;
+        if let Some(found) = with_pair(row, board, a, walk, n, s, i) {
+            return Some(found);
         }
-        i = risks::next_link(&closed, weights, most, a.need, rest, s, i + 1, links);
+        i = risks::next_link(
+            &walk.picked.closed,
+            weights,
+            most,
+            a.need,
+            rest,
+            s,
+            i + 1,
+            links,
+        );
     }
-    nothing()
+    None
 }
 
-// All lists with n pairs more, where those picked touch and strip the messages of `hits`, and those of `left` are away. Where no link of a
-// slot may be tried, none of a later slot may; and none before the first that may be is looked at again.
+// All lists with n pairs more, from where a walk stands. Where no link of a slot may be tried, none of a later slot may; and none before the first that may be is looked at again.
 #[cycle(in_slot_level_with_pair)]
-fn level(
-    row: &[u16],
-    table: &[u8],
-    touches: &[u32],
-    strips: &[u32],
-    weights: &[u16],
-    most: &[u16],
-    a: Asked,
-    hits: Hits,
-    ps: Standing,
-    left: u32,
-    p: Picked,
-    n: usize,
-) -> Found
-    requires { MaySeek row.now table.now touches.now strips.now weights.now most.now a hits ps left p n }
-    ensures { Sought row.now a p n result }
+fn level(row: &[u16], board: &Board, a: Asked, walk: Walk, n: usize) -> Option<Found>
+    requires { MaySeek row.now board.now a walk n }
+    ensures { Sought row.now a walk.picked n result }
 {
     if n == 0 {
-        return play_out(row, table, a, hits, ps, left, p);
+        return play_out(row, board, a, walk);
     }
-    let closed = p.closed;
-    let mut qs = ps;
-    let mut still = left;
-    let mut s = p.slot;
+    let links = board.sizes.links;
+    let (weights, most) = (&board.weights, &board.most);
+    let p = walk.picked;
+    let mut standing = walk.standing;
+    let mut left = walk.left;
     let mut e = p.link;
-    while s < a.sizes.timeout {
-        let risk = risks::at_risk(hits, still);
+    for s in p.slot..board.sizes.timeout {
+        let risk = risks::at_risk(walk.hits, left);
         let rest = risks::losses(risk, n - 1, most, s);
-        let f = risks::next_link(&closed, weights, most, a.need, rest, s, 0, a.sizes.links);
-        if a.sizes.links <= f {
-            return nothing();
+        let f = risks::next_link(&p.closed, weights, most, a.need, rest, s, 0, links);
+        if links <= f {
+            return None;
         }
         let from = risks::later(e, f);
-        let r = in_slot(
-            row, table, touches, strips, weights, most, a, hits, qs, still, p, n, s, from, rest,
-        );
-        if r.found {
-            return r;
+        let now = Walk {
+            standing,
+            left,
+            ..walk
+        };
+        if let Some(found) = in_slot(row, board, a, now, n, s, from, rest) {
+            return Some(found);
         }
-        qs = picks::advance(row, table, a.sizes, qs, p);
-        still = risks::away(qs, a.sizes.messages);
-        s += 1;
+        standing = picks::advance(row, &board.table, board.sizes, standing, p);
+        left = risks::away(standing, board.sizes.messages);
         e = 0;
     }
-    nothing()
+    None
 }
 
 // The first list of at most k pairs that answers, where those of fewer than `low` pairs are known not to.
-pub fn first_list(
-    row: &[u16],
-    table: &[u8],
-    touches: &[u32],
-    strips: &[u32],
-    weights: &[u16],
-    most: &[u16],
-    a: Asked,
-    ps: Standing,
-    low: usize,
-    k: usize,
-) -> Hunted
-    requires { MayHunt row.now table.now touches.now strips.now weights.now most.now a ps low k }
+pub fn first_list(row: &[u16], board: &Board, a: Asked, low: usize, k: usize) -> Option<Found>
+    requires { MayHunt row.now board.now a low k }
     ensures { Hunts row.now a.least k result }
 {
-    let p = picks::no_pair(a.sizes);
-    let hits = risks::no_hits();
-    let left = risks::away(ps, a.sizes.messages);
-    let mut n = low;
-    while n <= k {
-        let r = level(
-            row, table, touches, strips, weights, most, a, hits, ps, left, p, n,
-        );
-        if r.found {
-            let numbers = r.numbers;
-            return Hunted {
-                found: true,
-                pairs: n,
-                arrivals: r.arrivals,
-                numbers,
-            };
+    let walk = Walk::start(row, board);
+    for n in low..k + 1 {
+        if let Some(found) = level(row, board, a, walk, n) {
+            return Some(found);
         }
-        n += 1;
     }
-    no_list()
+    None // no list of at most k pairs answers
 }

@@ -8,7 +8,7 @@ use lib.Dec.{ltb, eqb}
 use lib.Bits.{bit_and, bit_or, and_shr, or_shr, and_step, or_step}
 use lib.Count.{ones, ones_step}
 use lib.Pow.{pow_pos, pow-lt, pow-add, shl-shr, shr-shr}
-use borrow.Author.Tests.{ltb-true, ltb-false, eqb-true, eqb-false, eq-eqb, ne_eqb}
+use borrow.Author.Tests.{ltb-true, ltb-false, eq-eqb, ne_eqb}
 use Rattle.sets.specs.Sums.{sum_of, one_if}
 use Rattle.sets.specs.Sets.{has, IsEither, IsBoth}
 
@@ -16,6 +16,10 @@ use Rattle.sets.specs.Sets.{has, IsEither, IsBoth}
 pub has-none : (n : ℕ) → has 0 n ≡ false
 unfolding has
 has-none n = rw (zero-div (2 ^ n))
+
+-- so it is that of an entry that names none of them
+pub none_named : (w n : ℕ) → (w ≡ n + 1 → ⊥) → has 0 n ≡ eqb w (n + 1)
+none_named w n other = has-none n ∙ sym (ne_eqb w (n + 1) other)
 
 -- in that of one message only she is
 pub has_one : (m n : ℕ) → has (2 ^ m) n ≡ eqb n m
@@ -95,11 +99,3 @@ ones_sum a (suc k) =
     let half : x / 2 ≡ a / 2 ^ suc k = shr-shr a k 1 ∙ ap (λ (j : ℕ). a / 2 ^ j) (omega arith) in
     let more : ones x ≡ x % 2 + ones (a / 2 ^ suc k) = ones_step x ∙ ap (λ (y : ℕ). x % 2 + ones y) half in
     omega (arith, ones_sum a k, one_digit (x % 2) (omega arith))
-
--- a number is one less than an entry where the entry is one more
-pub one_less : (w n : ℕ) → 0 < w → eqb n (w - 1) ≡ eqb w (n + 1)
-one_less w n l = by (eqb n (w - 1)) refl
-  where
-    by : (b : Bool) → eqb n (w - 1) ≡ b → eqb n (w - 1) ≡ eqb w (n + 1)
-    by true h = h ∙ sym (eq-eqb w (n + 1) (omega (arith, eqb-true n (w - 1) h)))
-    by false h = h ∙ sym (ne_eqb w (n + 1) (λ e. eqb-false n (w - 1) h (omega arith)))

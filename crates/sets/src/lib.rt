@@ -12,20 +12,18 @@ pub fn one_if(there: bool, m: usize) -> u32
     requires { m < most_messages }
     ensures { IsOneIf there m result }
 {
-    (there as u32) << m
+    u32::from(there) << m
 }
 
 // The set of the message that an entry of a table names: its number plus one.
+#[tactic(auto, using(crate::proofs::Sets::none_named))]
 pub fn named(w: u8) -> u32
     ensures { IsNamed w result }
 {
-    if w == 0 {
-        return 0;
+    match w {
+        1..=32 => one_if(true, usize::from(w) - 1),
+        _ => 0,
     }
-    if 32 < w {
-        return 0;
-    }
-    one_if(true, w as usize - 1)
 }
 
 // Those in either of two sets.
@@ -62,5 +60,5 @@ pub fn with(set: u64, v: usize) -> u64
 pub fn count(a: u32) -> usize
     ensures { (result ≡ size a) × (result ≤ most_messages) }
 {
-    u32::count_ones(a) as usize
+    a.count_ones() as usize
 }

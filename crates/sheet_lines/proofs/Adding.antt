@@ -1,4 +1,4 @@
--- A plan added to the sums: an array to which a number is added for each index below k, and what the two arrays then hold.
+-- A plan added to the sums: an array to which a plan's are added for each index below k, and what it then holds.
 use Prim.Native.Nat.{ℕ, ◌+◌, ◌-◌, ◌*◌, ◌^◌, ◌≤◌, ◌<◌}
 use mathlib.Core.Path.{◌≡◌, refl, sym, ◌∙◌, ap}
 use mathlib.Core.Bool.{Bool, true, false, cond, ◌&&◌}
@@ -10,66 +10,10 @@ use lib.Dec.{ltb, eqb}
 use borrow.Author.Tests.{lt-ltb, le-ltb, ltb-true, ltb-false, eqb-true, eqb-false}
 use Rattle.scope.specs.Limits.{most_messages}
 use Rattle.scope.specs.Shelf.{Rated, unharmed, loss_sum}
-use Rattle.sheet_lines.specs.Tally.{rated, sums, Tallies, MayAdd, Adds}
+use Rattle.sheet_lines.specs.Tally.{rated, sums, no_sums, Tallies, MayAdd, Adds}
+use Rattle.sheet_lines.specs.declared.Sums.{Sums}
 use Rattle.sheet_lines.specs.declared.Tally.{Tally}
 use Rattle.sheet_lines.proofs.Order.{unharmed-most, unharmed-more, loss-more, refused_adds_nothing}
-
--- to each number of an index below k that of f was added
-pub record Summed (old : List ℕ) (f : ℕ → ℕ) (k : ℕ) (new : List ℕ) : Type 0 where
-  pub size : length new ≡ length old
-  pub each : (j : ℕ) → get_or new j 0 ≡ get_or old j 0 + cond (ltb j k) (f j) 0
-
-module _ (old : List ℕ) (f : ℕ → ℕ) where
-  pub summed_first : Summed old f 0 old
-  summed_first = record { size = refl; each = λ j. rw (le-ltb j 0 (omega arith)) (omega arith) }
-
-  module _ (k : ℕ) (new : List ℕ) (s : Summed old f k new) where
-    -- nothing was added to number k
-    pub summed_here : get_or new k 0 ≡ get_or old k 0
-    summed_here =
-        let none : cond (ltb k k) (f k) 0 ≡ 0 = rw (le-ltb k k (omega arith)) in
-        let e = s.each k in
-        omega arith
-
-    pub summed_next : k < length new → (x : ℕ) → x ≡ f k → Summed old f (k + 1) (set new k (get_or new k 0 + x))
-    summed_next h x e = record { size = length-set new k (get_or new k 0 + x) ∙ s.size; each = λ j. by j (eqb j k) refl }
-      where
-        at : (j : ℕ) → j ≡ k → get_or (set new k (get_or new k 0 + x)) j 0 ≡ get_or old j 0 + cond (ltb j (k + 1)) (f j) 0
-        at j i = rw (i, get_or-set_same new k (get_or new k 0 + x) 0 h, summed_here, lt-ltb k (k + 1) (omega arith), e)
-
-        below : (j : ℕ) → (j ≡ k → ⊥) → (t : Bool) → ltb j k ≡ t → ltb j (k + 1) ≡ t
-        below j n true t = let l = ltb-true j k t in lt-ltb j (k + 1) (omega arith)
-        below j n false t = let l = ltb-false j k t in le-ltb j (k + 1) (omega (arith, n))
-
-        by : (j : ℕ) (t : Bool) → eqb j k ≡ t → get_or (set new k (get_or new k 0 + x)) j 0 ≡ get_or old j 0 + cond (ltb j (k + 1)) (f j) 0
-        by j true t = at j (eqb-true j k t)
-        by j false t =
-            let n = eqb-false j k t in
-            rw (get_or-set_other new k j (get_or new k 0 + x) 0 n, below j n (ltb j k) refl) (s.each j)
-
--- no plan
-pub none_tallied : Tallies [] (record { unharmed = replicate sums 0; lost = replicate sums 0 })
-unfolding unharmed loss_sum
-none_tallied =
-    record {
-      counts-size = refl;
-      losses-size = refl;
-      counts = λ k h. get_or-replicate sums k 0 0 h;
-      losses = λ k h. get_or-replicate sums k 0 0 h;
-      small = λ k h. omega arith;
-    }
-
--- a plan that is refused leaves the sums
-pub tallies-refused : (ps : List Rated) (t : Tally) → Tallies ps t → Tallies (ps ++ (rated 0 [] ∷ [])) t
-tallies-refused ps t s =
-    let n = length-append ps (rated 0 [] ∷ []) in
-    record {
-      counts-size = s.counts-size;
-      losses-size = s.losses-size;
-      counts = λ k h. s.counts k h ∙ sym (refused_adds_nothing k ps).counts;
-      losses = λ k h. s.losses k h ∙ sym (refused_adds_nothing k ps).losses;
-      small = λ k h. let l = (refused_adds_nothing k ps).losses in let m = s.small k h in omega arith;
-    }
 
 -- what a plan with these figures loses for k, and 1 where it loses nothing
 abbrev pub loss_of : ℕ → List ℕ → ℕ → ℕ
@@ -78,57 +22,127 @@ loss_of m fs k = m - get_or fs k 0
 abbrev pub none_of : ℕ → List ℕ → ℕ → ℕ
 none_of m fs k = cond (eqb (loss_of m fs k) 0) 1 0
 
--- an array of counts and one of losses have a number for k, to which a plan can be added
-pub record Within (k : ℕ) (us ls : List ℕ) : Type 0 where
-  pub small : k < sums
-  pub counts : k < length us
-  pub losses : k < length ls
-  pub count_fits : get_or us k 0 < 2 ^ 32
-  pub loss-fits : get_or ls k 0 < 2 ^ 37
+-- the sums for k in an array
+abbrev pub at : List Sums → ℕ → Sums
+at ss k = get_or ss k no_sums
+
+-- to the sums of each index below k what such a plan adds was added
+pub record Summed (m : ℕ) (fs : List ℕ) (old : List Sums) (k : ℕ) (new : List Sums) : Type 0 where
+  pub size : length new ≡ length old
+  pub counts : (j : ℕ) → (at new j).unharmed ≡ (at old j).unharmed + cond (ltb j k) (none_of m fs j) 0
+  pub losses : (j : ℕ) → (at new j).lost ≡ (at old j).lost + cond (ltb j k) (loss_of m fs j) 0
+
+module _ (m : ℕ) (fs : List ℕ) (old : List Sums) where
+  pub summed_first : Summed m fs old 0 old
+  summed_first =
+      record {
+        size = refl;
+        counts = λ j. rw (le-ltb j 0 (omega arith)) (omega arith);
+        losses = λ j. rw (le-ltb j 0 (omega arith)) (omega arith);
+      }
+
+  module _ (k : ℕ) (new : List Sums) (s : Summed m fs old k new) where
+    none-yet : (x : ℕ) → cond (ltb k k) x 0 ≡ 0
+    none-yet x = rw (le-ltb k k (omega arith))
+
+    -- nothing was added to the sums for k
+    pub counts_here : (at new k).unharmed ≡ (at old k).unharmed
+    counts_here = let n = none-yet (none_of m fs k) in let e = s.counts k in omega arith
+
+    pub losses_here : (at new k).lost ≡ (at old k).lost
+    losses_here = let n = none-yet (loss_of m fs k) in let e = s.losses k in omega arith
+
+    abbrev more : Sums
+    more = record { unharmed = (at new k).unharmed + none_of m fs k; lost = (at new k).lost + loss_of m fs k }
+
+    pub summed_next : k < length new → Summed m fs old (k + 1) (set new k more)
+    summed_next h =
+        record {
+          size = length-set new k more ∙ s.size;
+          counts = λ j. counts j (eqb j k) refl;
+          losses = λ j. losses j (eqb j k) refl;
+        }
+      where
+        one : ltb k (k + 1) ≡ true
+        one = lt-ltb k (k + 1) (omega arith)
+
+        below : (j : ℕ) → (j ≡ k → ⊥) → (t : Bool) → ltb j k ≡ t → ltb j (k + 1) ≡ t
+        below j n true t = let l = ltb-true j k t in lt-ltb j (k + 1) (omega arith)
+        below j n false t = let l = ltb-false j k t in le-ltb j (k + 1) (omega (arith, n))
+
+        counts : (j : ℕ) (t : Bool) → eqb j k ≡ t →
+            (at (set new k more) j).unharmed ≡ (at old j).unharmed + cond (ltb j (k + 1)) (none_of m fs j) 0
+        counts j true t = rw (eqb-true j k t, get_or-set_same new k more no_sums h, counts_here, one)
+        counts j false t =
+            let n = eqb-false j k t in
+            rw (get_or-set_other new k j more no_sums n, below j n (ltb j k) refl) (s.counts j)
+
+        losses : (j : ℕ) (t : Bool) → eqb j k ≡ t → (at (set new k more) j).lost ≡ (at old j).lost + cond (ltb j (k + 1)) (loss_of m fs j) 0
+        losses j true t = rw (eqb-true j k t, get_or-set_same new k more no_sums h, losses_here, one)
+        losses j false t =
+            let n = eqb-false j k t in
+            rw (get_or-set_other new k j more no_sums n, below j n (ltb j k) refl) (s.losses j)
+
+-- no plan
+pub none_tallied : Tallies [] (record { sums = replicate sums no_sums })
+unfolding unharmed loss_sum
+none_tallied =
+    record {
+      size = refl;
+      counts = λ k h. ap (λ (s : Sums). s.unharmed) (get_or-replicate sums k no_sums no_sums h);
+      losses = λ k h. ap (λ (s : Sums). s.lost) (get_or-replicate sums k no_sums no_sums h);
+      small = λ k h. omega arith;
+    }
+
+-- a plan that is refused leaves the sums
+pub tallies-refused : (ps : List Rated) (t : Tally) → Tallies ps t → Tallies (ps ++ (rated 0 [] ∷ [])) t
+tallies-refused ps t s =
+    let n = length-append ps (rated 0 [] ∷ []) in
+    record {
+      size = s.size;
+      counts = λ k h. s.counts k h ∙ sym (refused_adds_nothing k ps).counts;
+      losses = λ k h. s.losses k h ∙ sym (refused_adds_nothing k ps).losses;
+      small = λ k h. let l = (refused_adds_nothing k ps).losses in let m = s.small k h in omega arith;
+    }
+
+-- an array has sums for k, to which a plan can be added
+pub record Within (k : ℕ) (ss : List Sums) : Type 0 where
+  pub inside : k < length ss
+  pub count_fits : (at ss k).unharmed < 2 ^ 32
+  pub loss_fits : (at ss k).lost < 2 ^ 37
 
 module _ (t : Tally) (m : ℕ) (fs : List ℕ) (may : MayAdd t m fs) where
-  pub within : (k : ℕ) → k < length fs → (us ls : List ℕ) → Summed t.unharmed (none_of m fs) k us → Summed t.lost (loss_of m fs) k ls →
-      Within k us ls
-  within k h us ls u l =
+  pub within : (k : ℕ) → k < length fs → (ss : List Sums) → Summed m fs t.sums k ss → Within k ss
+  within k h ss s =
       let short = may.short in
       let few = may.few in
-      let us-size = u.size in
-      let ls-size = l.size in
-      let t-counts = may.tallies.counts-size in
-      let t-losses = may.tallies.losses-size in
+      let size = s.size in
+      let sums-size = may.tallies.size in
       let count = may.tallies.counts k (omega arith) in
       let loss = may.tallies.losses k (omega arith) in
       let count_most = unharmed-most k may.plans in
       let loss-most = may.tallies.small k (omega arith) in
-      let count-here = summed_here t.unharmed (none_of m fs) k us u in
-      let loss-here = summed_here t.lost (loss_of m fs) k ls l in
-      record { small = omega arith; counts = omega arith; losses = omega arith; count_fits = omega arith; loss-fits = omega arith }
+      let count-here = counts_here m fs t.sums k ss s in
+      let loss-here = losses_here m fs t.sums k ss s in
+      record { inside = omega arith; count_fits = omega arith; loss_fits = omega arith }
 
-  pub added : (k : ℕ) → k ≡ length fs → (us ls : List ℕ) → Summed t.unharmed (none_of m fs) k us → Summed t.lost (loss_of m fs) k ls →
-      Adds t (rated m fs) (record { unharmed = us; lost = ls })
-  added k all us ls u l ps s =
-      record {
-        counts-size = u.size ∙ s.counts-size;
-        losses-size = l.size ∙ s.losses-size;
-        counts = counts;
-        losses = losses;
-        small = small;
-      }
+  pub added : (k : ℕ) → k ≡ length fs → (ss : List Sums) → Summed m fs t.sums k ss → Adds t (rated m fs) (record { sums = ss })
+  added k all ss l ps s = record { size = l.size ∙ s.size; counts = counts; losses = losses; small = small }
     where
       both : (a b : Bool) → ◌≡◌ {A = ℕ} (cond a (cond b 1 0) 0) (cond (a && b) 1 0)
       both true b = refl
       both false b = refl
 
-      counts : (j : ℕ) → j < sums → get_or us j 0 ≡ unharmed j (ps ++ (rated m fs ∷ []))
+      counts : (j : ℕ) → j < sums → (at ss j).unharmed ≡ unharmed j (ps ++ (rated m fs ∷ []))
       counts j h =
-          u.each j ∙ ap (λ (x : ℕ). x + cond (ltb j k) (none_of m fs j) 0) (s.counts j h) ∙
+          l.counts j ∙ ap (λ (x : ℕ). x + cond (ltb j k) (none_of m fs j) 0) (s.counts j h) ∙
           ap (λ (n : ℕ). unharmed j ps + cond (ltb j n) (none_of m fs j) 0) all ∙
           ap (λ (x : ℕ). unharmed j ps + x) (both (ltb j (length fs)) (eqb (loss_of m fs j) 0)) ∙
           sym (unharmed-more j ps (rated m fs))
 
-      losses : (j : ℕ) → j < sums → get_or ls j 0 ≡ loss_sum j (ps ++ (rated m fs ∷ []))
+      losses : (j : ℕ) → j < sums → (at ss j).lost ≡ loss_sum j (ps ++ (rated m fs ∷ []))
       losses j h =
-          l.each j ∙ ap (λ (x : ℕ). x + cond (ltb j k) (loss_of m fs j) 0) (s.losses j h) ∙
+          l.losses j ∙ ap (λ (x : ℕ). x + cond (ltb j k) (loss_of m fs j) 0) (s.losses j h) ∙
           ap (λ (n : ℕ). loss_sum j ps + cond (ltb j n) (loss_of m fs j) 0) all ∙
           sym (loss-more j ps (rated m fs))
 

@@ -3,7 +3,7 @@ use Prim.Native.Nat.{ℕ, zero, suc, ◌+◌, ◌*◌, ◌^◌, ◌≤◌, ◌<�
 use mathlib.Core.Path.{◌≡◌, refl, ap}
 use mathlib.Core.List.{List, [], ◌∷◌}
 use native.Mathlib.Omega.{arith}
-use lib.ListN.{length, get_or, length-append}
+use lib.ListN.{length, length-append}
 use Rattle.scope.specs.declared.Refusal.{Refusal}
 use Rattle.scope.specs.Limits.{longest_row, most_names, longest_name}
 use Rattle.scope.specs.Outcome.{Outcome, gives, refused}
@@ -15,7 +15,7 @@ use Rattle.text.specs.Text.{Told}
 use Rattle.text.proofs.Decimal.{decimal-all}
 use Rattle.text.proofs.Refused.{refused_text_size}
 use Rattle.sheet_lines.specs.Sheet.{name_ending, figures_line, refused_plan, sums_line, tally_lines, names_on}
-use Rattle.sheet_lines.specs.Tally.{sums}
+use Rattle.sheet_lines.specs.Tally.{sums, sums_at}
 use Rattle.sheet_lines.specs.declared.Tally.{Tally}
 use Rattle.sheet_lines.proofs.Rated.{text-refused, text_given, figures-few}
 
@@ -105,8 +105,8 @@ pub tally_lines_size : (t : Tally) (k n : ℕ) → length (tally_lines t k n) �
 unfolding tally_lines
 tally_lines_size t k zero = omega arith
 tally_lines_size t k (suc n) =
-    let u = get_or t.unharmed k 0 in
-    let l = get_or t.lost k 0 in
+    let u = (sums_at t k).unharmed in
+    let l = (sums_at t k).lost in
     let h = line-size k u l in
     let r = tally_lines_size t (k + 1) n in
     let a = length-append (sums_line k u l) (tally_lines t (k + 1) n) in

@@ -1,9 +1,10 @@
 -- The lines of the sheet, each from what it tells.
-use Rattle.std.specs.Prelude.{ℕ, zero, suc, ◌+◌, List, [], ◌++◌, map, get_or}
+use Rattle.std.specs.Prelude.{ℕ, zero, suc, ◌+◌, List, [], ◌++◌, map}
 use Rattle.scope.specs.declared.Refusal.{Refusal}
 use Rattle.scope.specs.Lines.{space, line_feed, decimal, parted, refused_text}
 use Rattle.scope.specs.Shelf.{Shelved}
 use Rattle.sheet_lines.specs.declared.Tally.{Tally}
+use Rattle.sheet_lines.specs.Tally.{sums_at}
 
 -- the names on a shelf
 abbrev pub names_on : List Shelved → List (List ℕ)
@@ -27,4 +28,4 @@ sums_line k unharmed lost = decimal k ++ (space ++ (decimal unharmed ++ (space +
 -- the lines of so many numbers from k on
 unfoldable pub tally_lines : Tally → ℕ → ℕ → List ℕ
 tally_lines t k zero = []
-tally_lines t k (suc n) = sums_line k (get_or t.unharmed k 0) (get_or t.lost k 0) ++ tally_lines t (k + 1) n
+tally_lines t k (suc n) = sums_line k (sums_at t k).unharmed (sums_at t k).lost ++ tally_lines t (k + 1) n

@@ -2,6 +2,7 @@
 use Rattle.std.specs.Prelude.{ℕ, ◌+◌, ◌*◌, ◌^◌, ◌≤◌, ◌<◌, ◌≡◌, List, [], ◌∷◌, ◌++◌, length, get_or}
 use Rattle.scope.specs.Limits.{most_cuts, most_messages}
 use Rattle.scope.specs.Shelf.{Rated, unharmed, loss_sum}
+use Rattle.sheet_lines.specs.declared.Sums.{Sums}
 use Rattle.sheet_lines.specs.declared.Tally.{Tally}
 
 -- how many k there are
@@ -12,12 +13,18 @@ sums = 1 + most_cuts
 abbrev pub rated : ℕ → List ℕ → Rated
 rated m fs = record { messages = m; figures = fs }
 
+-- the sums for k
+abbrev pub no_sums : Sums
+no_sums = record { unharmed = 0; lost = 0 }
+
+abbrev pub sums_at : Tally → ℕ → Sums
+sums_at t k = get_or t.sums k no_sums
+
 -- the sums are those of these plans, none of which can lose more messages than a plan has
 pub record Tallies (ps : List Rated) (t : Tally) : Type 0 where
-  pub counts-size : length t.unharmed ≡ sums
-  pub losses-size : length t.lost ≡ sums
-  pub counts : (k : ℕ) → k < sums → get_or t.unharmed k 0 ≡ unharmed k ps
-  pub losses : (k : ℕ) → k < sums → get_or t.lost k 0 ≡ loss_sum k ps
+  pub size : length t.sums ≡ sums
+  pub counts : (k : ℕ) → k < sums → (sums_at t k).unharmed ≡ unharmed k ps
+  pub losses : (k : ℕ) → k < sums → (sums_at t k).lost ≡ loss_sum k ps
   pub small : (k : ℕ) → k < sums → loss_sum k ps ≤ most_messages * length ps
 
 -- a plan can be added to the sums: they are those of so few plans that no sum outgrows 64 bits

@@ -6,25 +6,30 @@
 
 #![tactic(auto)]
 
-ghost use Rattle.std.specs.Prelude.{◌≡◌, [], cond, ◌-◌, ◌≤◌, eqb};
-ghost use Rattle.scope.specs.Lines.{parted};
+ghost use Rattle.std.specs.Prelude.{[]};
 ghost use Rattle.text.specs.Text.{Puts, Told};
 ghost use Rattle.sheet_lines.specs.Sheet.{name_ending, figures_line, refused_plan, sums_line, tally_lines};
 ghost use Rattle.sheet_lines.specs.Tally.{rated, sums, Tallies, MayAdd, Adds};
 
 use scope::Refusal;
 use scope::limits::CUTS;
-use text::{put_byte, put_decimal, put_number, put_refusal, put_word};
-use verdict_lines::spaced;
+use text::{put_byte, put_number, put_refusal, put_word};
+use verdict_lines::parted;
 
 // A sum for each k.
 pub const SUMS: usize = 1 + CUTS;
 
-// For each k how many plans with a figure for it lose nothing, and the sum of losses.
+// The two sums for one k: how many plans with a figure for it lose nothing, and the sum of losses.
+#[derive(Clone, Copy)]
+pub struct Sums {
+    pub unharmed: usize,
+    pub lost: usize,
+}
+
+// For each k its sums.
 #[derive(Clone, Copy)]
 pub struct Tally {
-    pub unharmed: [usize; SUMS],
-    pub lost: [usize; SUMS],
+    pub sums: [Sums; SUMS],
 }
 
 // Nothing is counted yet.
@@ -32,29 +37,11 @@ pub fn no_plan() -> Tally
     ensures { Tallies [] result }
 {
     Tally {
-        unharmed: [0usize; SUMS],
-        lost: [0usize; SUMS],
+        sums: [Sums {
+            unharmed: 0,
+            lost: 0,
+        }; SUMS],
     }
-}
-
-// A loss: how many messages do not arrive.
-fn less(messages: usize, figure: usize) -> usize
-    ensures { result ≡ messages - figure }
-{
-    if figure < messages {
-        return messages - figure;
-    }
-    0
-}
-
-// One for a plan that loses nothing.
-fn one_if_none(lost: usize) -> usize
-    ensures { (result ≡ cond (eqb lost 0) 1 0) × (result ≤ 1) }
-{
-    if lost == 0 {
-        return 1;
-    }
-    0
 }
 
 // One plan more, with its figures for k from 0 on.
@@ -62,29 +49,13 @@ pub fn add(t: Tally, messages: usize, figures: &[u16]) -> Tally
     requires { MayAdd t messages figures.now }
     ensures { Adds t (rated messages figures.now) result }
 {
-    let mut unharmed = t.unharmed;
-    let mut lost = t.lost;
-    let mut k = 0;
-    while k < figures.len() {
-        let loss = less(messages, figures[k] as usize);
-        let none = one_if_none(loss);
-        unharmed[k] += none;
-        lost[k] += loss;
-        k += 1;
+    let mut sums = t.sums;
+    for (k, &figure) in figures.iter().enumerate() {
+        let loss = messages.saturating_sub(figure as usize);
+        sums[k].unharmed += usize::from(loss == 0);
+        sums[k].lost += loss;
     }
-    Tally { unharmed, lost }
-}
-
-// Numbers with a space between them.
-fn put_parted(out: &mut [u8], at: usize, figures: &[u16]) -> usize
-    requires { Told at (parted figures.now) }
-    ensures { Puts (parted figures.now) out.old out.new at result }
-{
-    if figures.len() == 0 {
-        return at;
-    }
-    let next = put_decimal(out, at, figures[0] as usize);
-    spaced(out, next, &figures[1..])
+    Tally { sums }
 }
 
 // The end of a plan's line: a space and its name.
@@ -102,7 +73,7 @@ pub fn figures_line(out: &mut [u8], at: usize, figures: &[u16], name: &[u8]) -> 
     requires { Told at (figures_line figures.now name.now) }
     ensures { Puts (figures_line figures.now name.now) out.old out.new at result }
 {
-    let next = put_parted(out, at, figures);
+    let next = parted(out, at, figures);
     put_name(out, next, name)
 }
 
@@ -116,13 +87,13 @@ pub fn refused_line(out: &mut [u8], at: usize, refusal: Refusal, name: &[u8]) ->
 }
 
 // The two sums for k.
-fn sum_line(out: &mut [u8], at: usize, k: usize, unharmed: usize, lost: usize) -> usize
-    requires { Told at (sums_line k unharmed lost) }
-    ensures { Puts (sums_line k unharmed lost) out.old out.new at result }
+fn sums_line(out: &mut [u8], at: usize, k: usize, sums: Sums) -> usize
+    requires { Told at (sums_line k sums.unharmed sums.lost) }
+    ensures { Puts (sums_line k sums.unharmed sums.lost) out.old out.new at result }
 {
     let a = put_number(out, at, k, b' ');
-    let b = put_number(out, a, unharmed, b' ');
-    put_number(out, b, lost, b'\n')
+    let b = put_number(out, a, sums.unharmed, b' ');
+    put_number(out, b, sums.lost, b'\n')
 }
 
 // The sums for each k.
@@ -130,13 +101,9 @@ pub fn sum_lines(out: &mut [u8], at: usize, t: Tally) -> usize
     requires { Told at (tally_lines t 0 sums) }
     ensures { Puts (tally_lines t 0 sums) out.old out.new at result }
 {
-    let unharmed = t.unharmed;
-    let lost = t.lost;
     let mut next = at;
-    let mut k = 0;
-    while k < SUMS {
-        next = sum_line(out, next, k, unharmed[k], lost[k]);
-        k += 1;
+    for (k, &sums) in t.sums.iter().enumerate() {
+        next = sums_line(out, next, k, sums);
     }
     next
 }

@@ -4,14 +4,12 @@
 
 #![tactic(auto)]
 
-use program_io::Read;
 use scope::limits;
 
 fn main(rt: HostRuntime) {
     let mut input = [0u8; limits::NAMES_ROOM];
     let mut out = [0u8; shelf_text::ROOM];
-    let read = program_io::read_input(&rt, b"shelf", &mut input);
-    if let Read::Bytes(n) = read {
+    if let Some(n) = program_io::read_input(&rt, b"shelf", &mut input) {
         let answer = whole_shelf::text(&rt, &input, n, &mut out);
         program_io::print(&rt, b"shelf", answer, &out);
     }

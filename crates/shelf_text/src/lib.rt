@@ -5,10 +5,10 @@
 
 #![tactic(auto)]
 
-ghost use Rattle.plan.specs.Answers.{GoodRow};
 ghost use Rattle.shelf_text.specs.Lines.{MayLay, Rates, Lays};
 
-use scope::{Answer, limits};
+use plan::Good;
+use scope::limits;
 use sheet_lines::Tally;
 
 // Bytes enough for every sheet, and for a refusal.
@@ -22,16 +22,17 @@ pub struct Laid {
 }
 
 // The figures of a good row, as far as the verdict program goes. Nothing is refused of such a k, so the answer is not looked at.
-fn rated(row: &[u16], name: &[u8], t: Tally, out: &mut [u8], at: usize) -> Laid
-    requires { GoodRow row.now × MayLay name.now t at }
-    ensures { Rates row.now name.now t out.old out.new at result }
+fn rated(good: Good<'_>, name: &[u8], t: Tally, out: &mut [u8], at: usize) -> Laid
+    requires { MayLay name.now t at }
+    ensures { Rates good.entry.row.now name.now t out.old out.new at result }
 {
+    let row = good.row;
     let mut all = [0u16; sheet_lines::SUMS];
     let k = verdict_text::highest(row, 1);
-    figures::figures_good(row, k, &mut all);
-    let n = k + 1;
-    let next = sheet_lines::figures_line(out, at, &all[..n], name);
-    let tally = sheet_lines::add(t, rows::messages(row), &all[..n]);
+    let _ = figures::figures_good(good, k, &mut all);
+    let figures = &all[..=k];
+    let next = sheet_lines::figures_line(out, at, figures, name);
+    let tally = sheet_lines::add(t, rows::messages(row), figures);
     Laid { next, tally }
 }
 
@@ -41,10 +42,9 @@ pub fn plan_line(file: &[u8], name: &[u8], t: Tally, out: &mut [u8], at: usize) 
     ensures { Lays file.now name.now t out.old out.new at result }
 {
     let mut row = [0u16; limits::ROW];
-    let read = plan::read_file(file, &mut row);
-    match read {
-        Answer::Gives(n) => rated(&row[..n], name, t, out, at),
-        Answer::Refused(refusal) => {
+    match plan::read_good(file, &mut row) {
+        Ok(good) => rated(good, name, t, out, at),
+        Err(refusal) => {
             let next = sheet_lines::refused_line(out, at, refusal, name);
             Laid { next, tally: t }
         }

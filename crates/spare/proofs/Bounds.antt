@@ -25,7 +25,7 @@ use Rattle.rows.proofs.Parts.{numbers-length, places_length, path_at, timeout-is
 use Rattle.plan.specs.Answers.{GoodRow}
 use Rattle.plan.proofs.Outcomes.{then-back}
 use Rattle.plan.proofs.Ways.{good-row}
-use Rattle.spare.specs.declared.Spare.TheVariants.{Slots}
+use Rattle.std.specs.Prelude.{Ok}
 use Rattle.spare.specs.Slack.{Slacks, unless_refused, Between, SlackLies, AnswerLies}
 use Rattle.spare.proofs.Held.{entries-few}
 use Rattle.spare.proofs.There.{There, there, second_is}
@@ -118,7 +118,7 @@ pub record Answered (row : List ℕ) (m p : ℕ) (z : ℤ) : Type 0 where
   pub may : may_spare row m p ≡ gives 0
   pub is : slack row m p ≡ z
 
-pub answered : (row : List ℕ) (m p : ℕ) (z : ℤ) → Slacks row m p (Slots z) → Answered row m p z
+pub answered : (row : List ℕ) (m p : ℕ) (z : ℤ) → Slacks row m p (Ok z) → Answered row m p z
 answered row m p z r =
     let may : may_spare row m p ≡ gives 0 = sym r.answer in
     record { may = may; is = sym (r.value ∙ ap (λ (o : Outcome). unless_refused o (slack row m p)) may) }

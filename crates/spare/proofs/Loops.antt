@@ -1,12 +1,13 @@
 -- What each loop of this crate has left to look at, one law for each way that a turn can go.
 use Prim.Native.Nat.{ℕ, zero, suc, ◌+◌, ◌-◌, ◌≤◌, ◌<◌}
 use mathlib.Core.Path.{◌≡◌, refl, sym, ◌∙◌, ap}
-use mathlib.Core.Bool.{Bool, true, false, cond, ◌&&◌}
+use mathlib.Core.Bool.{Bool, true, false, cond, ◌&&◌, ◌||◌}
 use mathlib.Core.List.{List, [], ◌∷◌}
 use native.Mathlib.Omega.{arith}
-use borrow.Author.Tests.{eq-eqb, ne_eqb, le-ltb, lt-ltb}
+use borrow.Author.Tests.{le-ltb, lt-ltb}
 use lib.Dec.{eqb, ltb}
-use Rattle.scope.specs.Plan.{Place, at, place_count, numbers_at, places_at, place_size, second_at, message_at, messages_at, after_message}
+use Rattle.std.specs.List.{range_with_len, list_any}
+use Rattle.scope.specs.Plan.{Place, at, numbers_at, places_at, place_size, second_at, message_at, messages_at, after_message}
 use Rattle.scope.specs.Plan.{after_messages, plan_of, message_count}
 use Rattle.scope.specs.SecondPath.{message_index}
 use Rattle.scope.specs.Good.{has}
@@ -15,7 +16,7 @@ use Rattle.scope.specs.Spare.{entries_of, entries, has_second_through, lower_thr
 use Rattle.rows.specs.View.{IsPlace}
 use Rattle.rows.specs.declared.RowPlace.{RowPlace}
 use Rattle.rows.proofs.Second.{links-are}
-use Rattle.rows.proofs.Parts.{places_all, places_more, places_none}
+use Rattle.rows.proofs.Parts.{places_more, places_none}
 
 -- D of so many links from index i on, for message m
 abbrev pub delay_at : List ℕ → ℕ → ℕ → ℕ → ℕ
@@ -40,28 +41,17 @@ module _ (row : List ℕ) where
 
   module _ (e : ℕ) where
     -- link e among numbers
-    pub has_all : (i n : ℕ) → has e (numbers_at row (i + 0) (n - 0)) ≡ has e (numbers_at row i n)
-    has_all i n = let a : i + 0 ≡ i = omega arith in let b : n - 0 ≡ n = omega arith in rw (a, b)
+    has_from : (i n j : ℕ) → list_any (λ k. eqb e (at row (i + k))) (range_with_len j n) ≡ has e (numbers_at row (i + j) n)
+    unfolding has numbers_at
+    has_from i zero j = refl
+    has_from i (suc n) j =
+        let f : i + (j + 1) ≡ i + j + 1 = omega arith in
+        ap (λ t. eqb e (at row (i + j)) || t) (rw f at (has_from i n (j + 1)))
 
-    pub has_here : (i n k v : ℕ) → k < n → v ≡ at row (i + k) → v ≡ e → has e (numbers_at row (i + k) (n - k)) ≡ true
-    unfolding has
-    has_here i n k v h is same = rw (numbers_more (i + k) n k h, eq-eqb e (at row (i + k)) (omega arith))
-
-    pub has_on : (i n k v : ℕ) → k < n → v ≡ at row (i + k) → (v ≡ e → ⊥) →
-        has e (numbers_at row (i + (k + 1)) (n - (k + 1))) ≡ has e (numbers_at row (i + k) (n - k))
-    unfolding has
-    has_on i n k v h is other =
-        let f : i + (k + 1) ≡ i + k + 1 = omega arith in
-        rw (numbers_more (i + k) n k h, ne_eqb e (at row (i + k)) (λ same. other (omega arith)), f)
-
-    pub has-none : (i n k : ℕ) → n ≤ k → has e (numbers_at row i (n - k)) ≡ false
-    unfolding has
-    has-none i n k h = rw (numbers-none i n k h)
+    pub has_range : (i n : ℕ) → list_any (λ k. eqb e (at row (i + k))) (range_with_len 0 n) ≡ has e (numbers_at row i n)
+    has_range i n = let f : i + 0 ≡ i = omega arith in rw f at (has_from i n 0)
 
     -- second paths through link e among places
-    pub through-all : (i n : ℕ) → has_second_through e (places_at row i (n - 0)) ≡ has_second_through e (places_at row i n)
-    through-all i n = rw (places_all row i n)
-
     module _ (i n k : ℕ) (h : k < n) (here : RowPlace) (is : IsPlace row i here) where
       second : {b : Bool} → has e (numbers_at row here.second here.count) ≡ b → has e (second_at row i) ≡ b
       second t = sym (ap (has e) (links-are row i here is)) ∙ t
@@ -88,15 +78,7 @@ module _ (row : List ℕ) where
     unfolding has_second_through
     through-none i n k h = rw (places_none row i n k h)
 
-    -- and of the message at an index
-    pub through-message : (i n : ℕ) (t b : Bool) → n ≡ place_count row i → t ≡ has_second_through e (places_at row (i + 1) n) → t ≡ b →
-        has_second_through e (message_at row i) ≡ b
-    through-message i n t b count is got = rw (← count) (sym is ∙ got)
-
     -- entries on link e among places
-    pub entries_of_all : (i n : ℕ) → 0 + entries_of e (places_at row i (n - 0)) ≡ entries_of e (places_at row i n)
-    entries_of_all i n = rw (places_all row i n) (omega arith)
-
     pub entries_of_none : (i n k sum all : ℕ) → n ≤ k → sum + entries_of e (places_at row i (n - k)) ≡ all → sum ≡ all
     unfolding entries_of
     entries_of_none i n k sum all h inv =
@@ -158,13 +140,10 @@ module _ (row : List ℕ) where
 
   -- D over the links left
   module _ (m : ℕ) where
-    pub delay-all : (i n : ℕ) → 0 + delay_at row m (i + 0) (n - 0) ≡ delay_at row m i n
-    delay-all i n = let a : i + 0 ≡ i = omega arith in let b : n - 0 ≡ n = omega arith in rw (a, b) (omega arith)
-
     pub delay_on : (i n k e a b sum all : ℕ) → k < n → e ≡ at row (i + k) → a ≡ entries e (plan_of row).messages →
         b ≡ lower_through by_number m e 0 (plan_of row).messages →
         sum + delay_at row m (i + k) (n - k) ≡ all →
-        sum + 1 + a + b + delay_at row m (i + (k + 1)) (n - (k + 1)) ≡ all
+        sum + (1 + a + b) + delay_at row m (i + (k + 1)) (n - (k + 1)) ≡ all
     unfolding delay
     delay_on i n k e a b sum all h is entered lower inv =
         let f : i + (k + 1) ≡ i + k + 1 = omega arith in

@@ -21,8 +21,8 @@ use Rattle.rows.specs.declared.RowPlace.{RowPlace}
 use Rattle.rows.proofs.Parts.{timeout-is}
 use Rattle.rows.proofs.Second.{no_links, some-links, links-are}
 use Rattle.plan.specs.Answers.{GoodRow}
-use Rattle.spare.specs.declared.Spare.{Spare}
-use Rattle.spare.specs.declared.Spare.TheVariants.{Slots, Refused}
+use Rattle.spare.specs.Slack.{Spare}
+use Rattle.std.specs.Prelude.{Ok, Err}
 use Rattle.spare.specs.Slack.{Slacks, said, value, unless_refused}
 use Rattle.spare.proofs.There.{There, no_message, no_place, no_second_lem, has-second, place_is}
 use Rattle.spare.proofs.Signed.{sub_back}
@@ -30,10 +30,10 @@ use Rattle.spare.proofs.Bounds.{small}
 
 -- an answer is known by its refusal and value
 same_answer : (a b : Spare) → said a ≡ said b → value a ≡ value b → a ≡ b
-same_answer (Slots y) (Slots z) e f = ap Slots f
-same_answer (Slots y) (Refused r) e f = not-both (sym e)
-same_answer (Refused r) (Slots z) e f = not-both e
-same_answer (Refused r) (Refused s) e f = ap Refused (let g : r ≡ s = cc in g)
+same_answer (Ok y) (Ok z) e f = ap Ok f
+same_answer (Ok y) (Err r) e f = not-both (sym e)
+same_answer (Err r) (Ok z) e f = not-both e
+same_answer (Err r) (Err s) e f = ap Err (let g : r ≡ s = cc in g)
 
 -- two outcomes that the promise of a slack allows are equal
 pub one_slack : (row : List ℕ) (m p : ℕ) (a b : Spare) → Slacks row m p a → Slacks row m p b → a ≡ b
@@ -48,11 +48,11 @@ module _ (row : List ℕ) (m p : ℕ) where
   pub place_at : {i a : ℕ} → i ≡ message_index row m → a ≡ after_places row (i + 1) p → a ≡ place_index row m p
   place_at index stands = stands ∙ ap (λ (j : ℕ). after_places row (j + 1) p) index
 
-  refuses : (r : Refusal) → may_spare row m p ≡ refused r → Slacks row m p (Refused r)
+  refuses : (r : Refusal) → may_spare row m p ≡ refused r → Slacks row m p (Err r)
   refuses r e = record { answer = sym e; value = sym (ap (λ (o : Outcome). unless_refused o (slack row m p)) e) }
 
   -- refusals 1 to 10 and 14 to 19
-  pub bad-row : (r : Refusal) → judge row ≡ refused r → Slacks row m p (Refused r)
+  pub bad-row : (r : Refusal) → judge row ≡ refused r → Slacks row m p (Err r)
   unfolding may_spare
   bad-row r e = refuses r (rw e)
 
@@ -66,11 +66,11 @@ module _ (row : List ℕ) (m p : ℕ) where
     may e = rw (judged row g, e)
 
     -- refusal 11
-    no_slack : (r : Refusal) → r ≡ refusal_at 11 0 → no_second (place_of (plan_of row) m p).second ≡ true → Slacks row m p (Refused r)
+    no_slack : (r : Refusal) → r ≡ refusal_at 11 0 → no_second (place_of (plan_of row) m p).second ≡ true → Slacks row m p (Err r)
     no_slack r is e = refuses r (may-not e ∙ ap refused (sym is))
 
     -- the number of messages is n
-    pub out_message : (n : ℕ) (r : Refusal) → n ≡ message_count row → n ≤ m → r ≡ refusal_at 11 0 → Slacks row m p (Refused r)
+    pub out_message : (n : ℕ) (r : Refusal) → n ≡ message_count row → n ≤ m → r ≡ refusal_at 11 0 → Slacks row m p (Err r)
     out_message n r count h is = no_slack r is (no_message row m p (omega arith))
 
     module _ (n i k : ℕ) (count : n ≡ message_count row) (here : m < n) (index : i ≡ message_index row m) (places : k ≡ place_count row i) where
@@ -81,7 +81,7 @@ module _ (row : List ℕ) (m p : ℕ) where
       many = places ∙ ap (place_count row) index
 
       -- message m stands at index i and has k places
-      pub out_place : (r : Refusal) → k ≤ p → r ≡ refusal_at 11 0 → Slacks row m p (Refused r)
+      pub out_place : (r : Refusal) → k ≤ p → r ≡ refusal_at 11 0 → Slacks row m p (Err r)
       out_place r h is = no_slack r is (no_place row m p message (omega (arith, many)))
 
       -- place p stands at index a
@@ -92,7 +92,7 @@ module _ (row : List ℕ) (m p : ℕ) where
         flag : {b : Bool} → flagged row a ≡ b → flagged row (place_index row m p) ≡ b
         flag e = ap (flagged row) (sym (place_at index stands)) ∙ e
 
-        pub out_second : (r : Refusal) → spot.count ≡ 0 → r ≡ refusal_at 11 0 → Slacks row m p (Refused r)
+        pub out_second : (r : Refusal) → spot.count ≡ 0 → r ≡ refusal_at 11 0 → Slacks row m p (Err r)
         out_second r none is = no_slack r is (no_second_lem row m p message place (flag (no_links row a spot is-spot none)))
 
         pub found : (spot.count ≡ 0 → ⊥) → There row m p
@@ -119,7 +119,7 @@ module _ (row : List ℕ) (m p : ℕ) where
           (omega (arith, s.timeout), omega (arith, used_is, s.slot, s.timeout, s.most))
 
       -- the slack z, laid in 32 bits
-      pub spares : (z : ℤ) → z ≡ sub_ℕ t u → Slacks row m p (Slots (to_z w32 (of_z w32 z)))
+      pub spares : (z : ℤ) → z ≡ sub_ℕ t u → Slacks row m p (Ok (to_z w32 (of_z w32 z)))
       unfolding slack
       spares z is =
           let e : may_spare row m p ≡ gives 0 = may (has-second row m p there) in

@@ -9,7 +9,7 @@ use Rattle.scope.specs.Cycle.{order_of, table_of, start, positions, arrived}
 use Rattle.scope.specs.Questions.{may_spare, slack, replay}
 use Rattle.laws.specs.Message.{position_of}
 use Rattle.laws.specs.Diverted.{Leaves, WholeUntilArrival}
-use Rattle.spare.specs.declared.Spare.TheVariants.{Slots}
+use Rattle.std.specs.Prelude.{Ok}
 use Rattle.spare.specs.Slack.{Slacks}
 
 -- where the messages stand at time t
@@ -38,5 +38,5 @@ pub record Counted (plan : Plan) (cuts : List ℕ) (m arrivals : ℕ) : Type 0 w
 
 abbrev pub SlackAndReplay : Type 0
 SlackAndReplay =
-    (row cuts : List ℕ) (m p s n lent arrivals : ℕ) → Slacks row m p (Slots (pos n)) → replay row cuts lent ≡ gives arrivals →
+    (row cuts : List ℕ) (m p s n lent arrivals : ℕ) → Slacks row m p (Ok (pos n)) → replay row cuts lent ≡ gives arrivals →
     Diverted (plan_of row) cuts m p s → Counted (plan_of row) cuts m arrivals

@@ -1,19 +1,22 @@
 -- What asking for a slack promises: document 01's number and values for each case of the answer, and the bounds of the slack.
-use Rattle.std.specs.Prelude.{ℕ, ◌≡◌, List, ℤ, pos, negsuc, ◌≤ℤ◌}
+use Rattle.std.specs.Prelude.{ℕ, ◌≡◌, List, ℤ, pos, negsuc, ◌≤ℤ◌, Result, Ok, Err}
 use Rattle.scope.specs.Outcome.{Outcome, gives, refused}
 use Rattle.scope.specs.Questions.{may_spare, slack}
-use Rattle.spare.specs.declared.Spare.{Spare}
-use Rattle.spare.specs.declared.Spare.TheVariants.{Slots, Refused}
+use Rattle.scope.specs.declared.Refusal.{Refusal}
+
+-- an answer that is a slack, below, at or above zero; or the refusal
+abbrev pub Spare : Type 0
+Spare = Result ℤ Refusal
 
 -- the refusal's number and place, or that nothing is refused
 abbrev pub said : Spare → Outcome
-said (Slots z) = gives 0
-said (Refused r) = refused r
+said (Ok z) = gives 0
+said (Err r) = refused r
 
 -- the slack; "zero in every other result"
 abbrev pub value : Spare → ℤ
-value (Slots z) = z
-value (Refused r) = pos 0
+value (Ok z) = z
+value (Err r) = pos 0
 
 abbrev pub unless_refused : Outcome → ℤ → ℤ
 unless_refused (gives n) z = z
@@ -34,4 +37,4 @@ SlackLies = (row : List ℕ) (m p : ℕ) → may_spare row m p ≡ gives 0 → B
 
 -- so an answer that is a slack lies there
 abbrev pub AnswerLies : Type 0
-AnswerLies = (row : List ℕ) (m p : ℕ) (z : ℤ) → Slacks row m p (Slots z) → Between z
+AnswerLies = (row : List ℕ) (m p : ℕ) (z : ℤ) → Slacks row m p (Ok z) → Between z

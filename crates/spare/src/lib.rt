@@ -4,38 +4,24 @@
 
 #![tactic(auto)]
 
-ghost use Rattle.std.specs.Prelude.{◌≡◌, ◌+◌, ◌*◌, ◌<◌, ◌≤◌, ◌^◌, cond, eqb};
+ghost use Rattle.std.specs.Prelude.{◌≡◌, ◌+◌, ◌*◌, ◌<◌, ◌≤◌, ◌^◌, cond};
 ghost use Rattle.std.proofs.Math.IntN.{sub_ℕ};
 ghost use Rattle.scope.specs.Plan.{numbers_at, places_at, message_at, message_count, plan_of};
 ghost use Rattle.scope.specs.Good.{has};
 ghost use Rattle.scope.specs.Cycle.{order_of};
 ghost use Rattle.scope.specs.Spare.{entries_of, entries, has_second_through, lower_through, delay};
 ghost use Rattle.rows.specs.View.{Is};
-ghost use Rattle.plan.specs.Answers.{GoodRow};
 ghost use Rattle.spare.specs.Slack.{Slacks};
 
-use scope::{Answer, Refusal, refusal_at};
-
-// An answer that is a slack, below, at or above zero.
-#[derive(Clone, Copy)]
-pub enum Spare {
-    Slots(i32),
-    Refused(Refusal),
-}
+use plan::Good;
+use scope::{Refusal, refusal_at};
 
 // Whether link e stands among so many numbers from an index on.
 fn has(row: &[u16], e: usize, i: usize, n: usize) -> bool
     requires { (i < 2 ^ 62) × (n ≤ 65536) }
     ensures { result ≡ has e (numbers_at row.now i n) }
 {
-    let mut k = 0;
-    while k < n {
-        if rows::number(row, i + k) == e {
-            return true;
-        }
-        k += 1;
-    }
-    false
+    (0..n).any(|k| e == rows::number(row, i + k))
 }
 
 // Whether one of so many places from an index on has a second path through link e.
@@ -44,23 +30,14 @@ fn through(row: &[u16], e: usize, i: usize, n: usize) -> bool
     ensures { result ≡ has_second_through e (places_at row.now i n) }
 {
     let mut at = i;
-    let mut k = 0;
-    while k < n {
+    for _k in 0..n {
         let here = rows::place_at(row, at);
         if has(row, e, here.second, here.count) {
             return true;
         }
         at = here.next;
-        k += 1;
     }
     false
-}
-
-// 1 if a link is link e, 0 if it is not.
-fn on_link(link: usize, e: usize) -> usize
-    ensures { Is (cond (eqb link e) 1 0) 1 result }
-{
-    if link == e { 1 } else { 0 }
 }
 
 // How many of so many places from an index on are on link e.
@@ -68,14 +45,12 @@ fn entries_of(row: &[u16], e: usize, i: usize, n: usize) -> usize
     requires { (i < 2 ^ 60) × (n ≤ 65536) }
     ensures { Is (entries_of e (places_at row.now i n)) n result }
 {
-    let mut sum: usize = 0;
+    let mut sum = 0;
     let mut at = i;
-    let mut k = 0;
-    while k < n {
+    for _k in 0..n {
         let here = rows::place_at(row, at);
-        sum = sum + on_link(here.link, e);
+        sum += usize::from(here.link == e);
         at = here.next;
-        k += 1;
     }
     sum
 }
@@ -84,14 +59,11 @@ fn entries_of(row: &[u16], e: usize, i: usize, n: usize) -> usize
 fn entries(row: &[u16], e: usize) -> usize
     ensures { Is (entries e (plan_of row.now).messages) 4294967296 result }
 {
-    let n = rows::messages(row);
-    let mut sum: usize = 0;
+    let mut sum = 0;
     let mut at = rows::message_index(row, 0);
-    let mut k = 0;
-    while k < n {
-        sum = sum + entries_of(row, e, at + 1, rows::place_count(row, at));
+    for _k in 0..rows::messages(row) {
+        sum += entries_of(row, e, at + 1, rows::place_count(row, at));
         at = rows::after_message(row, at);
-        k += 1;
     }
     sum
 }
@@ -101,11 +73,7 @@ fn message_through(row: &[u16], e: usize, i: usize) -> usize
     requires { i < 2 ^ 59 }
     ensures { Is (cond (has_second_through e (message_at row.now i)) 1 0) 1 result }
 {
-    if through(row, e, i + 1, rows::place_count(row, i)) {
-        1
-    } else {
-        0
-    }
+    usize::from(through(row, e, i + 1, rows::place_count(row, i)))
 }
 
 // b(m, e): how many messages lower than m have a second path through link e.
@@ -113,13 +81,11 @@ fn lower_through(row: &[u16], m: usize, e: usize) -> usize
     requires { m ≤ message_count row.now }
     ensures { Is (lower_through (order_of (plan_of row.now)) m e 0 (plan_of row.now).messages) m result }
 {
-    let mut sum: usize = 0;
+    let mut sum = 0;
     let mut at = rows::message_index(row, 0);
-    let mut j = 0;
-    while j < m {
-        sum = sum + message_through(row, e, at);
+    for _j in 0..m {
+        sum += message_through(row, e, at);
         at = rows::after_message(row, at);
-        j += 1;
     }
     sum
 }
@@ -130,12 +96,10 @@ fn delay(row: &[u16], m: usize, i: usize, n: usize) -> usize
     ensures { Is (delay (order_of (plan_of row.now)) (plan_of row.now).messages m (numbers_at row.now i n))
         (n * 4295032833) result }
 {
-    let mut sum: usize = 0;
-    let mut k = 0;
-    while k < n {
+    let mut sum = 0;
+    for k in 0..n {
         let e = rows::number(row, i + k);
-        sum = sum + 1 + entries(row, e) + lower_through(row, m, e);
-        k += 1;
+        sum += 1 + entries(row, e) + lower_through(row, m, e);
     }
     sum
 }
@@ -149,33 +113,30 @@ fn less(t: usize, used: usize) -> i32
 }
 
 // The slack of the second path of message m from place p, of a row that is known to be good.
-pub fn slack_of_good(row: &[u16], m: usize, p: usize) -> Spare
-    requires { GoodRow row.now }
-    ensures { Slacks row.now m p result }
+pub fn slack_of_good(good: Good<'_>, m: usize, p: usize) -> Result<i32, Refusal>
+    ensures { Slacks good.entry.row.now m p result }
 {
+    let row = good.row;
     if rows::messages(row) <= m {
-        return Spare::Refused(refusal_at(11, 0));
+        return Err(refusal_at(11, 0));
     }
     let i = rows::message_index(row, m);
     if rows::place_count(row, i) <= p {
-        return Spare::Refused(refusal_at(11, 0));
+        return Err(refusal_at(11, 0));
     }
     let at = rows::after_places(row, i + 1, p);
     let here = rows::place_at(row, at);
     if here.count == 0 {
-        return Spare::Refused(refusal_at(11, 0));
+        return Err(refusal_at(11, 0));
     }
     let used = here.slot + delay(row, m, here.second, here.count);
-    Spare::Slots(less(rows::timeout(row), used))
+    Ok(less(rows::timeout(row), used))
 }
 
 // The slack of the second path of message m from place p: timeout less slot less D, or refusal 1 to 10, 14 to 19, 11.
-pub fn slack(row: &[u16], m: usize, p: usize) -> Spare
+pub fn slack(row: &[u16], m: usize, p: usize) -> Result<i32, Refusal>
     ensures { Slacks row.now m p result }
 {
-    let judged = plan::judge(row);
-    match judged {
-        Answer::Gives(_) => slack_of_good(row, m, p),
-        Answer::Refused(r) => Spare::Refused(r),
-    }
+    let good = plan::judged(row)?;
+    slack_of_good(good, m, p)
 }

@@ -3,7 +3,6 @@
 
 #![tactic(auto)]
 
-use spare::Spare;
 use std::io;
 
 // Plan B.
@@ -22,10 +21,9 @@ fn show_slack(rt: &impl Print, z: i32) -> io::Result<()> {
 
 // The answer for message m and place p of a row.
 fn tell(rt: &impl Print, row: &[u16], m: usize, p: usize) -> io::Result<()> {
-    let answer = spare::slack(row, m, p);
-    match answer {
-        Spare::Slots(z) => show_slack(rt, z),
-        Spare::Refused(r) => println!(rt; "refused {} place {}", r.no, r.place),
+    match spare::slack(row, m, p) {
+        Ok(z) => show_slack(rt, z),
+        Err(r) => println!(rt; "refused {} place {}", r.no, r.place),
     }
 }
 

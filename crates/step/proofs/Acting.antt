@@ -12,6 +12,7 @@ use Rattle.step.specs.declared.Position.{Position}
 use Rattle.step.specs.declared.Met.{Met}
 use Rattle.step.specs.declared.Event.TheVariants.{Waits}
 use Rattle.step.specs.declared.Moved.{Moved}
+use Rattle.step.specs.declared.Tries.{Tries}
 use Rattle.step.specs.Where.{left_at, position_of, waits_in, Acts, Meets}
 use Rattle.step.specs.Pass.{first_trier, noted, tried_after, does, ActsIn, MovesIn}
 use Rattle.step.proofs.Left.{numbers-next, places_next}
@@ -48,7 +49,7 @@ module _ (row : List ℕ) (down : ℕ → Bool) (p : Position) (t : Met) (h : Me
   whole-tries : q.turned ≡ true → t.down ≡ false → t.link + 1 ≡ S.tries down (position_of row q)
   whole-tries f d = rw (f, numbers-next row q.at q.left h.left, ← h.link, ← h.cut, d)
 
-module _ (down : ℕ → Bool) (owner : ℕ → ℕ) (i : ℕ) (tried : List ℕ) (m : ℕ) where
+module _ (down : ℕ → Bool) (owner : ℕ → ℕ) (i : ℕ) (tried : Tries) (m : ℕ) where
   module _ (row : List ℕ) (p : Position) (t : Met) (h : Meets row down p t) where
     -- where it stands after its turn; what it does there
     abbrev after : S.Position
@@ -94,7 +95,7 @@ module _ (down : ℕ → Bool) (owner : ℕ → ℕ) (i : ℕ) (tried : List ℕ
         by true f false d h = absurd cc
 
     -- it tries the link before it
-    pub acts-tries : (entry first : ℕ) (tried' : List ℕ) (r : Moved) → t.position.turned ≡ true → t.down ≡ false →
+    pub acts-tries : (entry first : ℕ) (tried' : Tries) (r : Moved) → t.position.turned ≡ true → t.down ≡ false →
         entry ≡ owner t.link → first ≡ first_trier tried t.link m → tried' ≡ noted tried t.link m →
         Does entry (not (eqb first m)) first r →
         ActsIn row down owner i p m tried tried' r
@@ -146,6 +147,6 @@ module _ (down : ℕ → Bool) (owner : ℕ → ℕ) (i : ℕ) (tried : List ℕ
       ap (λ x. cond (eqb x 0) tried (noted tried (S.next_second (S.turn down (left_at row b k n))) m)) (home-tries row k n b h down)
 
 -- what has acted has moved
-pub moves_by : {down : ℕ → Bool} {owner : ℕ → ℕ} {i : ℕ} {tried : List ℕ} {m : ℕ} {row : List ℕ} {p : Position} {tried' : List ℕ} {r : Moved} →
+pub moves_by : {down : ℕ → Bool} {owner : ℕ → ℕ} {i : ℕ} {tried : Tries} {m : ℕ} {row : List ℕ} {p : Position} {tried' : Tries} {r : Moved} →
     ActsIn row down owner i p m tried tried' r → MovesIn row down owner i p m tried tried' r.next
 moves_by a = record { next = record { is = ap (λ x. x.next) a.acts.is; within = a.acts.within }; noted = a.noted }

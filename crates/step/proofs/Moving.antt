@@ -14,11 +14,12 @@ use Rattle.scope.specs.Cycle.{order_of, slot, nexts}
 use Rattle.step.specs.declared.Position.{Position}
 use Rattle.step.specs.Where.{position_of}
 use Rattle.step.specs.Stand.{home, positions_of}
-use Rattle.step.specs.Pass.{triers, does, MayAct, MovesIn, MayMoveAll, MovesAll}
-use Rattle.step.proofs.Going.{next_from, Going, going-none, going-fits, going_more, going_done}
+use Rattle.step.specs.declared.Tries.{Tries}
+use Rattle.step.specs.Pass.{does, MovesIn, MayMoveAll, MovesAll}
+use Rattle.step.proofs.Going.{next_from, Going, going-none, going_more, going_done}
 use Rattle.step.proofs.Acting.{home-does, home_tried}
 use Rattle.step.proofs.Pass.{pass-slot}
-use Rattle.step.proofs.Passing.{passes, Passing, passing_none, passing_notes, passing_at, passing_more, passing_done, stands-length}
+use Rattle.step.proofs.Passing.{passes, Passing, passing_none, passing_at, passing_more, passing_done, stands-length}
 use Rattle.step.proofs.Passing.{all-length}
 
 -- the next positions, one by one
@@ -36,15 +37,15 @@ nexts-from all d m (p ∷ ps) h =
 abbrev nobody : S.Moved
 nobody = S.moved (S.on_first []) 0 0
 
-module _ (row : List ℕ) (down : ℕ → ℕ → Bool) (owner : ℕ → ℕ → ℕ) (i n : ℕ) (old : List Position) (tried₀ : List ℕ) where
+module _ (row : List ℕ) (down : ℕ → ℕ → Bool) (owner : ℕ → ℕ → ℕ) (i n : ℕ) (old : List Position) (tried₀ : Tries) where
   -- where each message is put
   abbrev next_of : ℕ → S.Position → S.Position
   next_of k p = (get_or (passes row (down i) (owner i) i n old tried₀) k (S.moved (S.on_first []) 0 0)).next
 
-  pub record Moving (m : ℕ) (new : List Position) (tried : List ℕ) : Type 0 where
+  pub record Moving (m : ℕ) (new : List Position) (tried : Tries) : Type 0 where
     pub passing : Passing row (down i) (owner i) i n old tried₀ m tried
     pub going : Going row next_of n m old new
-    pub none : triers tried₀ ≡ 0
+    pub none : tried₀.count ≡ 0
     pub early : i < 65536
 
   pub moving_none : MayMoveAll row old n i tried₀ → Moving 0 old tried₀
@@ -56,14 +57,8 @@ module _ (row : List ℕ) (down : ℕ → ℕ → Bool) (owner : ℕ → ℕ →
         early = a.early;
       }
 
-module _ {row : List ℕ} {down : ℕ → ℕ → Bool} {owner : ℕ → ℕ → ℕ} {i n : ℕ} {old : List Position} {tried₀ : List ℕ}
-    {m : ℕ} {new : List Position} {tried : List ℕ} (g : Moving row down owner i n old tried₀ m new tried) where
-  pub moving_long : (length new ≡ length old) × (length tried ≡ length tried₀) × (m ≤ n) × (n ≤ length old)
-  moving_long = (g.going.walk.long, g.passing.same, g.passing.few, g.passing.long)
-
-  pub moving_may : m < n → MayAct row (get_or new m home) m i tried
-  moving_may h = record { fit = going-fits g.going h; early = g.early; noting = passing_notes g.passing h }
-
+module _ {row : List ℕ} {down : ℕ → ℕ → Bool} {owner : ℕ → ℕ → ℕ} {i n : ℕ} {old : List Position} {tried₀ : Tries}
+    {m : ℕ} {new : List Position} {tried : Tries} (g : Moving row down owner i n old tried₀ m new tried) where
   -- message m stands where it did
   here : m < n → get_or new m home ≡ get_or old m home
   here h = g.going.walk.rest m (omega arith)
@@ -73,7 +68,7 @@ module _ {row : List ℕ} {down : ℕ → ℕ → Bool} {owner : ℕ → ℕ →
       does (down i) (owner i) i tried m (position_of row (get_or new m home))
   moving_at d h = passing_at g.passing d h ∙ ap (λ p. does (down i) (owner i) i tried m (position_of row p)) (sym (here h))
 
-  pub moving_more : (q : Position) (tried' : List ℕ) → m < n → MovesIn row (down i) (owner i) i (get_or new m home) m tried tried' q →
+  pub moving_more : (q : Position) (tried' : Tries) → m < n → MovesIn row (down i) (owner i) i (get_or new m home) m tried tried' q →
       Moving row down owner i n old tried₀ (m + 1) (set new m q) tried'
   moving_more q tried' h s =
       let f : position_of row (get_or new m home) ≡ position_of row (get_or old m home) = ap (position_of row) (here h) in

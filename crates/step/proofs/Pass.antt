@@ -11,10 +11,11 @@ use borrow.Author.Tests.{lt-ltb, le-ltb, ltb-true, ltb-false, eq-eqb, ne_eqb, eq
 use Rattle.scope.specs.Lowest.{seek, lowest}
 use Rattle.scope.proofs.Lowest.{seek-most, seek-same}
 use Rattle.scope.specs.Slot as S
-use Rattle.scope.specs.Limits.{most_messages, tries_size}
+use Rattle.scope.specs.Limits.{most_messages}
 use Rattle.scope.specs.Plan.{Plan}
 use Rattle.scope.specs.Cycle.{by_number, order_of, foremost, moves, slot}
-use Rattle.step.specs.Pass.{triers, tried_link, tried_by, found_at, first_trier, noted, Noting, tried_after, does, pass}
+use Rattle.step.specs.declared.Tries.{Tries}
+use Rattle.step.specs.Pass.{tried_link, tried_by, found_at, first_trier, noted, Noting, tried_after, does, pass}
 use Rattle.step.proofs.Tried.{fore_lowest, lowest_keep, lowest-here, lowest-next, trier_found, trier_none, noted-count, link_old}
 use Rattle.step.proofs.Tried.{by_old, link_new, by_new, fits-noted}
 
@@ -24,29 +25,29 @@ module _ (ts : List ℕ) where
   trying e k = eqb (get_or ts k 0) (e + 1)
 
   -- the list tells who below m tries which link first
-  pub record Knows (tried : List ℕ) (m : ℕ) : Type 0 where
-    pub room : tries_size ≤ length tried
-    pub few : triers tried ≤ m
-    pub below : (j : ℕ) → j < triers tried → tried_by tried j < m
+  pub record Knows (tried : Tries) (m : ℕ) : Type 0 where
+    pub room : length tried.list ≡ most_messages
+    pub few : tried.count ≤ m
+    pub below : (j : ℕ) → j < tried.count → tried_by tried j < m
     pub is : (e : ℕ) → first_trier tried e m ≡ lowest (λ k. eqb (get_or ts k 0) (e + 1)) m
 
-  pub knows_none : (tried : List ℕ) → triers tried ≡ 0 → tries_size ≤ length tried → Knows tried 0
+  pub knows_none : (tried : Tries) → tried.count ≡ 0 → length tried.list ≡ most_messages → Knows tried 0
   unfolding seek
   knows_none tried z r =
       record { room = r; few = omega arith; below = λ j h. absurd (omega arith); is = λ e. trier_none tried e 0 (omega arith) }
 
-  pub noting : (tried : List ℕ) (m : ℕ) → m < most_messages → Knows tried m → Noting tried m
+  pub noting : (tried : Tries) (m : ℕ) → m < most_messages → Knows tried m → Noting tried m
   noting tried m h k = record { low = h; room = k.room; few = k.few; below = k.below }
 
-  module _ (tried : List ℕ) (m : ℕ) (k : Knows tried m) where
+  module _ (tried : Tries) (m : ℕ) (k : Knows tried m) where
     -- whoever was found is still the lowest
-    kept : (e : ℕ) → found_at tried e < triers tried → tried_by tried (found_at tried e) ≡ lowest (trying e) (m + 1)
+    kept : (e : ℕ) → found_at tried e < tried.count → tried_by tried (found_at tried e) ≡ lowest (trying e) (m + 1)
     kept e h =
         let w : tried_by tried (found_at tried e) ≡ lowest (trying e) m = sym (trier_found tried e m h) ∙ k.is e in
         w ∙ sym (lowest_keep (trying e) m (omega (arith, k.below (found_at tried e) h)))
 
     -- where nobody was found, nobody below m tries the link
-    nobody : (e : ℕ) → triers tried ≤ found_at tried e → lowest (trying e) m ≡ m
+    nobody : (e : ℕ) → tried.count ≤ found_at tried e → lowest (trying e) m ≡ m
     nobody e h = sym (k.is e) ∙ trier_none tried e m h
 
     -- message m tries nothing
@@ -56,10 +57,10 @@ module _ (ts : List ℕ) where
           room = k.room;
           few = omega (arith, k.few);
           below = λ j h. omega (arith, k.below j h);
-          is = λ e. by e (ltb (found_at tried e) (triers tried)) refl;
+          is = λ e. by e (ltb (found_at tried e) tried.count) refl;
         }
       where
-        by : (e : ℕ) (b : Bool) → ltb (found_at tried e) (triers tried) ≡ b → first_trier tried e (m + 1) ≡ lowest (trying e) (m + 1)
+        by : (e : ℕ) (b : Bool) → ltb (found_at tried e) tried.count ≡ b → first_trier tried e (m + 1) ≡ lowest (trying e) (m + 1)
         by e true b = trier_found tried e (m + 1) (ltb-true _ _ b) ∙ kept e (ltb-true _ _ b)
         by e false b =
             let t : eqb (get_or ts m 0) (e + 1) ≡ false = ne_eqb (get_or ts m 0) (e + 1) (λ y. omega arith) in
@@ -73,40 +74,40 @@ module _ (ts : List ℕ) where
           room = omega (arith, f.same, k.room);
           few = f.few;
           below = f.below;
-          is = λ e. by e (ltb (found_at tried e) (triers tried)) refl;
+          is = λ e. by e (ltb (found_at tried e) tried.count) refl;
         }
       where
         n : Noting tried m
         n = noting tried m l k
 
-        count : triers (noted tried e₀ m) ≡ triers tried + 1
+        count : (noted tried e₀ m).count ≡ tried.count + 1
         count = noted-count tried m n e₀
 
         -- the entries that were there are looked at as before
-        same : (e : ℕ) → lowest (λ j. eqb (tried_link (noted tried e₀ m) j) e) (triers tried) ≡ found_at tried e
-        same e = seek-same _ _ (triers tried) 0 (λ j g h. ap (λ x. eqb x e) (link_old tried m n e₀ j (omega arith)))
+        same : (e : ℕ) → lowest (λ j. eqb (tried_link (noted tried e₀ m) j) e) tried.count ≡ found_at tried e
+        same e = seek-same _ _ tried.count 0 (λ j g h. ap (λ x. eqb x e) (link_old tried m n e₀ j (omega arith)))
 
-        found : (e : ℕ) → found_at tried e < triers tried → found_at (noted tried e₀ m) e ≡ found_at tried e
+        found : (e : ℕ) → found_at tried e < tried.count → found_at (noted tried e₀ m) e ≡ found_at tried e
         found e h =
             ap (lowest (λ j. eqb (tried_link (noted tried e₀ m) j) e)) count
-            ∙ lowest_keep (λ j. eqb (tried_link (noted tried e₀ m) j) e) (triers tried) (omega (arith, same e)) ∙ same e
+            ∙ lowest_keep (λ j. eqb (tried_link (noted tried e₀ m) j) e) tried.count (omega (arith, same e)) ∙ same e
 
-        full : (e : ℕ) → triers tried ≤ found_at tried e → lowest (λ j. eqb (tried_link (noted tried e₀ m) j) e) (triers tried) ≡ triers tried
-        full e h = same e ∙ omega (arith, seek-most (λ j. eqb (tried_link tried j) e) (triers tried) 0)
+        full : (e : ℕ) → tried.count ≤ found_at tried e → lowest (λ j. eqb (tried_link (noted tried e₀ m) j) e) tried.count ≡ tried.count
+        full e h = same e ∙ omega (arith, seek-most (λ j. eqb (tried_link tried j) e) tried.count 0)
 
-        new : (e : ℕ) → triers tried ≤ found_at tried e → e₀ ≡ e → found_at (noted tried e₀ m) e ≡ triers tried
+        new : (e : ℕ) → tried.count ≤ found_at tried e → e₀ ≡ e → found_at (noted tried e₀ m) e ≡ tried.count
         new e h q =
             ap (lowest (λ j. eqb (tried_link (noted tried e₀ m) j) e)) count
-            ∙ lowest-here (λ j. eqb (tried_link (noted tried e₀ m) j) e) (triers tried) (full e h) (eq-eqb _ _ (link_new tried m n e₀ ∙ q))
+            ∙ lowest-here (λ j. eqb (tried_link (noted tried e₀ m) j) e) tried.count (full e h) (eq-eqb _ _ (link_new tried m n e₀ ∙ q))
 
-        none : (e : ℕ) → triers tried ≤ found_at tried e → (e₀ ≡ e → ⊥) → found_at (noted tried e₀ m) e ≡ triers (noted tried e₀ m)
+        none : (e : ℕ) → tried.count ≤ found_at tried e → (e₀ ≡ e → ⊥) → found_at (noted tried e₀ m) e ≡ (noted tried e₀ m).count
         none e h q =
             ap (lowest (λ j. eqb (tried_link (noted tried e₀ m) j) e)) count
-            ∙ lowest-next (λ j. eqb (tried_link (noted tried e₀ m) j) e) (triers tried) (full e h)
+            ∙ lowest-next (λ j. eqb (tried_link (noted tried e₀ m) j) e) tried.count (full e h)
             (ne_eqb _ _ (λ y. q (sym (link_new tried m n e₀) ∙ y)))
             ∙ sym count
 
-        other : (e : ℕ) → triers tried ≤ found_at tried e → (b : Bool) → eqb e₀ e ≡ b →
+        other : (e : ℕ) → tried.count ≤ found_at tried e → (b : Bool) → eqb e₀ e ≡ b →
             first_trier (noted tried e₀ m) e (m + 1) ≡ lowest (trying e) (m + 1)
         other e h true b =
             let q : e₀ ≡ e = eqb-true _ _ b in
@@ -118,9 +119,9 @@ module _ (ts : List ℕ) where
             let t : eqb (get_or ts m 0) (e + 1) ≡ false = ne_eqb (get_or ts m 0) (e + 1) (λ y. q (omega arith)) in
             trier_none (noted tried e₀ m) e (m + 1) (omega (arith, none e h q)) ∙ sym (lowest-next (trying e) m (nobody e h) t)
 
-        by : (e : ℕ) (b : Bool) → ltb (found_at tried e) (triers tried) ≡ b → first_trier (noted tried e₀ m) e (m + 1) ≡ lowest (trying e) (m + 1)
+        by : (e : ℕ) (b : Bool) → ltb (found_at tried e) tried.count ≡ b → first_trier (noted tried e₀ m) e (m + 1) ≡ lowest (trying e) (m + 1)
         by e true b =
-            let h : found_at tried e < triers tried = ltb-true _ _ b in
+            let h : found_at tried e < tried.count = ltb-true _ _ b in
             trier_found (noted tried e₀ m) e (m + 1) (omega (arith, found e h, count))
             ∙ ap (tried_by (noted tried e₀ m)) (found e h) ∙ by_old tried m n e₀ (found_at tried e) h ∙ kept e h
         by e false b = other e (ltb-false _ _ b) (eqb e₀ e) refl
@@ -144,7 +145,7 @@ tries-next down (S.on_second (e ∷ es)) h = by (down e) h
     by false h = refl
 
 module _ (down : ℕ → Bool) (owner : ℕ → ℕ) (i : ℕ) (ts : List ℕ) where
-  knows_after : (tried : List ℕ) (m : ℕ) (p : S.Position) → Knows ts tried m → m < most_messages → get_or ts m 0 ≡ S.tries down (S.turn down p) →
+  knows_after : (tried : Tries) (m : ℕ) (p : S.Position) → Knows ts tried m → m < most_messages → get_or ts m 0 ≡ S.tries down (S.turn down p) →
       Knows ts (tried_after down tried m p) (m + 1)
   unfolding tried_after
   knows_after tried m p k l t = by (eqb (S.tries down (S.turn down p)) 0) refl
@@ -154,7 +155,7 @@ module _ (down : ℕ → Bool) (owner : ℕ → ℕ) (i : ℕ) (ts : List ℕ) w
       by true b = knows_not ts tried m k (t ∙ eqb-true _ _ b)
       by false b = knows_try ts tried m k (S.next_second (S.turn down p)) l (t ∙ tries-next down (S.turn down p) (eqb-false _ _ b))
 
-  pass-moves : (tried : List ℕ) (m : ℕ) (ps : List S.Position) → Knows ts tried m → m + length ps ≡ length ts → length ts ≤ most_messages →
+  pass-moves : (tried : Tries) (m : ℕ) (ps : List S.Position) → Knows ts tried m → m + length ps ≡ length ts → length ts ≤ most_messages →
       drop m ts ≡ map (S.tries down) (map (S.turn down) ps) →
       pass down owner i tried m ps ≡ moves by_number down owner i ts m (map (S.turn down) ps)
   unfolding pass moves does
@@ -176,8 +177,8 @@ module _ (down : ℕ → Bool) (owner : ℕ → ℕ) (i : ℕ) (ts : List ℕ) w
 order_is : (plan : Plan) (m : ℕ) → order_of plan m ≡ m
 order_is plan m = refl
 
-pub pass-slot : (plan : Plan) (down : ℕ → ℕ → Bool) (owner : ℕ → ℕ → ℕ) (i : ℕ) (tried : List ℕ) (ps : List S.Position) → triers tried ≡ 0 →
-    tries_size ≤ length tried → length ps ≤ most_messages →
+pub pass-slot : (plan : Plan) (down : ℕ → ℕ → Bool) (owner : ℕ → ℕ → ℕ) (i : ℕ) (tried : Tries) (ps : List S.Position) → tried.count ≡ 0 →
+    length tried.list ≡ most_messages → length ps ≤ most_messages →
     pass (down i) (owner i) i tried 0 ps ≡ slot (order_of plan) down owner i ps
 unfolding slot
 pass-slot plan down owner i tried ps z r l =

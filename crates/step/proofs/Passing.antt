@@ -8,16 +8,17 @@ use native.Mathlib.Numerals.{add-one}
 use lib.ListN.{length, get_or, take, drop, length-map, get_or-map, drop_of_length-le}
 use lib.Seq.{length-take-le, get_or-take, get_or-drop, drop-drop, drop-cons}
 use lib.Dec.{eqb}
-use Rattle.scope.specs.Limits.{most_messages, tries_size}
+use Rattle.scope.specs.Limits.{most_messages}
 use Rattle.scope.specs.Slot as S
 use Rattle.step.specs.declared.Position.{Position}
 use Rattle.step.specs.Where.{position_of}
 use Rattle.step.specs.Stand.{home, positions_of}
-use Rattle.step.specs.Pass.{triers, tried_by, noted, Noting, tried_after, all_tried, does, pass}
+use Rattle.step.specs.declared.Tries.{Tries}
+use Rattle.step.specs.Pass.{tried_by, noted, Noting, tried_after, all_tried, does, pass}
 use Rattle.step.proofs.Tried.{Fits, fits-noted}
 
 -- message m has been noted, or has tried nothing: the list has room for the next
-module _ (down : ℕ → Bool) (tried : List ℕ) (m : ℕ) (n : Noting tried m) (p : S.Position) where
+module _ (down : ℕ → Bool) (tried : Tries) (m : ℕ) (n : Noting tried m) (p : S.Position) where
   pub fits_after : Fits tried m (tried_after down tried m p)
   unfolding tried_after
   fits_after = by (eqb (S.tries down (S.turn down p)) 0)
@@ -26,23 +27,23 @@ module _ (down : ℕ → Bool) (tried : List ℕ) (m : ℕ) (n : Noting tried m)
       by true = record { same = refl; few = omega (arith, n.few); below = λ j h. omega (arith, n.below j h) }
       by false = fits-noted tried m n (S.next_second (S.turn down p))
 
-module _ (row : List ℕ) (down : ℕ → Bool) (owner : ℕ → ℕ) (i n : ℕ) (old : List Position) (tried₀ : List ℕ) where
+module _ (row : List ℕ) (down : ℕ → Bool) (owner : ℕ → ℕ) (i n : ℕ) (old : List Position) (tried₀ : Tries) where
   -- what all do
   abbrev pub passes : List S.Moved
   passes = pass down owner i tried₀ 0 (positions_of row n old)
 
-  pub record Passing (m : ℕ) (tried : List ℕ) : Type 0 where
+  pub record Passing (m : ℕ) (tried : Tries) : Type 0 where
     pub few : m ≤ n
     pub most : n ≤ most_messages
     pub long : n ≤ length old
-    pub same : length tried ≡ length tried₀
-    pub room : tries_size ≤ length tried₀
-    pub counted : triers tried ≤ m
-    pub below : (j : ℕ) → j < triers tried → tried_by tried j < m
-    pub left : drop m (pass down owner i tried₀ 0 (positions_of row n old)) ≡ pass down owner i tried m (drop m (positions_of row n old))
+    pub same : length tried.list ≡ length tried₀.list
+    pub room : length tried₀.list ≡ most_messages
+    pub counted : tried.count ≤ m
+    pub below : (j : ℕ) → j < tried.count → tried_by tried j < m
     pub noted : all_tried down tried₀ 0 (positions_of row n old) ≡ all_tried down tried m (drop m (positions_of row n old))
+    pub left : drop m (pass down owner i tried₀ 0 (positions_of row n old)) ≡ pass down owner i tried m (drop m (positions_of row n old))
 
-  pub passing_none : n ≤ most_messages → n ≤ length old → tries_size ≤ length tried₀ → triers tried₀ ≡ 0 → Passing 0 tried₀
+  pub passing_none : n ≤ most_messages → n ≤ length old → length tried₀.list ≡ most_messages → tried₀.count ≡ 0 → Passing 0 tried₀
   passing_none a b c d =
       record {
         few = omega arith;
@@ -56,13 +57,13 @@ module _ (row : List ℕ) (down : ℕ → Bool) (owner : ℕ → ℕ) (i n : ℕ
         noted = refl;
       }
 
-pass-length : (down : ℕ → Bool) (owner : ℕ → ℕ) (i : ℕ) (tried : List ℕ) (m : ℕ) (ps : List S.Position) →
+pass-length : (down : ℕ → Bool) (owner : ℕ → ℕ) (i : ℕ) (tried : Tries) (m : ℕ) (ps : List S.Position) →
     length (pass down owner i tried m ps) ≡ length ps
 unfolding pass
 pass-length down owner i tried m [] = refl
 pass-length down owner i tried m (p ∷ ps) = ap suc (pass-length down owner i (tried_after down tried m p) (m + 1) ps)
 
-module _ {row : List ℕ} {down : ℕ → Bool} {owner : ℕ → ℕ} {i n : ℕ} {old : List Position} {tried₀ : List ℕ} {m : ℕ} {tried : List ℕ}
+module _ {row : List ℕ} {down : ℕ → Bool} {owner : ℕ → ℕ} {i n : ℕ} {old : List Position} {tried₀ : Tries} {m : ℕ} {tried : Tries}
     (g : Passing row down owner i n old tried₀ m tried) where
   -- where the messages stand, what they do, and where message m stands
   abbrev stands : List S.Position
@@ -102,7 +103,7 @@ module _ {row : List ℕ} {down : ℕ → Bool} {owner : ℕ → ℕ} {i n : ℕ
       let z : m + 0 ≡ m = omega arith in
       sym (ap (λ k. get_or all k d) z) ∙ sym (get_or-drop m all 0 d) ∙ ap (λ l. get_or l 0 d) (now h)
 
-  pub passing_more : (tried' : List ℕ) → m < n → tried' ≡ tried_after down tried m (position_of row (get_or old m home)) →
+  pub passing_more : (tried' : Tries) → m < n → tried' ≡ tried_after down tried m (position_of row (get_or old m home)) →
       Passing row down owner i n old tried₀ (m + 1) tried'
   unfolding all_tried
   passing_more tried' h e = rw e more
@@ -118,8 +119,8 @@ module _ {row : List ℕ} {down : ℕ → Bool} {owner : ℕ → ℕ} {i n : ℕ
             room = g.room;
             counted = f.few;
             below = f.below;
-            left = sym (drop-drop 1 m all) ∙ ap (drop 1) (now h);
             noted = g.noted ∙ ap (all_tried down tried m) (next h);
+            left = sym (drop-drop 1 m all) ∙ ap (drop 1) (now h);
           }
 
   pub passing_done : n ≤ m → tried ≡ all_tried down tried₀ 0 (positions_of row n old)

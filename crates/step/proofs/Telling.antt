@@ -13,7 +13,9 @@ use Rattle.scope.specs.Cycle.{order_of, slot, numbers}
 use Rattle.step.specs.declared.Position.{Position}
 use Rattle.step.specs.declared.Moved.{Moved}
 use Rattle.step.specs.Events.{event_of}
-use Rattle.step.specs.Stand.{home, positions_of, MovesAndTells}
+use Rattle.scope.specs.Limits.{most_messages}
+use Rattle.step.specs.declared.Tries.{Tries}
+use Rattle.step.specs.Stand.{home, positions_of, MayTellAll, MovesAndTells}
 use Rattle.step.specs.Pass.{MayMoveAll, ActsIn}
 use Rattle.step.proofs.Moves.{numbers-length}
 use Rattle.step.proofs.Acting.{moves_by}
@@ -55,17 +57,21 @@ number_at (x ∷ ms) (suc m) d h =
     let e : 2 * suc m + 1 ≡ suc (suc (2 * m + 1)) = omega arith in
     rw e (number_at ms m d (omega arith))
 
-module _ (row : List ℕ) (down : ℕ → ℕ → Bool) (owner : ℕ → ℕ → ℕ) (i n : ℕ) (old : List Position) (tried₀ buffer : List ℕ) where
-  pub record Telling (m : ℕ) (new : List Position) (tried out : List ℕ) : Type 0 where
+module _ (row : List ℕ) (down : ℕ → ℕ → Bool) (owner : ℕ → ℕ → ℕ) (i n : ℕ) (old : List Position) (tried₀ : Tries) (buffer : List ℕ) where
+  pub record Telling (m : ℕ) (new : List Position) (tried : Tries) (out : List ℕ) : Type 0 where
     pub moving : Moving row down owner i n old tried₀ m new tried
     pub room : 2 * n ≤ length buffer
     pub written : out ≡ take (2 * m) (numbers (passes row (down i) (owner i) i n old tried₀)) ++ drop (2 * m) buffer
 
-  pub telling_none : MayMoveAll row old n i tried₀ → 2 * n ≤ length buffer → Telling 0 old tried₀ buffer
-  telling_none a e = record { moving = moving_none row down owner i n old tried₀ a; room = e; written = refl }
+  pub telling_none : MayTellAll row old n i (length buffer) → length old ≡ most_messages →
+      (tried₀.count ≡ 0) × (length tried₀.list ≡ most_messages) → Telling 0 old tried₀ buffer
+  telling_none a l t =
+      let may : MayMoveAll row old n i tried₀ =
+      record { stand = a.stand; long = omega (arith, l, a.stand.few); early = a.early; room = t.1; none = t.0 } in
+      record { moving = moving_none row down owner i n old tried₀ may; room = a.enough; written = refl }
 
-module _ {row : List ℕ} {down : ℕ → ℕ → Bool} {owner : ℕ → ℕ → ℕ} {i n : ℕ} {old : List Position} {tried₀ buffer : List ℕ}
-    {m : ℕ} {new : List Position} {tried out : List ℕ} (g : Telling row down owner i n old tried₀ buffer m new tried out) where
+module _ {row : List ℕ} {down : ℕ → ℕ → Bool} {owner : ℕ → ℕ → ℕ} {i n : ℕ} {old : List Position} {tried₀ : Tries} {buffer : List ℕ}
+    {m : ℕ} {new : List Position} {tried : Tries} {out : List ℕ} (g : Telling row down owner i n old tried₀ buffer m new tried out) where
   abbrev all : List S.Moved
   all = passes row (down i) (owner i) i n old tried₀
 
@@ -82,17 +88,14 @@ module _ {row : List ℕ} {down : ℕ → ℕ → Bool} {owner : ℕ → ℕ →
       ∙ ap (λ k. 2 * m + k) (length-drop (2 * m) buffer) in
       omega (arith, g.room, few)
 
-  pub telling_room : m < n → 2 * m + 1 < length out
-  telling_room h = omega (arith, g.room, telling_length)
-
   -- message m's event, as the pass has it
-  pub telling_event : (moved : Moved) (tried' : List ℕ) → m < n → ActsIn row (down i) (owner i) i (get_or new m home) m tried tried' moved →
+  pub telling_event : (moved : Moved) (tried' : Tries) → m < n → ActsIn row (down i) (owner i) i (get_or new m home) m tried tried' moved →
       event_of moved.event ≡ (get_or (passes row (down i) (owner i) i n old tried₀) m (S.moved (S.on_first []) 0 0)).event
   telling_event moved tried' h a =
       let d : S.Moved = S.moved (S.on_first []) 0 0 in
       ap (λ (x : S.Moved). x.event) (a.acts.is ∙ sym (moving_at g.moving d h))
 
-  pub telling_more : (moved : Moved) (tried' out' : List ℕ) → m < n →
+  pub telling_more : (moved : Moved) (tried' : Tries) (out' : List ℕ) → m < n →
       ActsIn row (down i) (owner i) i (get_or new m home) m tried tried' moved →
       out' ≡ set (set out (2 * m) (event_of moved.event).kind) (2 * m + 1) (event_of moved.event).number →
       Telling row down owner i n old tried₀ buffer (m + 1) (set new m moved.next) tried' out'

@@ -1,23 +1,24 @@
 -- Laws of what is tried: the lowest message that tries a link, and the list that notes who tries what.
-use Prim.Native.Nat.{ℕ, zero, suc, ◌+◌, ◌-◌, ◌*◌, ◌≤◌, ◌<◌}
+use Prim.Native.Nat.{ℕ, zero, suc, ◌+◌, ◌-◌, ◌≤◌, ◌<◌}
 use mathlib.Core.Path.{◌≡◌, refl, sym, ◌∙◌, ap}
 use mathlib.Core.Bool.{Bool, true, false, cond, ◌&&◌, and-false}
 use mathlib.Core.List.{List, [], ◌∷◌, ◌++◌, map}
 use native.Mathlib.Numerals.{add-one}
 use native.Mathlib.Omega.{arith}
-use lib.ListN.{length, get_or, take, drop, set, length-set}
-use lib.Seq.{take-suc, drop-cons, get_or-set_same, get_or-set_other}
+use lib.ListN.{length, get_or, take, drop, length-set}
+use lib.Seq.{take-suc, drop-cons, length-take-le, get_or-take, get_or-set_same, get_or-set_other}
 use lib.Dec.{ltb, eqb}
 use borrow.Author.Tests.{lt-ltb, le-ltb, ltb-true, ltb-false, eq-eqb, ne_eqb, eqb-true, eqb-false}
-use Rattle.scope.specs.Limits.{most_messages}
 use Rattle.scope.specs.Lowest.{seek, lowest}
-use Rattle.scope.proofs.Lowest.{seek-most}
+use Rattle.scope.proofs.Lowest.{seek_found, seek-next, seek-done}
 use Rattle.scope.specs.Cycle.{by_number, foremost}
 use Rattle.table.proofs.Laws.{lowest-more}
 use Rattle.step.specs.declared.Position.{Position}
 use Rattle.step.specs.Where.{position_of}
 use Rattle.step.specs.Stand.{home, positions_of}
-use Rattle.step.specs.Pass.{triers, tried_link, tried_by, found_at, first_trier, noted, Noting}
+use Rattle.step.specs.declared.Try.{Try}
+use Rattle.step.specs.declared.Tries.{Tries}
+use Rattle.step.specs.Pass.{no_try, tried_link, tried_by, found_at, first_trier, noted, Noting}
 
 -- one more element through a function
 pub map_snoc : {A B : Type 0} (f : A → B) (xs : List A) (x : A) → map f (xs ++ (x ∷ [])) ≡ map f xs ++ (f x ∷ [])
@@ -88,109 +89,101 @@ module _ (test : ℕ → Bool) where
   lowest-next n h t = lowest-more test n ∙ rw (le-ltb (lowest test n) n (omega arith), t)
 
 -- whoever is found in the list, and where nobody is
-module _ (tried : List ℕ) (e : ℕ) where
-  entry_most : found_at tried e ≤ triers tried
-  entry_most = omega (arith, seek-most (λ j. eqb (tried_link tried j) e) (triers tried) 0)
-
-  pub trier_found : (m : ℕ) → found_at tried e < triers tried → first_trier tried e m ≡ tried_by tried (found_at tried e)
+module _ (tried : Tries) (e : ℕ) where
+  pub trier_found : (m : ℕ) → found_at tried e < tried.count → first_trier tried e m ≡ tried_by tried (found_at tried e)
   unfolding first_trier
-  trier_found m h = rw (lt-ltb (found_at tried e) (triers tried) h)
+  trier_found m h = rw (lt-ltb (found_at tried e) tried.count h)
 
-  pub trier_none : (m : ℕ) → triers tried ≤ found_at tried e → first_trier tried e m ≡ m
+  pub trier_none : (m : ℕ) → tried.count ≤ found_at tried e → first_trier tried e m ≡ m
   unfolding first_trier
-  trier_none m h = rw (le-ltb (found_at tried e) (triers tried) h)
+  trier_none m h = rw (le-ltb (found_at tried e) tried.count h)
 
   -- a loop at entry j: it is the link's, or all are passed
-  pub trier_at : (m j : ℕ) → j < triers tried → j ≡ found_at tried e → tried_by tried j ≡ first_trier tried e m
+  pub trier_at : (m j : ℕ) → j < tried.count → j ≡ found_at tried e → tried_by tried j ≡ first_trier tried e m
   trier_at m j h g = ap (tried_by tried) g ∙ sym (trier_found m (omega arith))
 
-  pub trier_past : (m j : ℕ) → triers tried ≤ j → j ≡ found_at tried e → m ≡ first_trier tried e m
+  pub trier_past : (m j : ℕ) → tried.count ≤ j → j ≡ found_at tried e → m ≡ first_trier tried e m
   trier_past m j h g = sym (trier_none m (omega arith))
 
--- a search for the first of them: the entries from j on are still to be looked at
-pub record Looking (tried : List ℕ) (link m n j : ℕ) : Type 0 where
-  pub noting : Noting tried m
-  pub all : n ≡ triers tried
-  pub few : j ≤ n
-  pub left : seek (λ k. eqb (tried_link tried k) link) (n - j) j ≡ found_at tried link
+  -- the entries from j on are still to be looked at: entry j is the link's, it is not, or all are passed
+  abbrev pub Left : ℕ → Type 0
+  Left j = seek (λ k. eqb (tried_link tried k) e) (tried.count - j) j ≡ found_at tried e
 
--- so entry j stands within the list
-pub in_list : {tried : List ℕ} {link m n j : ℕ} → Looking tried link m n j → j < n → (j < most_messages) × (2 * j + 2 < length tried)
-in_list v h =
-    let n = v.noting in
-    (omega (arith, v.all, n.few, n.low), omega (arith, v.all, n.few, n.low, n.room))
+  pub left_found : (m j : ℕ) → Left j → j < tried.count → tried_link tried j ≡ e → tried_by tried j ≡ first_trier tried e m
+  left_found m j v h t =
+      trier_at m j h (sym (seek_found (λ k. eqb (tried_link tried k) e) tried.count j h (eq-eqb (tried_link tried j) e t)) ∙ v)
 
-pub noted-is : (tried : List ℕ) (e m : ℕ) →
-    set (set (set tried (2 * triers tried + 1) e) (2 * triers tried + 2) m) 0 (triers tried + 1) ≡ noted tried e m
-unfolding noted
-noted-is tried e m = refl
+  pub left_more : (j : ℕ) → Left j → j < tried.count → (tried_link tried j ≡ e → ⊥) → Left (j + 1)
+  left_more j v h t =
+      sym (seek-next (λ k. eqb (tried_link tried k) e) tried.count j h (ne_eqb (tried_link tried j) e t)) ∙ v
+
+  pub left_none : (m j : ℕ) → Left j → tried.count ≤ j → m ≡ first_trier tried e m
+  left_none m j v h = trier_past m j h (sym (seek-done (λ k. eqb (tried_link tried k) e) tried.count j h) ∙ v)
+
+-- entry j is one of those that have tried a link
+module _ {tried : Tries} {m : ℕ} (n : Noting tried m) where
+  counted : length (take tried.count tried.list) ≡ tried.count
+  counted = length-take-le tried.count tried.list (omega (arith, n.room, n.few, n.low))
+
+  pub in_count : {j : ℕ} → j < length (take tried.count tried.list) → j < tried.count
+  in_count h = omega (arith, counted)
+
+  pub past_count : {j : ℕ} → length (take tried.count tried.list) ≤ j → tried.count ≤ j
+  past_count h = omega (arith, counted)
+
+  pub at_count : {j : ℕ} → j < tried.count → get_or (take tried.count tried.list) j no_try ≡ get_or tried.list j no_try
+  at_count {j} h = get_or-take tried.count tried.list j no_try h
 
 -- one more entry
-module _ (tried : List ℕ) (m : ℕ) (n : Noting tried m) (e₀ : ℕ) where
-  -- how many there are; the link stored, and its message too
-  abbrev k₀ : ℕ
-  k₀ = triers tried
+module _ (tried : Tries) (m : ℕ) (n : Noting tried m) (e₀ : ℕ) where
+  abbrev new_try : Try
+  new_try = record { link = e₀; message = m }
 
-  abbrev one : List ℕ
-  one = set tried (2 * k₀ + 1) e₀
-
-  abbrev both : List ℕ
-  both = set one (2 * k₀ + 2) m
-
-  pub noted-length : length (noted tried e₀ m) ≡ length tried
+  pub noted-length : length (noted tried e₀ m).list ≡ length tried.list
   unfolding noted
-  noted-length = length-set both 0 (k₀ + 1) ∙ length-set one (2 * k₀ + 2) m ∙ length-set tried (2 * k₀ + 1) e₀
+  noted-length = length-set tried.list tried.count new_try
 
-  inner : length both ≡ length tried
-  inner = length-set one (2 * k₀ + 2) m ∙ length-set tried (2 * k₀ + 1) e₀
-
-  pub noted-count : triers (noted tried e₀ m) ≡ triers tried + 1
+  pub noted-count : (noted tried e₀ m).count ≡ tried.count + 1
   unfolding noted
-  noted-count = get_or-set_same both 0 (k₀ + 1) 0 (omega (arith, inner, n.room))
+  noted-count = refl
 
-  -- an index that is not changed
-  old : (k : ℕ) → (k ≡ 0 → ⊥) → (k ≡ 2 * k₀ + 1 → ⊥) → (k ≡ 2 * k₀ + 2 → ⊥) → get_or (noted tried e₀ m) k 0 ≡ get_or tried k 0
+  old : (j : ℕ) → j < tried.count → get_or (noted tried e₀ m).list j no_try ≡ get_or tried.list j no_try
   unfolding noted
-  old k a b c =
-      get_or-set_other both 0 k (k₀ + 1) 0 a
-      ∙ get_or-set_other one (2 * k₀ + 2) k m 0 c ∙ get_or-set_other tried (2 * k₀ + 1) k e₀ 0 b
+  old j h = get_or-set_other tried.list tried.count j new_try no_try (λ z. omega arith)
 
-  pub link_old : (j : ℕ) → j < triers tried → tried_link (noted tried e₀ m) j ≡ tried_link tried j
-  link_old j h = old (2 * j + 1) (λ z. omega arith) (λ z. omega arith) (λ z. omega arith)
+  pub link_old : (j : ℕ) → j < tried.count → tried_link (noted tried e₀ m) j ≡ tried_link tried j
+  link_old j h = ap (λ (t : Try). t.link) (old j h)
 
-  pub by_old : (j : ℕ) → j < triers tried → tried_by (noted tried e₀ m) j ≡ tried_by tried j
-  by_old j h = old (2 * j + 2) (λ z. omega arith) (λ z. omega arith) (λ z. omega arith)
+  pub by_old : (j : ℕ) → j < tried.count → tried_by (noted tried e₀ m) j ≡ tried_by tried j
+  by_old j h = ap (λ (t : Try). t.message) (old j h)
 
-  pub link_new : tried_link (noted tried e₀ m) (triers tried) ≡ e₀
+  new : get_or (noted tried e₀ m).list tried.count no_try ≡ new_try
   unfolding noted
-  link_new =
-      get_or-set_other both 0 (2 * k₀ + 1) (k₀ + 1) 0 (λ z. omega arith)
-      ∙ get_or-set_other one (2 * k₀ + 2) (2 * k₀ + 1) m 0 (λ z. omega arith)
-      ∙ get_or-set_same tried (2 * k₀ + 1) e₀ 0 (omega (arith, n.room, n.few, n.low))
+  new = get_or-set_same tried.list tried.count new_try no_try (omega (arith, n.room, n.few, n.low))
 
-  pub by_new : tried_by (noted tried e₀ m) (triers tried) ≡ m
-  unfolding noted
-  by_new =
-      get_or-set_other both 0 (2 * k₀ + 2) (k₀ + 1) 0 (λ z. omega arith)
-      ∙ get_or-set_same one (2 * k₀ + 2) m 0 (omega (arith, length-set tried (2 * k₀ + 1) e₀, n.room, n.few, n.low))
+  pub link_new : tried_link (noted tried e₀ m) tried.count ≡ e₀
+  link_new = ap (λ (t : Try). t.link) new
+
+  pub by_new : tried_by (noted tried e₀ m) tried.count ≡ m
+  by_new = ap (λ (t : Try). t.message) new
 
 -- after message m there is room to note the next, and whoever has been noted is lower than that
-pub record Fits (tried : List ℕ) (m : ℕ) (tried' : List ℕ) : Type 0 where
-  pub same : length tried' ≡ length tried
-  pub few : triers tried' ≤ m + 1
-  pub below : (j : ℕ) → j < triers tried' → tried_by tried' j < m + 1
+pub record Fits (tried : Tries) (m : ℕ) (tried' : Tries) : Type 0 where
+  pub same : length tried'.list ≡ length tried.list
+  pub few : tried'.count ≤ m + 1
+  pub below : (j : ℕ) → j < tried'.count → tried_by tried' j < m + 1
 
-pub fits-noted : (tried : List ℕ) (m : ℕ) (n : Noting tried m) (e : ℕ) → Fits tried m (noted tried e m)
+pub fits-noted : (tried : Tries) (m : ℕ) (n : Noting tried m) (e : ℕ) → Fits tried m (noted tried e m)
 fits-noted tried m n e =
     record {
       same = noted-length tried m n e;
       few = omega (arith, noted-count tried m n e, n.few);
-      below = λ j h. by j h (ltb j (triers tried)) refl;
+      below = λ j h. by j h (ltb j tried.count) refl;
     }
   where
-    by : (j : ℕ) → j < triers (noted tried e m) → (b : Bool) → ltb j (triers tried) ≡ b → tried_by (noted tried e m) j < m + 1
-    by j h true b = let g : j < triers tried = ltb-true j (triers tried) b in rw (by_old tried m n e j g) (omega (arith, n.below j g))
+    by : (j : ℕ) → j < (noted tried e m).count → (b : Bool) → ltb j tried.count ≡ b → tried_by (noted tried e m) j < m + 1
+    by j h true b = let g : j < tried.count = ltb-true j tried.count b in rw (by_old tried m n e j g) (omega (arith, n.below j g))
     by j h false b =
-        let g : triers tried ≤ j = ltb-false j (triers tried) b in
-        let z : j ≡ triers tried = omega (arith, noted-count tried m n e) in
+        let g : tried.count ≤ j = ltb-false j tried.count b in
+        let z : j ≡ tried.count = omega (arith, noted-count tried m n e) in
         rw (z, by_new tried m n e) (omega arith)

@@ -14,10 +14,6 @@ event_of (HeldByLower message) = record { kind = 5; number = message }
 event_of (Stays link) = record { kind = 6; number = link }
 event_of (StaysSecond link) = record { kind = 7; number = link }
 
--- an event of this kind and number
-abbrev pub an_event : ℕ → ℕ → S.Event
-an_event kind number = record { kind = kind; number = number }
-
 -- the link that an event crosses, plus one, or 0 where it is no crossing
 abbrev pub crossing_of : S.Event → ℕ
 crossing_of v = cond (eqb v.kind 2 || eqb v.kind 3) (v.number + 1) 0

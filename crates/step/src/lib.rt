@@ -8,12 +8,13 @@
 
 #![tactic(auto)]
 
-ghost use Rattle.std.specs.Prelude.{◌+◌, ◌<◌, ◌≤◌, ◌≡◌, true, false, not, length, set, eqb};
+ghost use Rattle.std.specs.Prelude.{◌+◌, ◌<◌, ◌≡◌, true, false, not, length, set, eqb};
+ghost use Rattle.scope.specs.Limits.{most_messages};
 ghost use Rattle.scope.specs.Plan.{at};
 ghost use Rattle.scope.specs.Slot.{on_first};
 ghost use Rattle.cuts.specs.Down.{is_down};
 ghost use Rattle.table.specs.Table.{entry_at};
-ghost use Rattle.step.specs.Events.{event_of, an_event, crossing_of};
+ghost use Rattle.step.specs.Events.{event_of, crossing_of};
 ghost use Rattle.step.specs.Where.{end_of, places_after, does_first, does_second, waits_in, Leads, Acts, Faces, Meets, MetActs};
 ghost use Rattle.step.specs.Stand.{Stand, Moves, MayTellAll};
 ghost use Rattle.step.specs.Seen.{as_seen, GoesAsSeen, Watches};
@@ -22,7 +23,7 @@ ghost use Rattle.step.specs.Pass.{first_trier, noted, Noting, MayAct, ActsIn, Mo
 
 use cuts::is_down;
 use rows::{number, place_at, place_slot};
-use scope::limits::{MESSAGES, SLOT_EVENTS, TRIES};
+use scope::limits::{MESSAGES, SLOT_EVENTS};
 
 // "Slot numbers run from 0 to t − 1; times run from 0 to t. What happens in slot i leads from time i to time i + 1." A time is made
 // as the first one and by the slot step (`Standing::after` and `told`) alone, and a slot is made from a time before the timeout alone.
@@ -106,13 +107,13 @@ impl Event {
     {
         match self {
             Event::Arrived => 0,
-            Event::Waits(link) => link,
-            Event::Crosses(link) => link,
-            Event::CrossesSecond(link) => link,
-            Event::HeldByTable(message) => message,
-            Event::HeldByLower(message) => message,
-            Event::Stays(link) => link,
-            Event::StaysSecond(link) => link,
+            Event::Waits(number)
+            | Event::Crosses(number)
+            | Event::CrossesSecond(number)
+            | Event::HeldByTable(number)
+            | Event::HeldByLower(number)
+            | Event::Stays(number)
+            | Event::StaysSecond(number) => number,
         }
     }
 }
@@ -166,13 +167,9 @@ impl Position {
     fn waits(self, row: &[u16], down: &[u8], slot: Slot) -> bool
         ensures { result ≡ waits_in row.now (is_down down.now) slot.0 self }
     {
-        if place_slot(row, self.at as usize) == slot.0 {
-            return false;
-        }
-        if self.turned {
-            return false;
-        }
-        !is_down(down, number(row, self.at as usize))
+        place_slot(row, self.at as usize) != slot.0
+            && !self.turned
+            && !is_down(down, number(row, self.at as usize))
     }
 
     // The position after its turn, if the next link of its first path is cut and it has a second path there, with the link before it.
@@ -276,76 +273,104 @@ impl Met {
     }
 }
 
-// The first of those who have tried a link in this slot, or m where nobody has.
-fn first_trier(tried: &[u16], link: u16, m: usize) -> usize
-    requires { Noting tried.now m }
-    ensures { (result ≡ first_trier tried.now link m) × (result ≤ m) }
-{
-    let n = tried[0] as usize;
-    let mut j = 0;
-    while j < n {
-        if tried[2 * j + 1] == link {
-            return tried[2 * j + 2] as usize;
-        }
-        j += 1;
-    }
-    m
+// A message that tries a link.
+#[derive(Clone, Copy)]
+struct Try {
+    link: u16,
+    message: u16,
 }
 
-// Message m tries a link too.
-fn note(tried: &mut [u16], link: u16, m: usize)
-    requires { Noting tried.old m }
-    ensures { tried.new ≡ noted tried.old link m }
-{
-    let n = tried[0] as usize;
-    tried[2 * n + 1] = link;
-    tried[2 * n + 2] = m as u16;
-    tried[0] = (n + 1) as u16;
+// Who has tried which link in a slot: the first `count` of these, in their order.
+#[derive(Clone, Copy)]
+struct Tries {
+    count: usize,
+    list: [Try; MESSAGES],
+}
+
+impl Tries {
+    // Nobody has tried anything.
+    fn none() -> Self
+        ensures { (result.count ≡ 0) × (length result.list ≡ most_messages) }
+    {
+        Tries {
+            count: 0,
+            list: [Try {
+                link: 0,
+                message: 0,
+            }; MESSAGES],
+        }
+    }
+
+    // The first of those who have tried a link, or m where nobody has.
+    fn first(&self, link: u16, m: u16) -> u16
+        requires { Noting self.now m }
+        ensures { result ≡ first_trier self.now link m }
+    {
+        for t in &self.list[..self.count] {
+            if t.link == link {
+                return t.message;
+            }
+        }
+        m
+    }
+
+    // Message m tries a link too.
+    fn note(&mut self, link: u16, m: u16)
+        requires { Noting self.old m }
+        ensures { self.new ≡ noted self.old link m }
+    {
+        self.list[self.count] = Try { link, message: m };
+        self.count += 1;
+    }
 }
 
 // What message m does in a slot, in a pass over the messages: `tried` has what those before it try. It tries the link before it if it has
 // turned and that link is whole; only then does it matter who holds the link, and who tries it first. One that waits is asked no more.
 fn act_one(
     p: Position,
-    m: usize,
+    m: u16,
     row: &[u16],
     table: &[u8],
     down: &[u8],
     slot: Slot,
-    tried: &mut [u16],
+    tried: &mut Tries,
 ) -> Moved
     requires { MayAct row.now p m slot.0 tried.old }
     ensures { ActsIn row.now (is_down down.now) (entry_at table.now slot.0) slot.0 p m
         tried.old tried.new result }
 {
     if p.is_home() {
-        let event = Event::Arrived;
-        return Moved { next: p, event };
+        return Moved {
+            next: p,
+            event: Event::Arrived,
+        };
     }
     if p.waits(row, down, slot) {
-        let event = Event::Waits(number(row, p.at as usize) as u16);
-        return Moved { next: p, event };
+        return Moved {
+            next: p,
+            event: Event::Waits(number(row, p.at as usize) as u16),
+        };
     }
     let met = p.meets(row, down);
     let q = met.position;
     if q.turned && !met.down {
         let entry = table::entry(table, slot.0, met.link as usize);
-        let first = first_trier(tried, met.link, m);
-        note(tried, met.link, m);
-        return met.acts(row, slot, entry, first as u16, m as u16);
+        let first = tried.first(met.link, m);
+        tried.note(met.link, m);
+        return met.acts(row, slot, entry, first, m);
     }
-    met.acts(row, slot, 0, m as u16, m as u16)
+    met.acts(row, slot, 0, m, m)
 }
 
 // The next position of message m. It asks what `act_one` asks, and not `act_one` itself: each is called in one place, and inlined there.
 fn move_one(
     p: Position,
-    m: usize,
+    m: u16,
     row: &[u16],
     table: &[u8],
     down: &[u8],
     slot: Slot,
-    tried: &mut [u16],
+    tried: &mut Tries,
 ) -> Position
     requires { MayAct row.now p m slot.0 tried.old }
     ensures { MovesIn row.now (is_down down.now) (entry_at table.now slot.0) slot.0 p m
@@ -361,12 +386,12 @@ fn move_one(
     let here = met.position;
     if here.turned && !met.down {
         let entry = table::entry(table, slot.0, met.link as usize);
-        let first = first_trier(tried, met.link, m);
-        note(tried, met.link, m);
-        let moved = met.acts(row, slot, entry, first as u16, m as u16);
+        let first = tried.first(met.link, m);
+        tried.note(met.link, m);
+        let moved = met.acts(row, slot, entry, first, m);
         return moved.next;
     }
-    let moved = met.acts(row, slot, 0, m as u16, m as u16);
+    let moved = met.acts(row, slot, 0, m, m);
     moved.next
 }
 
@@ -378,20 +403,17 @@ fn move_all(
     table: &[u8],
     down: &[u8],
     i: Slot,
-    tried: &mut [u16],
+    tried: &mut Tries,
 )
     requires { MayMoveAll row.now ps.old n i.0 tried.old }
     ensures { MovesAll row.now n (down_now down.now) (entry_at table.now) i.0
         ps.old ps.new tried.old tried.new }
 {
-    let mut m = 0;
-    while m < n {
+    for m in 0..n {
         let p = ps[m];
-        if p.left != 0 {
-            let q = move_one(p, m, row, table, down, i, tried);
-            ps[m] = q;
+        if !p.is_home() {
+            ps[m] = move_one(p, m as u16, row, table, down, i, tried);
         }
-        m += 1;
     }
 }
 
@@ -403,7 +425,7 @@ fn lend(
     table: &[u8],
     down: &[u8],
     i: Slot,
-    tried: &mut [u16],
+    tried: &mut Tries,
 ) -> [Position; MESSAGES]
     requires { MayMoveAll row.now ps n i.0 tried.old }
     ensures { MovesAll row.now n (down_now down.now) (entry_at table.now) i.0
@@ -426,51 +448,45 @@ fn after_slot(
     requires { Stand row.now n ps × (i.0 < 65536) }
     ensures { Moves row.now n (all_in row.now table.now down.now i.0 n ps) ps result }
 {
-    let mut tried = [0u16; TRIES];
+    let mut tried = Tries::none();
     lend(ps, n, row, table, down, i, &mut tried)
 }
 
-// The link that an event of this kind and number crosses, plus one, or 0.
-fn crossing(kind: u16, number: u16) -> usize
-    ensures { result ≡ crossing_of (an_event kind number) }
+// The link that an event crosses, plus one, or 0.
+fn crossing(event: Event) -> usize
+    ensures { result ≡ crossing_of (event_of event) }
 {
-    match kind {
-        2 | 3 => number as usize + 1,
+    match event {
+        Event::Crosses(link) | Event::CrossesSecond(link) => link as usize + 1,
         _ => 0,
     }
 }
 
-// Message m, with an event of this kind and number, crosses what was seen of it.
-fn as_seen(kind: u16, number: u16, seen: &[u8], m: usize) -> bool
-    ensures { result ≡ as_seen seen.now m (an_event kind number) }
+// Message m, with this event, crosses what was seen of it.
+fn as_seen(event: Event, seen: &[u8], m: usize) -> bool
+    ensures { result ≡ as_seen seen.now m (event_of event) }
 {
-    if m < seen.len() {
-        crossing(kind, number) == seen[m] as usize
-    } else {
-        true
-    }
+    seen.len() <= m || crossing(event) == seen[m] as usize
 }
 
 // An event in the row of events: "kind then number".
-fn put_event(out: &mut [u16], k: usize, kind: u16, number: u16)
+fn put_event(out: &mut [u16], k: usize, event: Event)
     requires { k + 1 < length out.old }
-    ensures { out.new ≡ set (set out.old k kind) (k + 1) number }
+    ensures { out.new ≡ set (set out.old k (event_of event).kind) (k + 1) (event_of event).number }
 {
-    out[k] = kind;
-    out[k + 1] = number;
+    out[k] = event.kind();
+    out[k + 1] = event.number();
 }
 
-// How many messages do what was seen of them, the event of the next one, and all records where that is nobody.
+// The foremost message that does something else than was seen of it, and what that is.
 #[derive(Clone, Copy)]
-struct Gone {
-    alike: usize,
-    kind: u16,
-    number: u16,
-    positions: [Position; MESSAGES],
+pub struct Differing {
+    pub message: usize,
+    pub event: Event,
 }
 
 // One slot of all messages that is told, in records of one's own: each moves, in their order, and its event is put at the front of `out`. It
-// ends at the first message that does something else than was seen of it.
+// ends at the first message that does something else than was seen of it, with the event of that one.
 fn go_all(
     ps: [Position; MESSAGES],
     n: usize,
@@ -480,39 +496,26 @@ fn go_all(
     i: Slot,
     seen: &[u8],
     out: &mut [u16],
-) -> Gone
+) -> Result<[Position; MESSAGES], Differing>
     requires { MayTellAll row.now ps n i.0 (length out.old) }
     ensures { GoesAsSeen row.now n (all_in row.now table.now down.now i.0 n ps)
         seen.now ps out.old out.new result }
 {
-    let mut tried = [0u16; TRIES];
+    let mut tried = Tries::none();
     let mut qs = ps;
-    let mut k = 0;
-    while k < n {
+    for k in 0..n {
         let p = qs[k];
-        let moved = act_one(p, k, row, table, down, i, &mut tried);
-        let event = moved.event;
-        let kind = event.kind();
-        let number = event.number();
-        if !as_seen(kind, number, seen, k) {
-            return Gone {
-                alike: k,
-                kind,
-                number,
-                positions: qs,
-            };
+        let moved = act_one(p, k as u16, row, table, down, i, &mut tried);
+        if !as_seen(moved.event, seen, k) {
+            return Err(Differing {
+                message: k,
+                event: moved.event,
+            });
         }
-        put_event(out, 2 * k, kind, number);
-        let q = moved.next;
-        qs[k] = q;
-        k += 1;
+        put_event(out, 2 * k, moved.event);
+        qs[k] = moved.next;
     }
-    Gone {
-        alike: k,
-        kind: 0,
-        number: 0,
-        positions: qs,
-    }
+    Ok(qs)
 }
 
 // Where all messages stand at a time, one record a message.
@@ -520,16 +523,6 @@ fn go_all(
 pub struct Standing {
     time: Time,
     positions: [Position; MESSAGES],
-}
-
-// How many messages do in a slot what was seen of them, from the first on; the event of the next one, zeros where that is nobody; and where
-// all stand after the slot, if nobody does anything else.
-#[derive(Clone, Copy)]
-pub struct Watched {
-    pub alike: usize,
-    pub kind: u16,
-    pub number: u16,
-    pub next: Standing,
 }
 
 impl Standing {
@@ -562,9 +555,8 @@ impl Standing {
     {
         let ps = self.positions;
         let qs = after_slot(ps, n, row, table, down, i);
-        let time = i.leads_to();
         Standing {
-            time,
+            time: i.leads_to(),
             positions: qs,
         }
     }
@@ -583,17 +575,17 @@ impl Standing {
         ensures { GoesAndTells row.now table.now down.now n i.0 self result
             out.old out.new }
     {
-        let ps = self.positions;
-        let gone = go_all(ps, n, row, table, down, i, &[], out);
-        let qs = gone.positions;
-        let time = i.leads_to();
+        let Ok(positions) = go_all(self.positions, n, row, table, down, i, &[], out) else {
+            unreachable!()
+        };
         Standing {
-            time,
-            positions: qs,
+            time: i.leads_to(),
+            positions,
         }
     }
 
-    // The slot step held against what was seen of the messages, a number each: the link that it crosses, plus one, or 0.
+    // The slot step held against what was seen of the messages, a number each: the link that it crosses, plus one, or 0. Where all do what was
+    // seen of them, they stand one time on; else this is the foremost one that does something else, and what that is.
     pub fn watched(
         self,
         i: Slot,
@@ -602,32 +594,15 @@ impl Standing {
         table: &[u8],
         down: &[u8],
         seen: &[u8],
-    ) -> Watched
+    ) -> Result<Standing, Differing>
         requires { MayGo row.now n self i.0 }
         ensures { Watches row.now table.now down.now seen.now n i.0 self result }
     {
         let mut out = [0u16; SLOT_EVENTS];
-        let ps = self.positions;
-        let gone = go_all(ps, n, row, table, down, i, seen, &mut out);
-        if gone.alike < n {
-            return Watched {
-                alike: gone.alike,
-                kind: gone.kind,
-                number: gone.number,
-                next: self,
-            };
-        }
-        let qs = gone.positions;
-        let time = i.leads_to();
-        let next = Standing {
-            time,
-            positions: qs,
-        };
-        Watched {
-            alike: gone.alike,
-            kind: gone.kind,
-            number: gone.number,
-            next,
-        }
+        let positions = go_all(self.positions, n, row, table, down, i, seen, &mut out)?;
+        Ok(Standing {
+            time: i.leads_to(),
+            positions,
+        })
     }
 }

@@ -30,14 +30,8 @@ pub record Delaying (row counts : List ℕ) (i n sum k : ℕ) : Type 0 where
   pub most : k ≤ n
 
 module _ (row counts : List ℕ) (i n : ℕ) where
-  pub delaying_none : Delaying row counts i n 0 0
-  delaying_none =
-      let a : i + 0 ≡ i = omega arith in
-      let b : n - 0 ≡ n = omega arith in
-      record { left = rw (a, b) (omega arith); few = omega arith; most = omega arith }
-
   module _ (sum k : ℕ) (g : Delaying row counts i n sum k) where
-    pub delaying_more : (e v : ℕ) → k < n → e ≡ at row (i + k) → v ≡ get_or counts e 0 → v < 65536 → Delaying row counts i n (sum + 1 + v) (k + 1)
+    pub delaying_more : (e v : ℕ) → k < n → e ≡ at row (i + k) → v ≡ get_or counts e 0 → v < 65536 → Delaying row counts i n (sum + (1 + v)) (k + 1)
     unfolding cost_of
     delaying_more e v h is cost small =
         let a : i + (k + 1) ≡ i + k + 1 = omega arith in
@@ -60,13 +54,6 @@ module _ (row counts : List ℕ) (t i : ℕ) (r : RowPlace) (p : IsPlace row i r
   not_empty : (j n : ℕ) → no_second (numbers_at row j (n + 1)) ≡ false
   unfolding numbers_at
   not_empty j n = rw (add-one n)
-
-  pub robust_none : r.count ≡ 0 → in_time counts t (place_at row i) ≡ false
-  robust_none z = by (flagged row i) refl
-    where
-      by : (b : Bool) → flagged row i ≡ b → in_time counts t (place_at row i) ≡ false
-      by true h = let c : r.count ≡ second_count row i = p.count ∙ ap (λ (x : Bool). cond x (second_count row i) 0) h in absurd (omega arith)
-      by false h = rw h
 
   pub robust_some : (d : ℕ) → (r.count ≡ 0 → ⊥) → d ≡ cost_of counts (numbers_at row r.second r.count) → in_time counts t (place_at row i) ≡
       leb (r.slot + d) t

@@ -8,7 +8,7 @@ use mathlib.Core.List.{List, []}
 use lib.ListN.{length, get_or, get_or-eq_default}
 use lib.Dec.{eqb}
 use Rattle.scope.specs.Limits.{most_links, most_messages, seconds_size}
-use Rattle.scope.specs.Plan.{at, flagged, second_at, second_start, second_count, numbers_at, place_size, places_at, after_places, place_count}
+use Rattle.scope.specs.Plan.{at, flagged, second_at, second_start, second_count, numbers_at, place_size, places_at, after_places}
 use Rattle.scope.specs.Plan.{message_at, messages_at, after_message, after_messages, message_count, first_message, plan_of, path_of}
 use Rattle.scope.specs.SecondPath.{message_index}
 use Rattle.scope.specs.Good.{has}
@@ -16,8 +16,8 @@ use Rattle.scope.specs.Spare.{entries_of, entries, has_second_through}
 use Rattle.rows.specs.View.{Is, IsPlace}
 use Rattle.rows.proofs.Walked.{walked}
 use Rattle.rows.specs.declared.RowPlace.{RowPlace}
-use Rattle.rows.proofs.Index.{places_first, places_go, places_done, messages_suc}
-use Rattle.rows.proofs.Parts.{places_all, places_more, places_none, message-count, path_at, timeout-is}
+use Rattle.rows.proofs.Index.{places_go, places_done, messages_suc}
+use Rattle.rows.proofs.Parts.{places_more, places_none, message-count, path_at, timeout-is}
 use Rattle.plan.specs.Answers.{GoodRow}
 use Rattle.spare.proofs.Loops.{numbers_more, numbers-none, messages-more, messages-none}
 use Rattle.spare.proofs.Held.{entries-few}
@@ -34,12 +34,6 @@ pub record Marking (row : List ℕ) (i n m : ℕ) (old new : List ℕ) (k : ℕ)
   pub left : (fin : List ℕ) → Put m (λ e. has e (numbers_at row (i + k) (n - k))) new fin → Put m (λ e. has e (numbers_at row i n)) old fin
 
 module _ (row : List ℕ) (i n m : ℕ) (old : List ℕ) where
-  pub marking_none : length old ≡ seconds_size → Marking row i n m old old 0
-  marking_none l =
-      let a : i + 0 ≡ i = omega arith in
-      let b : n - 0 ≡ n = omega arith in
-      record { few = omega arith; long = l; left = λ fin p. rw (a, b) at p }
-
   module _ (new : List ℕ) (k : ℕ) (g : Marking row i n m old new k) where
     pub marking_more : (v : ℕ) (next : List ℕ) → k < n → v ≡ at row (i + k) → Put m (λ e. eqb e v) new next → Marking row i n m old next (k + 1)
     unfolding has
@@ -72,13 +66,6 @@ second-of row i r p = rw (p.second, p.count) (by (flagged row i))
     by true = refl
     by false = refl
 
-pub second-few : (row : List ℕ) (i : ℕ) (r : RowPlace) → IsPlace row i r → r.count ≤ 65536
-second-few row i r p = by (flagged row i) p.count p.next
-  where
-    by : (b : Bool) → r.count ≡ cond b (second_count row i) 0 → r.next ≡ i + cond b (4 + second_count row i) 3 → r.count ≤ 65536
-    by true c n = omega (arith, p.near)
-    by false c n = omega arith
-
 -- a loop over the places of the message at index i, at place k of n, which stands at index j
 pub record Counting (row : List ℕ) (i m : ℕ) (old old' : List ℕ) (n j k : ℕ) (counts ways : List ℕ) : Type 0 where
   pub next : after_places row j (n - k) ≡ after_message row i
@@ -91,25 +78,6 @@ pub record Counting (row : List ℕ) (i m : ℕ) (old old' : List ℕ) (n j k : 
       Put m (λ e. has_second_through e (message_at row i)) old' fin
 
 module _ (row : List ℕ) (i m : ℕ) (old old' : List ℕ) (may : MayCount row i m old old') (n : ℕ) where
-  pub counting_none : n ≡ place_count row i → Counting row i m old old' n (i + 1) 0 old old'
-  counting_none is =
-      let all : places_at row (i + 1) (n - 0) ≡ message_at row i = places_all row (i + 1) n ∙ ap (places_at row (i + 1)) is in
-      record {
-        next = places_first row (i + 1) n ∙ ap (after_places row (i + 1)) is;
-        small = omega arith;
-        most = omega arith;
-        numbers =
-            may-same (λ e. entries_of e (message_at row i)) (λ e. entries_of e (places_at row (i + 1) (n - 0))) old
-            (λ e. ap (entries_of e) (sym all)) may.numbers;
-        bytes = may.bytes;
-        counted =
-            λ fin p. more_same (λ e. entries_of e (places_at row (i + 1) (n - 0))) (λ e. entries_of e (message_at row i)) old fin
-            (λ e. ap (entries_of e) all) p;
-        marked =
-            λ fin p. put_same m (λ e. has_second_through e (places_at row (i + 1) (n - 0))) (λ e. has_second_through e (message_at row i)) old' fin
-            (λ e l. ap (has_second_through e) all) p;
-      }
-
   module _ (j k : ℕ) (counts ways : List ℕ) (g : Counting row i m old old' n j k counts ways) (h : k < n) where
     split : (e : ℕ) → entries_of e (places_at row j (n - k)) ≡ one_if (eqb (at row j) e) +
         entries_of e (places_at row (j + place_size row j) (n - (k + 1)))

@@ -7,8 +7,7 @@ use mathlib.Core.List.{List}
 use lib.ListN.{length, get_or, set, replicate, length-set, length-replicate, get_or-replicate, get_or-eq_default}
 use lib.Seq.{get_or-set_same, get_or-set_other}
 use lib.Dec.{ltb, eqb}
-use borrow.Author.Count.{below_more}
-use borrow.Author.Tests.{ltb-true, ltb-false, lt-ltb, le-ltb, eqb-true, eqb-false, eq-eqb, ne_eqb}
+use borrow.Author.Tests.{ltb-true, ltb-false, lt-ltb, le-ltb, eqb-true, eqb-false, ne_eqb}
 use Rattle.scope.specs.Limits.{most_links, most_messages, seconds_size}
 use Rattle.sets.specs.Sums.{one_if}
 use Rattle.bound.specs.Seconds.{second_in, Seconds}
@@ -121,43 +120,8 @@ may-first f g old may = record { long = may.long; few = λ e h. omega (arith, ma
 pub may-same : (f g : ℕ → ℕ) (old : List ℕ) → ((e : ℕ) → f e ≡ g e) → MayMore f old → MayMore g old
 may-same f g old same may = record { long = may.long; few = λ e h. omega (arith, may.few e h, same e) }
 
--- one link more
-pub more_one : (v : ℕ) (old : List ℕ) → v < most_links → length old ≡ most_links → More (λ d. one_if (eqb v d)) old (set old v (get_or old v 0 + 1))
-more_one v old h long = record { long = length-set old v (get_or old v 0 + 1) ∙ long; is = λ d l. by d (eqb v d) refl }
-  where
-    by : (d : ℕ) (b : Bool) → eqb v d ≡ b → get_or (set old v (get_or old v 0 + 1)) d 0 ≡ get_or old d 0 + one_if b
-    by d true q = rw (← eqb-true v d q) (get_or-set_same old v (get_or old v 0 + 1) 0 (omega arith))
-    by d false q = get_or-set_other old v d (get_or old v 0 + 1) 0 (λ same. eqb-false v d q (sym same)) ∙ omega arith
-
-pub more-past : (v : ℕ) (old : List ℕ) → most_links ≤ v → length old ≡ most_links → More (λ d. one_if (eqb v d)) old old
-more-past v old h long = record { long = long; is = λ d l. rw (ne_eqb v d (λ same. omega arith)) (omega arith) }
-
-pub one_small : (v : ℕ) (old : List ℕ) → v < most_links → MayMore (λ d. one_if (eqb v d)) old → get_or old v 0 + 1 < 65536
-one_small v old h may = rw (eq-eqb v v refl) at (may.few v h)
-
 -- a loop over the links, at link e
 pub record Passing (more : ℕ → ℕ) (old new : List ℕ) (e : ℕ) : Type 0 where
   pub long : length new ≡ most_links
   pub is : (d : ℕ) → d < e → get_or new d 0 ≡ get_or old d 0 + more d
   pub rest : (d : ℕ) → e ≤ d → get_or new d 0 ≡ get_or old d 0
-
-module _ (more : ℕ → ℕ) (old : List ℕ) (may : MayMore more old) where
-  pub passing_none : Passing more old old 0
-  passing_none = record { long = may.long; is = λ d h. absurd (omega arith); rest = λ d h. refl }
-
-  module _ (new : List ℕ) (e : ℕ) (g : Passing more old new e) where
-    pub passing_small : e < most_links → get_or new e 0 + more e < 65536
-    passing_small h = omega (arith, g.rest e (omega arith), may.few e h)
-
-    pub passing_more : (v : ℕ) → e < most_links → v ≡ get_or new e 0 + more e → Passing more old (set new e v) (e + 1)
-    passing_more v h is =
-        record {
-          long = length-set new e v ∙ g.long;
-          is = below_more (λ d. get_or (set new e v) d 0 ≡ get_or old d 0 + more d) e
-              (λ d l. get_or-set_other new e d v 0 (λ q. omega arith) ∙ g.is d l)
-              (get_or-set_same new e v 0 (omega (arith, g.long)) ∙ is ∙ ap (λ (x : ℕ). x + more e) (g.rest e (omega arith)));
-          rest = λ d l. get_or-set_other new e d v 0 (λ q. omega arith) ∙ g.rest d (omega arith);
-        }
-
-    pub passing_done : most_links ≤ e → More more old new
-    passing_done h = record { long = g.long; is = λ d l. g.is d (omega arith) }

@@ -7,7 +7,7 @@ use mathlib.Core.List.{List, [], ◌∷◌}
 use lib.ListN.{length, get_or-eq_default}
 use Rattle.scope.specs.Limits.{most_slots, most_links, most_messages, table_size, seconds_size}
 use Rattle.scope.specs.Lowest.{seek}
-use Rattle.scope.specs.Plan.{Plan, Place, second_at, numbers_at, place_at, place_size, places_at, after_places, place_count, message_at}
+use Rattle.scope.specs.Plan.{Plan, Place, second_at, numbers_at, place_at, place_size, places_at, after_places, message_at}
 use Rattle.scope.specs.Plan.{after_message, message_count, first_message, timeout_of, plan_of, path_of}
 use Rattle.scope.specs.SecondPath.{message_index}
 use Rattle.scope.specs.Good.{has, holds}
@@ -18,8 +18,8 @@ use Rattle.table.proofs.Laws.{enter_place, enter_none, entry_next}
 use Rattle.rows.specs.View.{Is, IsPlace}
 use Rattle.rows.specs.declared.RowPlace.{RowPlace}
 use Rattle.rows.proofs.Walked.{walked}
-use Rattle.rows.proofs.Index.{places_first, places_go, places_done, messages_suc}
-use Rattle.rows.proofs.Parts.{places_all, places_more, places_none, message-count, path_at, timeout-is, link-count}
+use Rattle.rows.proofs.Index.{places_go, places_done, messages_suc}
+use Rattle.rows.proofs.Parts.{places_more, places_none, message-count, path_at, timeout-is, link-count}
 use Rattle.plan.specs.Answers.{GoodRow}
 use Rattle.spare.proofs.Held.{entries-few}
 use Rattle.spare.proofs.Bounds.{lower_few}
@@ -151,19 +151,6 @@ pub record Stripping (row : List ℕ) (i m : ℕ) (old old' : List ℕ) (n j k :
       Stripped (plan_of row) m (message_at row i) old fin old' fin'
 
 module _ (row : List ℕ) (i m : ℕ) (counts old old' : List ℕ) (may : MayStrip (plan_of row) m (message_at row i) counts old old') (n : ℕ) where
-  pub stripping_none : n ≡ place_count row i → Stripping row i m old old' n (i + 1) 0 old old'
-  stripping_none is =
-      let all : places_at row (i + 1) (n - 0) ≡ message_at row i = places_all row (i + 1) n ∙ ap (places_at row (i + 1)) is in
-      record {
-        next = places_first row (i + 1) n ∙ ap (after_places row (i + 1)) is;
-        small = omega arith;
-        most = omega arith;
-        long = may.long;
-        bytes = may.bytes;
-        links = rw all may.links;
-        left = λ fin fin' s. rw all at s;
-      }
-
   module _ (j k : ℕ) (fragile seconds : List ℕ) (g : Stripping row i m old old' n j k fragile seconds) (h : k < n) where
     links_now : SecondsAreLinks (plan_of row) (place_at row j ∷ places_at row (j + place_size row j) (n - (k + 1)))
     links_now = rw (places_more row j n k h) at g.links

@@ -23,10 +23,8 @@ fn mark_path(row: &[u16], i: usize, n: usize, m: usize, ways: &mut [u8])
     requires { (i < 2 ^ 62) × (n ≤ 65536) × (m < most_messages) × (length ways.old ≡ seconds_size) }
     ensures { Put m (λ e. has e (numbers_at row.now i n)) ways.old ways.new }
 {
-    let mut k = 0;
-    while k < n {
+    for k in 0..n {
         let e = rows::number(row, i + k);
-        k += 1;
         if e < LINKS {
             ways[e * MESSAGES + m] = 1;
         }
@@ -34,72 +32,68 @@ fn mark_path(row: &[u16], i: usize, n: usize, m: usize, ways: &mut [u8])
 }
 
 // Counts the link of a place.
-fn count(counts: &mut [u16], e: usize)
+fn count(counts: &mut [u16; LINKS], e: usize)
     requires { MayMore (λ d. one_if (eqb e d)) counts.old }
     ensures { More (λ d. one_if (eqb e d)) counts.old counts.new }
 {
     if e < LINKS {
-        counts[e] = counts[e] + 1;
+        counts[e] += 1;
     }
 }
 
 // Counts the first path of the message at an index, marks its second paths, and gives the index after it.
-fn count_message(row: &[u16], i: usize, m: usize, counts: &mut [u16], ways: &mut [u8]) -> usize
+fn count_message(
+    row: &[u16],
+    i: usize,
+    m: usize,
+    counts: &mut [u16; LINKS],
+    ways: &mut [u8; SECONDS],
+) -> usize
     requires { MayCount row.now i m counts.old ways.old }
     ensures { Counted row.now i m counts.old counts.new ways.old ways.new result }
 {
     let n = rows::place_count(row, i);
     let mut at = i + 1;
-    let mut k = 0;
-    while k < n {
+    for _k in 0..n {
         let here = rows::place_at(row, at);
         count(counts, here.link);
         mark_path(row, here.second, here.count, m, ways);
         at = here.next;
-        k += 1;
     }
     at
 }
 
 // a(e) of each link, and who has a second path through it.
-fn count_all(row: &[u16], counts: &mut [u16], ways: &mut [u8])
+fn count_all(row: &[u16], counts: &mut [u16; LINKS], ways: &mut [u8; SECONDS])
     requires { MayCountAll row.now counts.old ways.old }
     ensures { CountedAll (plan_of row.now) counts.new ways.new }
 {
     let n = rows::messages(row);
     let mut at = rows::message_index(row, 0);
-    let mut m = 0;
-    while m < n {
+    for m in 0..n {
         at = count_message(row, at, m, counts, ways);
-        m += 1;
     }
 }
 
 // D of so many links from an index on, where a link costs 1 and its count.
-fn delay(row: &[u16], i: usize, n: usize, counts: &[u16]) -> usize
+fn delay(row: &[u16], i: usize, n: usize, counts: &[u16; LINKS]) -> usize
     requires { (i < 2 ^ 62) × (n ≤ 65536) }
     ensures { Is (cost_of counts.now (numbers_at row.now i n)) (n * 65536) result }
 {
-    let mut sum: usize = 0;
-    let mut k = 0;
-    while k < n {
-        sum = sum + 1 + rows::number(counts, rows::number(row, i + k));
-        k += 1;
+    let mut sum = 0;
+    for k in 0..n {
+        sum += 1 + rows::number(counts, rows::number(row, i + k));
     }
     sum
 }
 
 // Whether the place at an index has a second path that ends in time.
-fn robust(row: &[u16], i: usize, counts: &[u16]) -> bool
+fn robust(row: &[u16], i: usize, counts: &[u16; LINKS]) -> bool
     requires { i < 2 ^ 61 }
     ensures { result ≡ in_time counts.now (timeout_of row.now) (place_at row.now i) }
 {
     let here = rows::place_at(row, i);
-    if here.count == 0 {
-        return false;
-    }
-    let used = here.slot + delay(row, here.second, here.count, counts);
-    used <= rows::timeout(row)
+    here.count != 0 && here.slot + delay(row, here.second, here.count, counts) <= rows::timeout(row)
 }
 
 // One place of message m: the second path of a robust one, the entry of a fragile one. It gives the index of the next place.
@@ -107,7 +101,7 @@ fn strip_place(
     row: &[u16],
     i: usize,
     m: usize,
-    counts: &[u16],
+    counts: &[u16; LINKS],
     fragile: &mut [u8],
     seconds: &mut [u8],
 ) -> usize
@@ -118,10 +112,9 @@ fn strip_place(
     let here = rows::place_at(row, i);
     if robust(row, i, counts) {
         mark_path(row, here.second, here.count, m, seconds);
-        return here.next;
+    } else {
+        table::mark(fragile, here.link, here.slot, (m + 1) as u8);
     }
-    let w = (m + 1) as u8;
-    table::mark(fragile, here.link, here.slot, w);
     here.next
 }
 
@@ -130,7 +123,7 @@ fn strip_message(
     row: &[u16],
     i: usize,
     m: usize,
-    counts: &[u16],
+    counts: &[u16; LINKS],
     fragile: &mut [u8],
     seconds: &mut [u8],
 ) -> usize
@@ -140,38 +133,38 @@ fn strip_message(
 {
     let n = rows::place_count(row, i);
     let mut at = i + 1;
-    let mut k = 0;
-    while k < n {
+    for _k in 0..n {
         at = strip_place(row, at, m, counts, fragile, seconds);
-        k += 1;
     }
     at
 }
 
 // From b(m, e) to b(m + 1, e).
-fn pass(ways: &[u8], m: usize, counts: &mut [u16])
-    requires { (length ways.now ≡ seconds_size) × (m < most_messages) × MayMore (λ e. second_in ways.now e m) counts.old }
+fn pass(ways: &[u8; SECONDS], m: usize, counts: &mut [u16; LINKS])
+    requires { (m < most_messages) × MayMore (λ e. second_in ways.now e m) counts.old }
     ensures { More (λ e. second_in ways.now e m) counts.old counts.new }
 {
-    let mut e = 0;
-    while e < LINKS {
-        counts[e] = counts[e] + ways[e * MESSAGES + m] as u16;
-        e += 1;
+    for e in 0..LINKS {
+        counts[e] += u16::from(ways[e * MESSAGES + m]);
     }
 }
 
 // All messages, with a(e) counted.
-fn strip_all(row: &[u16], ways: &[u8], counts: &mut [u16], fragile: &mut [u8], seconds: &mut [u8])
+fn strip_all(
+    row: &[u16],
+    ways: &[u8; SECONDS],
+    counts: &mut [u16; LINKS],
+    fragile: &mut [u8],
+    seconds: &mut [u8],
+)
     requires { MayStripAll row.now ways.now counts.old fragile.old seconds.old }
     ensures { Filled (plan_of row.now) fragile.new seconds.new }
 {
     let n = rows::messages(row);
     let mut at = rows::message_index(row, 0);
-    let mut m = 0;
-    while m < n {
+    for m in 0..n {
         at = strip_message(row, at, m, counts, fragile, seconds);
         pass(ways, m, counts);
-        m += 1;
     }
 }
 
@@ -180,8 +173,8 @@ pub fn fill(row: &[u16], fragile: &mut [u8], seconds: &mut [u8])
     requires { MayFill row.now fragile.old seconds.old }
     ensures { Filled (plan_of row.now) fragile.new seconds.new }
 {
-    let mut counts = [0u16; LINKS];
-    let mut ways = [0u8; SECONDS];
+    let mut counts = [0; LINKS];
+    let mut ways = [0; SECONDS];
     count_all(row, &mut counts, &mut ways);
     table::clear(fragile);
     strip_all(row, &ways, &mut counts, fragile, seconds);

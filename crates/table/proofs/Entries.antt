@@ -1,9 +1,9 @@
 -- Who has a link in a slot, read off the table: one law for each way.
 use Prim.Native.Nat.{ℕ, ◌≤◌, ◌<◌}
-use mathlib.Core.Path.{◌≡◌, sym, ◌∙◌}
+use mathlib.Core.Path.{◌≡◌, sym}
 use mathlib.Core.Bool.{and-false}
 use mathlib.Core.List.{List}
-use lib.ListN.{length, get_or, get_or-eq_default}
+use lib.ListN.{get_or}
 use lib.Dec.{ltb}
 use borrow.Author.Tests.{lt-ltb, le-ltb}
 use Rattle.scope.specs.Limits.{most_slots, most_links}
@@ -23,6 +23,3 @@ module _ (table : List ℕ) (i e : ℕ) where
   module _ (h : i < most_slots) (g : e < most_links) (k : ℕ) (p : k ≡ index_of i e) where
     pub entry_is : get_or table k 0 ≡ entry_at table i e
     entry_is = rw p (sym (entry_in h g))
-
-    pub entry_end : length table ≤ k → 0 ≡ entry_at table i e
-    entry_end l = sym (get_or-eq_default table 0 l) ∙ entry_is

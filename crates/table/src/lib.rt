@@ -23,13 +23,11 @@ pub fn index(slot: usize, link: usize) -> usize
 pub fn entry(table: &[u8], slot: usize, link: usize) -> u8
     ensures { result ≡ entry_at table.now slot link }
 {
-    if SLOTS <= slot {
-        return 0;
-    }
-    if LINKS <= link {
+    if SLOTS <= slot || LINKS <= link {
         return 0;
     }
     let k = index(slot, link);
+    // in a loop over a whole table this test is made once, and none of k
     if TABLE <= table.len() {
         return table[k];
     }
@@ -49,17 +47,10 @@ pub fn mark(table: &mut [u8], link: usize, slot: usize, w: u8)
     requires { length table.old ≡ table_size }
     ensures { Table (λ i e. marked w link slot i e (entry_at table.old i e)) table.new }
 {
-    if LINKS <= link {
+    if LINKS <= link || SLOTS <= slot || entry(table, slot, link) != 0 {
         return;
     }
-    if SLOTS <= slot {
-        return;
-    }
-    if entry(table, slot, link) != 0 {
-        return;
-    }
-    let k = index(slot, link);
-    table[k] = w;
+    table[index(slot, link)] = w;
 }
 
 // Puts the message at an index as w, and gives the index after it.
@@ -69,12 +60,10 @@ pub fn enter(row: &[u16], i: usize, w: u8, table: &mut [u8]) -> usize
 {
     let n = rows::place_count(row, i);
     let mut at = i + 1;
-    let mut k = 0;
-    while k < n {
+    for _k in 0..n {
         let here = rows::place_at(row, at);
         mark(table, here.link, here.slot, w);
         at = here.next;
-        k += 1;
     }
     at
 }
@@ -84,11 +73,7 @@ pub fn clear(table: &mut [u8])
     requires { length table.old ≡ table_size }
     ensures { Table (λ i e. 0) table.new }
 {
-    let mut k = 0;
-    while k < TABLE {
-        table[k] = 0;
-        k += 1;
-    }
+    table.fill(0);
 }
 
 // The whole table of a row.
@@ -99,10 +84,8 @@ pub fn fill_table(row: &[u16], table: &mut [u8])
     clear(table);
     let n = rows::messages(row);
     let mut at = rows::message_index(row, 0);
-    let mut m = 0;
-    while m < n {
+    for m in 0..n {
         let w = (m + 1) as u8;
         at = enter(row, at, w, table);
-        m += 1;
     }
 }

@@ -43,6 +43,11 @@ pub record Going (most : ℕ) (text : List ℕ) (at value next : ℕ) : Type 0 w
   pub is : value_from most (ltb at next) value (drop next text) ≡ value_at most text at
   pub size : next + size_from most (ltb at next) value (drop next text) ≡ at + size_at most text at
 
+-- the loop has stopped: it has read the whole number, if there is one
+pub record Stopped (most : ℕ) (text : List ℕ) (at value next : ℕ) : Type 0 where
+  pub is : value ≡ value_at most text at
+  pub size : next ≡ at + size_at most text at
+
 module _ (most : ℕ) (text : List ℕ) (at : ℕ) where
   pub going-first : Going most text at 0 at
   going-first =
@@ -72,7 +77,7 @@ module _ (most : ℕ) (text : List ℕ) (at : ℕ) where
         }
 
     pub going_stops : next < length text → (b : ℕ) → b ≡ byte_at text next → goes_on most (ltb at next) value b ≡ false →
-        Reads most text at (record { value = value; next = next })
+        Stopped most text at value next
     unfolding size_from value_from
     going_stops h b p goes =
         let cons : drop next text ≡ b ∷ drop (next + 1) text = rw (add-one, p, drop-cons text next 0) in
@@ -80,12 +85,22 @@ module _ (most : ℕ) (text : List ℕ) (at : ℕ) where
         let size : next + size_from most (ltb at next) value (b ∷ drop (next + 1) text) ≡ at + size_at most text at = rw cons at g.size in
         let is' : value ≡ value_at most text at = rw goes at is in
         let size' : next + 0 ≡ at + size_at most text at = rw goes at size in
-        record { value = is'; next = omega arith; small = g.small; within = g.within }
+        record { is = is'; size = omega arith }
 
-    pub going-ends : length text ≤ next → Reads most text at (record { value = value; next = next })
+    pub going-ends : length text ≤ next → Stopped most text at value next
     unfolding size_from value_from
     going-ends h =
         let none : drop next text ≡ [] = drop_of_length-le text h in
         let is : value ≡ value_at most text at = rw none at g.is in
         let size : next + 0 ≡ at + size_at most text at = rw none at g.size in
-        record { value = is; next = omega arith; small = g.small; within = g.within }
+        record { is = is; size = omega arith }
+
+    -- so where it has read no byte there is no number, and else it has read one
+    module _ (s : Stopped most text at value next) where
+      pub number_none : next ≡ at → size_at most text at ≡ 0
+      number_none e = let n = s.size in omega arith
+
+      pub number_some : (next ≡ at → ⊥) → (0 < size_at most text at) × Reads most text at (record { value = value; next = next })
+      number_some e =
+          let n = s.size in
+          (omega arith, record { value = s.is; next = n; small = g.small; within = g.within })

@@ -1,14 +1,17 @@
-// Text into lent bytes and out of them. What writes, a byte, a word, a number in decimal and a refusal, lays its text over the buffer from
-// an index on, as far as the buffer goes, and gives the index after the text, so a caller learns how many bytes a text has even where there
-// is no room for it; each asks that this index can be told in 64 bits (`Told`). What reads finds a word and a number in decimal at an index.
-// That a number printed is read back, and that what is read was printed so, is in proofs/Read. It leans on specs/Lines of `scope`, and on
+// Text into lent bytes and out of them. What writes, an item of any type, a byte, a word, a number in decimal and a refusal, lays its text over
+// the buffer from an index on, as far as the buffer goes, and gives the index after the text, so a caller learns how many bytes a text has even
+// where there is no room for it; each asks that this index can be told in 64 bits (`Told`). What reads finds a word and a number in decimal at an
+// index. That a number printed is read back, and that what is read was printed so, is in proofs/Read. It leans on specs/Lines of `scope`, and on
 // `bits` for the byte at an index.
+//
+// The buffer and the index are two parameters. In one struct that holds the lent buffer, each function would also have to promise that the
+// buffer is still the caller's. And `write!` and `Display` promise which bytes they wrote only where they answer `Ok`, which nothing promises.
 
 #![tactic(auto)]
 
-ghost use Rattle.std.specs.Prelude.{◌≡◌, ◌+◌, ◌≤◌, ◌<◌, ◌^◌, length, [], ◌∷◌, ◌++◌};
+ghost use Rattle.std.specs.Prelude.{◌≡◌, ◌+◌, ◌≤◌, ◌<◌, ◌^◌, MatchOption, length, [], ◌∷◌, ◌++◌};
 ghost use Rattle.text.specs.Text.{Puts, Told};
-ghost use Rattle.text.specs.Reading.{goes_on, Reads};
+ghost use Rattle.text.specs.Reading.{goes_on, size_at, Reads};
 ghost use Rattle.text.specs.Reading.{stands as Reading·stands};
 ghost use Rattle.scope.specs.Lines.{decimal, path_text, refused_text};
 ghost use Rattle.scope.specs.Outcome.{names_link};
@@ -16,16 +19,23 @@ ghost use Rattle.scope.specs.Outcome.{names_link};
 use bits::byte;
 use scope::Refusal;
 
+// One item.
+pub fn put<T: Copy>(out: &mut [T], at: usize, item: T) -> usize
+    requires { Told at (item ∷ []) }
+    ensures { Puts (item ∷ []) out.old out.new at result }
+{
+    if at < out.len() {
+        out[at] = item;
+    }
+    at + 1
+}
+
 // One byte.
 pub fn put_byte(out: &mut [u8], at: usize, b: u8) -> usize
     requires { Told at (b ∷ []) }
     ensures { Puts (b ∷ []) out.old out.new at result }
 {
-    if at < out.len() {
-        out[at] = b;
-        return at + 1;
-    }
-    at + 1
+    put(out, at, b)
 }
 
 // A fixed word.
@@ -34,10 +44,8 @@ pub fn put_word(out: &mut [u8], at: usize, word: &[u8]) -> usize
     ensures { Puts word.now out.old out.new at result }
 {
     let mut next = at;
-    let mut i = 0;
-    while i < word.len() {
-        next = put_byte(out, next, word[i]);
-        i += 1;
+    for &b in word {
+        next = put_byte(out, next, b);
     }
     next
 }
@@ -48,10 +56,10 @@ pub fn put_decimal(out: &mut [u8], at: usize, n: usize) -> usize
     ensures { Puts (decimal n) out.old out.new at result }
 {
     if n < 10 {
-        return put_byte(out, at, 48 + n as u8);
+        return put_byte(out, at, b'0' + n as u8);
     }
     let next = put_decimal(out, at, n / 10);
-    put_byte(out, next, 48 + (n % 10) as u8)
+    put_byte(out, next, b'0' + (n % 10) as u8)
 }
 
 // A number in decimal and the byte after it.
@@ -67,7 +75,7 @@ pub fn put_number(out: &mut [u8], at: usize, n: usize, mark: u8) -> usize
 fn names_link(no: usize) -> bool
     ensures { result ≡ names_link no }
 {
-    no == 7 || (no == 10 || (13 < no && no < 20))
+    matches!(no, 7 | 10 | 14..=19)
 }
 
 // The place and the step of a refusal, where it has them.
@@ -101,12 +109,10 @@ pub fn stands(text: &[u8], i: usize, word: &[u8]) -> bool
     requires { i + length word.now < 2 ^ 64 }
     ensures { result ≡ Reading·stands text.now i word.now }
 {
-    let mut j = 0;
-    while j < word.len() {
-        if byte(text, i + j) != word[j] as usize {
+    for (j, &b) in word.iter().enumerate() {
+        if byte(text, i + j) != b as usize {
             return false;
         }
-        j += 1;
     }
     true
 }
@@ -118,38 +124,34 @@ pub struct Number {
     pub next: usize,
 }
 
-// A digit goes on with a number.
-pub fn goes_on(most: usize, begun: bool, a: usize, b: usize) -> bool
-    requires { (a ≤ 65535) × (b < 256) }
+// A byte is a digit that goes on with a number.
+pub fn goes_on(most: usize, begun: bool, a: usize, b: u8) -> bool
+    requires { a ≤ 65535 }
     ensures { result ≡ goes_on most begun a b }
 {
-    if b < 48 {
+    if !b.is_ascii_digit() {
         return false;
     }
-    if 57 < b {
-        return false;
-    }
-    if begun {
-        return 0 < a && a * 10 + (b - 48) <= most;
-    }
-    a * 10 + (b - 48) <= most
+    (!begun || 0 < a) && a * 10 + (b - b'0') as usize <= most
 }
 
-// The number at an index, in decimal without needless zeros and at most so much: as many digits as go on with it. Where there is none,
-// the index behind it is that index.
-pub fn number_at(text: &[u8], at: usize, most: usize) -> Number
+// The number at an index, in decimal without needless zeros and at most so much: as many digits as go on with it, if any does.
+pub fn number_at(text: &[u8], at: usize, most: usize) -> Option<Number>
     requires { most ≤ 65535 }
-    ensures { Reads most text.now at result }
+    ensures { MatchOption result (size_at most text.now at ≡ 0) (λ r. (0 < size_at most text.now at) × Reads most text.now at r) }
 {
     let mut value = 0;
     let mut next = at;
     while next < text.len() {
-        let b = byte(text, next);
+        let b = text[next];
         if !goes_on(most, at < next, value, b) {
-            return Number { value, next };
+            break;
         }
-        value = value * 10 + (b - 48);
+        value = value * 10 + (b - b'0') as usize;
         next += 1;
     }
-    Number { value, next }
+    if next == at {
+        return None;
+    }
+    Some(Number { value, next })
 }

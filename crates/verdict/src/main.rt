@@ -10,10 +10,10 @@ ghost use Rattle.verdict_text.specs.Layout.{verdict_room};
 ghost use Rattle.listing.specs.Prints.{Front, PrintedOne};
 ghost use Rattle.program_io.specs.Came.{Came, plan_file};
 
-use scope::{Answer, limits};
+use scope::{Refusal, limits};
 
 // What is printed for what was read, the first p bytes of a buffer: the text of the whole plan file, however long it is.
-fn text(rt: &HostRuntime, plan: &[u8], p: usize, out: &mut [u8]) -> Answer
+fn text(rt: &HostRuntime, plan: &[u8], p: usize, out: &mut [u8]) -> Result<usize, Refusal>
     requires { Came plan_file p plan.now × (length plan.now ≡ plan_room) × (length out.old ≡ verdict_room) }
     ensures { (file : List ℕ) → Front plan.now p file → PrintedOne (VerdictText file) out.old
         out.new result }

@@ -4,10 +4,9 @@
 
 #![tactic(auto)]
 
-ghost use Rattle.std.specs.Prelude.{◌≡◌, nat_abs};
 ghost use Rattle.text.specs.Text.{Puts, Told};
 ghost use Rattle.scope.specs.Lines.{resistant_line, failing_line, slack_line, signed};
-ghost use Rattle.scope.specs.Lines.{spaced as Lines·spaced};
+ghost use Rattle.scope.specs.Lines.{parted as Lines·parted, spaced as Lines·spaced};
 
 use text::{put_byte, put_decimal, put_number, put_word};
 
@@ -27,13 +26,23 @@ pub fn spaced(out: &mut [u8], at: usize, cuts: &[u16]) -> usize
     ensures { Puts (Lines·spaced cuts.now) out.old out.new at result }
 {
     let mut next = at;
-    let mut i = 0;
-    while i < cuts.len() {
+    for &n in cuts {
         let a = put_byte(out, next, b' ');
-        next = put_decimal(out, a, cuts[i] as usize);
-        i += 1;
+        next = put_decimal(out, a, n as usize);
     }
     next
+}
+
+// Numbers with a space between them.
+pub fn parted(out: &mut [u8], at: usize, numbers: &[u16]) -> usize
+    requires { Told at (Lines·parted numbers.now) }
+    ensures { Puts (Lines·parted numbers.now) out.old out.new at result }
+{
+    let [first, rest @ ..] = numbers else {
+        return at;
+    };
+    let next = put_decimal(out, at, *first as usize);
+    spaced(out, next, rest)
 }
 
 // A plan that fails for k and l, with the cuts that show it.
@@ -47,22 +56,12 @@ pub fn failing_line(out: &mut [u8], at: usize, k: usize, l: usize, cuts: &[u16])
     put_byte(out, c, b'\n')
 }
 
-// How far a number is from zero.
-fn distance(z: i32) -> usize
-    ensures { result ≡ nat_abs z }
-{
-    if 0 <= z {
-        return z as usize;
-    }
-    (0 - (z as i64)) as usize
-}
-
 // A number that may be below zero.
 pub fn put_signed(out: &mut [u8], at: usize, z: i32) -> usize
     requires { Told at (signed z) }
     ensures { Puts (signed z) out.old out.new at result }
 {
-    let n = distance(z);
+    let n = z.unsigned_abs() as usize;
     if 0 <= z {
         return put_decimal(out, at, n);
     }

@@ -7,7 +7,7 @@ use native.Mathlib.Omega.{arith}
 use lib.ListN.{length, length-append}
 use lib.Dec.{leb}
 use borrow.Author.Tests.{le-leb}
-use Rattle.scope.specs.declared.Answer.TheVariants.{Gives}
+use Rattle.std.specs.Prelude.{Ok}
 use Rattle.scope.specs.Plan.{Plan}
 use Rattle.scope.specs.Questions.{after}
 use Rattle.scope.specs.Lines.{UnderK, VerdictLines, slack_lines}
@@ -114,7 +114,7 @@ lays-same {Kind} {most} {i} {j} {before} {after} a = ap length a.puts.buffer ∙
 
 -- a text that was laid at the front of a buffer with room for it
 pub lays-prints : {Kind : List ℕ → Type 0} {most : ℕ} {entry exit : List ℕ} {n : ℕ} → most ≤ length entry → Lays Kind most entry exit 0 n →
-    PrintsOne Kind entry exit (Gives n)
+    PrintsOne Kind entry exit (Ok n)
 unfolding after
 lays-prints {Kind} {most} {entry} {exit} {n} room a =
     let s = a.short in

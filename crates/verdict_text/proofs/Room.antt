@@ -10,7 +10,7 @@ use lib.ListN.{length, get_or, drop, length-append, length-take}
 use lib.IntN.{ℤ, pos, negsuc}
 use lib.Dec.{eqb}
 use borrow.Author.Tests.{le-leb, lt-leb}
-use Rattle.scope.specs.declared.Answer.{Answer}
+use Rattle.scope.specs.Outcome.{Answer}
 use Rattle.scope.specs.Plan.{Plan, Place, plan_of, path_of, place_count, message_count, link_count, timeout_of}
 use Rattle.scope.specs.SecondPath.{message_index}
 use Rattle.scope.specs.Cycle.{order_of}

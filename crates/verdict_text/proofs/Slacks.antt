@@ -23,8 +23,8 @@ use Rattle.scope.specs.Questions.{may_spare, slack}
 use Rattle.scope.specs.Lines.{slack_line, slack_line_of, message_slacks, slack_lines}
 use Rattle.rows.proofs.Parts.{places_length, path_at, message-count}
 use Rattle.plan.specs.Answers.{GoodRow}
-use Rattle.spare.specs.declared.Spare.{Spare}
-use Rattle.spare.specs.declared.Spare.TheVariants.{Slots, Refused}
+use Rattle.spare.specs.Slack.{Spare}
+use Rattle.std.specs.Prelude.{Ok, Err}
 use Rattle.spare.specs.Slack.{Slacks, Between}
 use Rattle.spare.proofs.There.{has-second}
 use Rattle.spare.proofs.Bounds.{asked, answered, answer-lies}
@@ -49,10 +49,10 @@ fits (negsuc n) h = record { sfits = let l = leb→le n 1534 h.low.le in omega a
 
 -- a place by the answer
 module _ (row : List ℕ) (m p : ℕ) where
-  pub answered-line : (s : Spare) (z : ℤ) → Slacks row m p s → s ≡ Slots z → slack_at (plan_of row) m p ≡ slack_line m p (to_z w32 (of_z w32 z))
+  pub answered-line : (s : Spare) (z : ℤ) → Slacks row m p s → s ≡ Ok z → slack_at (plan_of row) m p ≡ slack_line m p (to_z w32 (of_z w32 z))
   unfolding slack
   answered-line s z given e =
-      let r : Slacks row m p (Slots z) = rw e at given in
+      let r : Slacks row m p (Ok z) = rw e at given in
       let a = answered row m p z r in
       let there = has-second row m p (asked row m p a.may).second in
       some (plan_of row) m p (place_of (plan_of row) m p) (place_of (plan_of row) m p).second there ∙
@@ -62,10 +62,10 @@ module _ (row : List ℕ) (m p : ℕ) where
   unfolding may_spare
   may g e = rw (judged row g, e)
 
-  pub no_line : (s : Spare) (x : Refusal) → GoodRow row → Slacks row m p s → s ≡ Refused x → slack_at (plan_of row) m p ≡ []
+  pub no_line : (s : Spare) (x : Refusal) → GoodRow row → Slacks row m p s → s ≡ Err x → slack_at (plan_of row) m p ≡ []
   no_line s x g given same = by (no_second (place_of (plan_of row) m p).second) refl
     where
-      r : Slacks row m p (Refused x)
+      r : Slacks row m p (Err x)
       r = rw same at given
 
       by : (t : Bool) → no_second (place_of (plan_of row) m p).second ≡ t → slack_at (plan_of row) m p ≡ []

@@ -8,8 +8,8 @@ use native.Mathlib.Omega.{arith}
 use lib.ListN.{length, take, length-append}
 use lib.Dec.{leb}
 use borrow.Author.Tests.{le-leb}
-use Rattle.scope.specs.declared.Answer.{Answer}
-use Rattle.scope.specs.declared.Answer.TheVariants.{Gives}
+use Rattle.scope.specs.Outcome.{Answer}
+use Rattle.std.specs.Prelude.{Ok}
 use Rattle.scope.specs.declared.Refusal.{Refusal}
 use Rattle.scope.specs.Outcome.{Outcome, gives, refused, outcome_of}
 use Rattle.scope.specs.File.{row_of}
@@ -98,7 +98,7 @@ module _ (large : ℕ) where
   pub prints_given : (file row entry exit : List ℕ) (n count : ℕ) → read_file file longest_row ≡ gives n → row ≡ row_of file →
       verdict_room ≤ length entry →
       Lays (VerdictLines (plan_of row) 0 (1 + highest_or large (plan_of row))) verdict_room entry exit 0 count →
-      PrintsOne (TextUpTo large file) entry exit (Gives count)
+      PrintsOne (TextUpTo large file) entry exit (Ok count)
   prints_given file row entry exit n count e is room lays =
       let p = lays-prints room lays in
       record { text = p.text; kind = text_given file row p.text n e is p.kind; prints = p.prints }

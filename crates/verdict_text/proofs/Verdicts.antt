@@ -10,7 +10,7 @@ use lib.ListN.{length, get_or, take, drop, length-drop, replicate}
 use lib.Seq.{length-take-le, take_at}
 use lib.Dec.{eqb}
 use borrow.Author.Tests.{eq-eqb, ne_eqb, eqb-true, eqb-false, not-true, le-ltb, le-leb}
-use Rattle.scope.specs.declared.Answer.{Answer}
+use Rattle.scope.specs.Outcome.{Answer}
 use Rattle.scope.specs.Outcome.{Outcome, gives}
 use Rattle.scope.specs.Plan.{Plan, plan_of}
 use Rattle.scope.specs.Cuts.{pairs, bad_pair, is_cut_list}

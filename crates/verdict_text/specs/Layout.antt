@@ -1,6 +1,6 @@
 -- How the answers are laid out in lines: by the seven numbers that `all_verdicts` gives for each l, and by message and place.
 use Rattle.std.specs.Prelude.{ℕ, zero, suc, ◌+◌, ◌-◌, ◌*◌, ◌≤◌, ◌<◌, ◌≡◌, cond, List, [], ◌++◌, length, get_or, take, drop, eqb}
-use Rattle.scope.specs.declared.Answer.{Answer}
+use Rattle.scope.specs.Outcome.{Answer}
 use Rattle.scope.specs.Plan.{Plan, place_of}
 use Rattle.scope.specs.Lines.{resistant_line, failing_line, slack_line_of, UnderK, VerdictLines}
 use Rattle.all_verdicts.specs.Answers.{seven}

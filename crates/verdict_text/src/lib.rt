@@ -8,13 +8,12 @@
 ghost use Rattle.std.specs.Prelude.{◌+◌, ◌*◌, ◌≤◌, ◌<◌, ◌^◌, ◌≡◌, length, get_or};
 ghost use Rattle.scope.specs.Plan.{plan_of, path_of, message_count};
 ghost use Rattle.scope.specs.Lines.{message_slacks, slack_lines};
-ghost use Rattle.plan.specs.Answers.{GoodRow};
 ghost use Rattle.text.specs.Text.{Puts, Told};
 ghost use Rattle.verdict_text.specs.Layout.{line_of, lines_of, slack_at, Sevens, Lays, LinesUnder};
 ghost use Rattle.verdict_text.specs.Texts.{highest_or};
 
+use plan::Good;
 use scope::limits;
-use spare::Spare;
 use verdict_lines::{failing_line, resistant_line, slack_line};
 
 // Seven numbers for each l from 0 to 32.
@@ -42,67 +41,61 @@ fn lines(out: &mut [u8], at: usize, k: usize, all: &[u16], count: usize) -> usiz
     ensures { Puts (lines_of k all.now 0 count) out.old out.new at result }
 {
     let mut next = at;
-    let mut l = 0;
-    while l < count {
+    for l in 0..count {
         let i = 7 * l;
-        let e = i + 7;
-        next = line(out, next, k, l, &all[i..e]);
-        l += 1;
+        next = line(out, next, k, l, &all[i..i + 7]);
     }
     next
 }
 
 // The lines under k for every l. Nothing is refused of a good row and such a k, so the answer is not looked at.
-pub fn lines_under(row: &[u16], k: usize, out: &mut [u8], at: usize) -> usize
-    requires { GoodRow row.now × (k ≤ 3) × (at < 2 ^ 32) }
-    ensures { Lays (LinesUnder (plan_of row.now) k) 4323 out.old out.new at result }
+pub fn lines_under(good: Good<'_>, k: usize, out: &mut [u8], at: usize) -> usize
+    requires { (k ≤ 3) × (at < 2 ^ 32) }
+    ensures { Lays (LinesUnder (plan_of good.entry.row.now) k) 4323 out.old out.new at result }
 {
+    let row = good.row;
     let mut all = [0u16; ANSWERS];
-    all_verdicts::answers_good(row, k, &mut all);
+    let _ = all_verdicts::answers_good(good, k, &mut all);
     lines(out, at, k, &all, rows::messages(row) + 1)
 }
 
 // The slack line of a place, if it has a second path.
-fn place_slack(row: &[u16], m: usize, p: usize, out: &mut [u8], at: usize) -> usize
-    requires { GoodRow row.now × Told at (slack_at (plan_of row.now) m p) }
-    ensures { Puts (slack_at (plan_of row.now) m p) out.old out.new at result }
+fn place_slack(good: Good<'_>, m: usize, p: usize, out: &mut [u8], at: usize) -> usize
+    requires { Told at (slack_at (plan_of good.row.now) m p) }
+    ensures { Puts (slack_at (plan_of good.entry.row.now) m p) out.old out.new at result }
 {
-    let spare = spare::slack_of_good(row, m, p);
-    match spare {
-        Spare::Slots(slots) => slack_line(out, at, m, p, slots),
-        Spare::Refused(_) => at,
+    match spare::slack_of_good(good, m, p) {
+        Ok(slots) => slack_line(out, at, m, p, slots),
+        Err(_) => at,
     }
 }
 
 // Those of a message.
-fn message_slacks(row: &[u16], m: usize, out: &mut [u8], at: usize) -> usize
-    requires { GoodRow row.now × (m < message_count row.now) ×
-        Told at (message_slacks (plan_of row.now) m 0 (path_of (plan_of row.now) m)) }
-    ensures { Puts (message_slacks (plan_of row.now) m 0 (path_of (plan_of row.now) m)) out.old
+fn message_slacks(good: Good<'_>, m: usize, out: &mut [u8], at: usize) -> usize
+    requires { (m < message_count good.row.now) ×
+        Told at (message_slacks (plan_of good.row.now) m 0 (path_of (plan_of good.row.now) m)) }
+    ensures { Puts (message_slacks (plan_of good.entry.row.now) m 0 (path_of (plan_of good.entry.row.now) m)) out.old
         out.new at result }
 {
+    let row = good.row;
     let count = rows::place_count(row, rows::message_index(row, m));
     let mut next = at;
-    let mut p: usize = 0;
-    while p < count {
-        next = place_slack(row, m, p, out, next);
-        p += 1;
+    for p in 0..count {
+        next = place_slack(good, m, p, out, next);
     }
     next
 }
 
 // Those of all messages.
-pub fn slack_lines(row: &[u16], out: &mut [u8], at: usize) -> usize
-    requires { GoodRow row.now × (at < 2 ^ 32) }
-    ensures { Puts (slack_lines (plan_of row.now) 0 (plan_of row.now).messages) out.old
+pub fn slack_lines(good: Good<'_>, out: &mut [u8], at: usize) -> usize
+    requires { at < 2 ^ 32 }
+    ensures { Puts (slack_lines (plan_of good.entry.row.now) 0 (plan_of good.entry.row.now).messages) out.old
         out.new at result }
 {
-    let count = rows::messages(row);
+    let count = rows::messages(good.row);
     let mut next = at;
-    let mut m: usize = 0;
-    while m < count {
-        next = message_slacks(row, m, out, next);
-        m += 1;
+    for m in 0..count {
+        next = message_slacks(good, m, out, next);
     }
     next
 }

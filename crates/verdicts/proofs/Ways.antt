@@ -1,12 +1,8 @@
 -- The verdict: one law for each answer, and that a row, k, l and a list allow one outcome.
-use Prim.Native.Nat.{ℕ, ◌*◌, ◌≤◌, ◌<◌}
-use native.Mathlib.Omega.{arith}
-use mathlib.Core.Path.{◌≡◌, refl, sym, ◌∙◌, ap, ap₂}
-use mathlib.Core.Bool.{true, false, or-true}
-use mathlib.Core.List.{List, ◌++◌}
-use lib.ListN.{length, take, drop, take-append-drop}
+use Rattle.std.proofs.Common.{◌≡◌, refl, sym, ◌∙◌, ap, ap₂, ℕ, ◌*◌, ◌≤◌, ◌<◌, None, List, ◌++◌, length, take, drop, ltb, arith}
+use mathlib.Core.Bool.{or-true}
+use lib.ListN.{take-append-drop}
 use lib.Seq.{length-take-le, take_at, drop_at}
-use lib.Dec.{ltb}
 use borrow.Author.Tests.{lt-ltb, le-ltb, le-leb, lt-leb}
 use Rattle.scope.specs.declared.Refusal.{Refusal}
 use Rattle.scope.proofs.Outcomes.{not-both}
@@ -19,11 +15,11 @@ use Rattle.scope.proofs.Order.{first_once_lem, resistant_or_failing}
 use Rattle.rows.proofs.Parts.{message-count}
 use Rattle.plan.specs.Answers.{GoodRow}
 use Rattle.plan.proofs.Theorems.{judged}
-use Rattle.search.specs.declared.Hunted.{Hunted}
-use Rattle.search.specs.Hunt.{Hunts}
+use Rattle.search.specs.declared.Found.{Found}
+use Rattle.search.specs.Hunt.{list_of, Hunted, Hunts}
 use Rattle.search.proofs.Answer.{all-leave}
-use Rattle.verdicts.specs.declared.Ruling.{Ruling}
-use Rattle.verdicts.specs.declared.Ruling.TheVariants.{Resistant, Failing, Refused}
+use Rattle.verdicts.specs.Verdict.{Ruling}
+use Rattle.std.specs.Prelude.{Some, None, Ok, Err}
 use Rattle.verdicts.specs.Verdict.{MayAsk, IsResistant, IsFailing, IsRefused, Answered}
 
 -- refusals 1 to 10 and 14 to 19
@@ -78,27 +74,23 @@ module _ (row : List ℕ) (k l : ℕ) (entry : List ℕ) (g : GoodRow row) where
             (length entry) room,
       )
 
-      module _ (h : Hunted) (f : Hunts row l k h) where
-        pub resists : h.found ≡ false → IsResistant row k l entry entry
-        resists t = record { may = may; resistant = all-leave (plan_of row) k l (f.none t).1; buffer = refl }
+      pub resists : Hunts row l k None → IsResistant row k l entry entry
+      resists none = record { may = may; resistant = all-leave (plan_of row) k l none; buffer = refl }
 
-        pub front : length (take (2 * h.pairs) h.numbers) ≡ 2 * h.pairs
-        front = length-take-le (2 * h.pairs) h.numbers (omega (arith, f.long, f.few))
+      module _ (f : Found) (h : Hunted row l k f) where
+        pub front : length (list_of f) ≡ 2 * f.pairs
+        front = length-take-le (2 * f.pairs) f.numbers (omega (arith, h.told.long, h.few))
 
-        pub fails : (exit : List ℕ) → h.found ≡ true →
-            exit ≡ take (2 * h.pairs) h.numbers ++ drop (length (take (2 * h.pairs) h.numbers)) entry →
-            IsFailing row k l entry exit h.pairs
-        fails exit t is =
-            let list : take (2 * h.pairs) exit ≡ take (2 * h.pairs) h.numbers =
-            ap (take (2 * h.pairs)) is ∙ take_at (take (2 * h.pairs) h.numbers)
-            (drop (length (take (2 * h.pairs) h.numbers)) entry) (2 * h.pairs) front in
+        pub fails : (exit : List ℕ) → exit ≡ list_of f ++ drop (length (list_of f)) entry → IsFailing row k l entry exit f.pairs
+        fails exit is =
+            let list : take (2 * f.pairs) exit ≡ list_of f =
+            ap (take (2 * f.pairs)) is ∙ take_at (list_of f) (drop (length (list_of f)) entry) (2 * f.pairs) front in
             record {
               may = may;
-              list = rw list (f.some t);
+              list = rw list h.first;
               count = rw list (omega (arith, front));
               rest =
-                  ap (drop (2 * h.pairs)) is ∙
-                  drop_at (take (2 * h.pairs) h.numbers) (drop (length (take (2 * h.pairs) h.numbers)) entry) (2 * h.pairs) front ∙
+                  ap (drop (2 * f.pairs)) is ∙ drop_at (list_of f) (drop (length (list_of f)) entry) (2 * f.pairs) front ∙
                   ap (λ (n : ℕ). drop n entry) front;
             }
 
@@ -115,14 +107,14 @@ module _ (row : List ℕ) (k l : ℕ) (entry exit exit' : List ℕ) where
       )
 
   pub one_outcome : (v w : Ruling) → Answered row k l entry exit v → Answered row k l entry exit' w → (v ≡ w) × (exit ≡ exit')
-  one_outcome Resistant Resistant a b = (refl, a.buffer ∙ sym b.buffer)
-  one_outcome Resistant (Failing m) a b = absurd (resistant_or_failing (plan_of row) k l (take (2 * m) exit') a.resistant b.list)
-  one_outcome Resistant (Refused s) a b = not-both (sym b.may ∙ a.may)
-  one_outcome (Failing n) Resistant a b = absurd (resistant_or_failing (plan_of row) k l (take (2 * n) exit) b.resistant a.list)
-  one_outcome (Failing n) (Failing m) a b = let two = failing_once n m a b in (ap Failing two.0, two.1)
-  one_outcome (Failing n) (Refused s) a b = not-both (sym b.may ∙ a.may)
-  one_outcome (Refused r) Resistant a b = not-both (sym a.may ∙ b.may)
-  one_outcome (Refused r) (Failing m) a b = not-both (sym a.may ∙ b.may)
-  one_outcome (Refused r) (Refused s) a b =
+  one_outcome (Ok None) (Ok None) a b = (refl, a.buffer ∙ sym b.buffer)
+  one_outcome (Ok None) (Ok (Some m)) a b = absurd (resistant_or_failing (plan_of row) k l (take (2 * m) exit') a.resistant b.list)
+  one_outcome (Ok None) (Err s) a b = not-both (sym b.may ∙ a.may)
+  one_outcome (Ok (Some n)) (Ok None) a b = absurd (resistant_or_failing (plan_of row) k l (take (2 * n) exit) b.resistant a.list)
+  one_outcome (Ok (Some n)) (Ok (Some m)) a b = let two = failing_once n m a b in (ap (λ i. Ok (Some i)) two.0, two.1)
+  one_outcome (Ok (Some n)) (Err s) a b = not-both (sym b.may ∙ a.may)
+  one_outcome (Err r) (Ok None) a b = not-both (sym a.may ∙ b.may)
+  one_outcome (Err r) (Ok (Some m)) a b = not-both (sym a.may ∙ b.may)
+  one_outcome (Err r) (Err s) a b =
       let same : r ≡ s = cc (a.may, b.may) in
-      (ap Refused same, a.buffer ∙ sym b.buffer)
+      (ap Err same, a.buffer ∙ sym b.buffer)

@@ -1,5 +1,5 @@
 -- The promise of the verdict: its answer, and what the lent list holds after it, follow from what goes in.
-use Rattle.std.specs.Prelude.{ℕ, ◌*◌, ◌≤◌, ◌≡◌, List, length, take, drop}
+use Rattle.std.specs.Prelude.{ℕ, ◌*◌, ◌≤◌, ◌≡◌, List, length, take, drop, Option, Some, None, Result, Ok, Err}
 use Rattle.scope.specs.declared.Refusal.{Refusal}
 use Rattle.scope.specs.Outcome.{gives, refused}
 use Rattle.scope.specs.Plan.{plan_of}
@@ -7,8 +7,10 @@ use Rattle.scope.specs.Cuts.{pairs}
 use Rattle.scope.specs.Verdict.{FirstFailing, Resistant as AlwaysLeaves}
 use Rattle.scope.specs.Questions.{may_judge}
 use Rattle.plan.specs.Answers.{GoodRow}
-use Rattle.verdicts.specs.declared.Ruling.{Ruling}
-use Rattle.verdicts.specs.declared.Ruling.TheVariants.{Resistant, Failing, Refused}
+
+-- a verdict: none where the plan is resistant, or how many pairs the first failing list has; or the refusal
+abbrev pub Ruling : Type 0
+Ruling = Result (Option ℕ) Refusal
 
 -- "a resistant verdict writes nothing"
 pub record IsResistant (row : List ℕ) (k l : ℕ) (entry exit : List ℕ) : Type 0 where
@@ -30,9 +32,9 @@ pub record IsRefused (row : List ℕ) (k l : ℕ) (entry exit : List ℕ) (r : R
 
 -- what each case of the answer says
 abbrev pub Answered : List ℕ → ℕ → ℕ → List ℕ → List ℕ → Ruling → Type 0
-Answered row k l entry exit Resistant = IsResistant row k l entry exit
-Answered row k l entry exit (Failing n) = IsFailing row k l entry exit n
-Answered row k l entry exit (Refused r) = IsRefused row k l entry exit r
+Answered row k l entry exit (Ok None) = IsResistant row k l entry exit
+Answered row k l entry exit (Ok (Some n)) = IsFailing row k l entry exit n
+Answered row k l entry exit (Err r) = IsRefused row k l entry exit r
 
 -- a good row, and k and l without refusal 11
 pub record MayAsk (row : List ℕ) (k l : ℕ) : Type 0 where

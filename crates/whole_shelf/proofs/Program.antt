@@ -4,8 +4,8 @@ use native.Mathlib.Omega.{arith}
 use mathlib.Core.Path.{◌≡◌, refl, sym, ◌∙◌, ap, subst}
 use mathlib.Core.List.{List, []}
 use lib.ListN.{length, take, length-map}
-use Rattle.scope.specs.declared.Answer.{Answer}
-use Rattle.scope.specs.declared.Answer.TheVariants.{Gives, Refused}
+use Rattle.scope.specs.Outcome.{Answer}
+use Rattle.std.specs.Prelude.{Ok, Err}
 use Rattle.scope.specs.declared.Refusal.{Refusal}
 use Rattle.scope.specs.Limits.{names_room}
 use Rattle.scope.specs.Outcome.{outcome_of, gives, refused}
@@ -39,7 +39,7 @@ module _ (buffer : List ℕ) (n : ℕ) (entry exit : List ℕ) (long : length bu
   decides whole f = front_decides buffer n whole long f
 
   -- a line is refused
-  pub shown-refused : (a : Answer) (x : Refusal) → outcome_of a ≡ check_names (names_of (take n buffer)) → a ≡ Refused x → (r : Answer) →
+  pub shown-refused : (a : Answer) (x : Refusal) → outcome_of a ≡ check_names (names_of (take n buffer)) → a ≡ Err x → (r : Answer) →
       Prints (refused_line x) entry exit r → (whole : List ℕ) → Front buffer n whole → Shown whole entry exit r
   shown-refused a x told is r line whole f =
       let all : Printed (refused_line x) entry exit r = printed (refused_line x) entry (omega (arith, refused-size x)) line in
@@ -53,14 +53,14 @@ module _ (buffer : List ℕ) (n : ℕ) (entry exit : List ℕ) (long : length bu
       }
 
   -- the sheet
-  module _ (a : Answer) (count : ℕ) (told : outcome_of a ≡ check_names (names_of (take n buffer))) (is : a ≡ Gives count) where
+  module _ (a : Answer) (count : ℕ) (told : outcome_of a ≡ check_names (names_of (take n buffer))) (is : a ≡ Ok count) where
     given : check_names (names_of (take n buffer)) ≡ gives count
     given = gave count is told
 
     pub may_read : MayRead (take n buffer) count
     may_read = record { checked = given }
 
-    pub shown-sheet : (r : ℕ) → Sheets (take n buffer) entry exit r → (whole : List ℕ) → Front buffer n whole → Shown whole entry exit (Gives r)
+    pub shown-sheet : (r : ℕ) → Sheets (take n buffer) entry exit r → (whole : List ℕ) → Front buffer n whole → Shown whole entry exit (Ok r)
     shown-sheet r sheets whole f =
         let same : take n buffer ≡ whole = (decides whole f).all count given in
         let here : Sheets whole entry exit r = subst (λ (input : List ℕ). Sheets input entry exit r) same sheets in
@@ -72,7 +72,7 @@ module _ (buffer : List ℕ) (n : ℕ) (entry exit : List ℕ) (long : length bu
         omega (arith, are.few, ap length here.names, length-map here.read (λ (s : Shelved). s.name)) in
         let size = sheet-size here.read few short in
         let end : r ≡ length (sheet here.read) = omega (arith, here.puts.ends) in
-        let laid : Printed (sheet here.read) entry exit (Gives r) =
+        let laid : Printed (sheet here.read) entry exit (Ok r) =
         record { answer = ap gives end; buffer = here.puts.buffer ∙ laid-front entry (sheet here.read) (omega (arith, size, room)) } in
         record {
           read = here.read;
@@ -80,6 +80,6 @@ module _ (buffer : List ℕ) (n : ℕ) (entry exit : List ℕ) (long : length bu
           unread = λ x h. not-both (sym h ∙ e);
           names = λ c h. here.names;
           printed = λ shelf h.
-              subst (λ (text : List ℕ). Printed text entry exit (Gives r))
+              subst (λ (text : List ℕ). Printed text entry exit (Ok r))
               (ap sheet h ∙ same-sheet shelf ∙ sym (text_given whole shelf count e)) laid;
         }

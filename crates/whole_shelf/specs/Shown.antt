@@ -1,6 +1,6 @@
 -- What the program shows, for the names and the plan files that it has read.
 use Rattle.std.specs.Prelude.{ℕ, ◌≡◌, List, [], ◌∷◌, ◌++◌, length, take}
-use Rattle.scope.specs.declared.Answer.{Answer}
+use Rattle.scope.specs.Outcome.{Answer}
 use Rattle.scope.specs.declared.Refusal.{Refusal}
 use Rattle.scope.specs.Limits.{plan_room}
 use Rattle.scope.specs.Outcome.{gives, refused}

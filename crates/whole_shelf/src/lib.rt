@@ -13,7 +13,7 @@ ghost use Rattle.shelf_text.specs.Lines.{MayLay};
 ghost use Rattle.shelf_text.specs.Room.{sheet_room};
 ghost use Rattle.whole_shelf.specs.Shown.{ReadAndLaid, MayRead, Sheets, Shown};
 
-use scope::{Answer, limits};
+use scope::{Refusal, limits};
 use sheet_lines::Tally;
 use shelf_text::Laid;
 
@@ -28,7 +28,7 @@ fn shelve(rt: &HostRuntime, name: &[u8], t: Tally, out: &mut [u8], at: usize) ->
 }
 
 // On standard error, how many plans are done, once in each second that the clock shows; the second when it was last said.
-fn progress(rt: &HostRuntime, done: usize, count: usize, last: i64) -> i64 {
+fn progress(rt: &HostRuntime, done: usize, count: usize, last: Option<u64>) -> Option<u64> {
     let now = program_io::seconds(rt);
     if now == last {
         return last;
@@ -51,8 +51,7 @@ fn sheet(rt: &HostRuntime, input: &[u8], count: usize, out: &mut [u8]) -> usize
     while from < input.len() {
         let end = names::name_end(input, from);
         let laid = shelve(rt, &input[from..end], tally, out, next);
-        let sums = laid.tally;
-        tally = sums;
+        tally = laid.tally;
         next = laid.next;
         from = end + 1;
         done += 1;
@@ -63,13 +62,12 @@ fn sheet(rt: &HostRuntime, input: &[u8], count: usize, out: &mut [u8]) -> usize
 
 // What is printed for what was read, the first n bytes of a buffer: the text for all of standard input, however long it is, and for the plan
 // files that it names.
-pub fn text(rt: &HostRuntime, input: &[u8], n: usize, out: &mut [u8]) -> Answer
+pub fn text(rt: &HostRuntime, input: &[u8], n: usize, out: &mut [u8]) -> Result<usize, Refusal>
     requires { Came standard_input n input.now × (length input.now ≡ names_room) × (length out.old ≡ sheet_room) }
     ensures { (whole : List ℕ) → Front input.now n whole → Shown whole out.old out.new result }
 {
-    let checked = names::check_names(&input[..n]);
-    match checked {
-        Answer::Gives(count) => Answer::Gives(sheet(rt, &input[..n], count, out)),
-        Answer::Refused(refusal) => listing::refusal_text(refusal, out),
+    match names::check_names(&input[..n]) {
+        Ok(count) => Ok(sheet(rt, &input[..n], count, out)),
+        Err(refusal) => listing::refusal_text(refusal, out),
     }
 }

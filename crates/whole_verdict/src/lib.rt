@@ -8,17 +8,17 @@ ghost use Rattle.std.specs.Prelude.{◌≡◌, ℕ, ◌+◌, ◌≤◌, List, le
 ghost use Rattle.scope.specs.Plan.{plan_of};
 ghost use Rattle.scope.specs.Lines.{VerdictLines};
 ghost use Rattle.scope.specs.Limits.{plan_room};
-ghost use Rattle.plan.specs.Answers.{GoodRow};
 ghost use Rattle.verdict_text.specs.Layout.{Lays, LaidUntil, PrintsOne, verdict_room};
 ghost use Rattle.verdict_text.specs.Texts.{highest_or, TextUpTo};
 ghost use Rattle.listing.specs.Prints.{Front, PrintedOne};
 ghost use Rattle.program_io.specs.Came.{Came, plan_file};
 
-use scope::{Answer, limits};
+use plan::Good;
+use scope::{Refusal, limits};
 
 // On standard error, how far it is, once the clock shows another second than at the start; and always before what may take minutes, which is
 // k 3 where E × t is above 64.
-fn progress(rt: &HostRuntime, name: &[u8], row: &[u16], k: usize, start: i64) {
+fn progress(rt: &HostRuntime, name: &[u8], row: &[u16], k: usize, start: Option<u64>) {
     let large = k == 3 && verdict_text::highest(row, 1) == 1;
     if large || program_io::seconds(rt) != start {
         program_io::say(rt, name, b": trying lists of up to ", k as u64, b" cuts\n");
@@ -26,48 +26,60 @@ fn progress(rt: &HostRuntime, name: &[u8], row: &[u16], k: usize, start: i64) {
 }
 
 // The lines under each k below n.
-fn table(rt: &HostRuntime, name: &[u8], row: &[u16], n: usize, start: i64, out: &mut [u8]) -> usize
-    requires { GoodRow row.now × (n ≤ 4) }
-    ensures { LaidUntil (plan_of row.now) n n out.old out.new result }
+fn table(
+    rt: &HostRuntime,
+    name: &[u8],
+    good: Good<'_>,
+    n: usize,
+    start: Option<u64>,
+    out: &mut [u8],
+) -> usize
+    requires { n ≤ 4 }
+    ensures { LaidUntil (plan_of good.entry.row.now) n n out.old out.new result }
 {
+    let row = good.row;
     let mut next = 0;
-    let mut k = 0;
-    while k < n {
+    for k in 0..n {
         progress(rt, name, row, k, start);
-        next = verdict_text::lines_under(row, k, out, next);
-        k += 1;
+        next = verdict_text::lines_under(good, k, out, next);
     }
     next
 }
 
 // All lines of a good row.
-fn all_lines(rt: &HostRuntime, name: &[u8], large: usize, row: &[u16], out: &mut [u8]) -> usize
-    requires { GoodRow row.now × (large ≤ 3) }
-    ensures { Lays (VerdictLines (plan_of row.now) 0 (1 + highest_or large (plan_of row.now))) verdict_room
+fn all_lines(rt: &HostRuntime, name: &[u8], large: usize, good: Good<'_>, out: &mut [u8]) -> usize
+    requires { large ≤ 3 }
+    ensures { Lays (VerdictLines (plan_of good.entry.row.now) 0 (1 + highest_or large (plan_of good.entry.row.now))) verdict_room
         out.old out.new 0 result }
 {
+    let row = good.row;
     let start = program_io::seconds(rt);
     let next = table(
         rt,
         name,
-        row,
+        good,
         1 + verdict_text::highest(row, large),
         start,
         out,
     );
-    verdict_text::slack_lines(row, out, next)
+    verdict_text::slack_lines(good, out, next)
 }
 
 // What is printed for a plan file, into as many bytes as every text has room in: how many there are.
-fn whole_text(rt: &HostRuntime, name: &[u8], large: usize, file: &[u8], out: &mut [u8]) -> Answer
+fn whole_text(
+    rt: &HostRuntime,
+    name: &[u8],
+    large: usize,
+    file: &[u8],
+    out: &mut [u8],
+) -> Result<usize, Refusal>
     requires { (large ≤ 3) × (verdict_room ≤ length out.old) }
     ensures { PrintsOne (TextUpTo large file.now) out.old out.new result }
 {
     let mut row = [0u16; limits::ROW];
-    let read = plan::read_file(file, &mut row);
-    match read {
-        Answer::Gives(n) => Answer::Gives(all_lines(rt, name, large, &row[..n], out)),
-        Answer::Refused(refusal) => listing::refusal_text(refusal, out),
+    match plan::read_good(file, &mut row) {
+        Ok(good) => Ok(all_lines(rt, name, large, good, out)),
+        Err(refusal) => listing::refusal_text(refusal, out),
     }
 }
 
@@ -79,7 +91,7 @@ pub fn text(
     plan: &[u8],
     p: usize,
     out: &mut [u8],
-) -> Answer
+) -> Result<usize, Refusal>
     requires { (large ≤ 3) × Came plan_file p plan.now × (length plan.now ≡ plan_room) × (length out.old ≡ verdict_room) }
     ensures { (file : List ℕ) → Front plan.now p file → PrintedOne (TextUpTo large file) out.old
         out.new result }

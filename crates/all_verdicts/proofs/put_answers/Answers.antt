@@ -23,12 +23,6 @@ put_answer-requires c =
     room-left c.loop-l.out (7 * c.loop-l.l) 7
     (omega (arith, c.loop-l-test.true, c.requires.2, c.loop-l.invariant.same))
 
-pub overflow_add-l : goal.overflow_add-l
-overflow_add-l c = omega (arith, c.loop-l-test.true, c.requires.1)
-
-pub loop-l-smaller : goal.loop-l-smaller
-loop-l-smaller c = omega (arith, c.loop-l-test.true)
-
 pub loop-l-preserved : goal.loop-l-preserved
 loop-l-preserved c =
     putting_more _ _ _ _ _ _ _ c.loop-l.invariant _ _

@@ -1,9 +1,5 @@
-use Prim.Native.Nat.{◌-◌}
 use Rattle.all_verdicts.proofs.Putting.{Putting}
 use Rattle.all_verdicts.proofs.put_answers.Given as goal
 
 abbrev pub invariant-loop-l : goal.invariant-loop-l
 invariant-loop-l l = Putting l.from l.to l.head l.numbers l.initial.out l.l l.out
-
-abbrev pub decreases-loop-l : goal.decreases-loop-l
-decreases-loop-l l = l.to - l.l

@@ -1,9 +1,6 @@
--- `bench::ask_all` is safe and ends. Assumes nothing.
-use Rattle.std.proofs.Common.{length, ◌-◌, ◌≤◌, ◌<◌, ◌≡◌}
+-- `bench::ask_all` is safe. Assumes nothing.
+use Rattle.std.proofs.Common.{◌<◌}
 use Rattle.bench.proofs.ask_all.Given as goal
 
-abbrev pub invariant-loop-i : goal.invariant-loop-i
-invariant-loop-i l = (l.i ≤ l.turns) × (l.sum < 65536) × (l.n ≤ length l.row) × (length l.row ≡ length l.fn.row)
-
-abbrev pub decreases-loop-i : goal.decreases-loop-i
-decreases-loop-i l = l.turns - l.i
+abbrev pub invariant-loop-turn : goal.invariant-loop-turn
+invariant-loop-turn l = l.sum < 65536

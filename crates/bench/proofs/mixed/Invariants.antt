@@ -1,9 +1,6 @@
--- `bench::mixed` is safe and ends. Assumes nothing.
-use Rattle.std.proofs.Common.{length, ◌-◌, ◌≤◌, ◌<◌}
+-- `bench::mixed` is safe. Assumes nothing.
+use Rattle.std.proofs.Common.{◌<◌}
 use Rattle.bench.proofs.mixed.Given as goal
 
-abbrev pub invariant-loop-i : goal.invariant-loop-i
-invariant-loop-i l = (l.i ≤ length l.numbers) × (l.all < 1000003)
-
-abbrev pub decreases-loop-i : goal.decreases-loop-i
-decreases-loop-i l = length l.numbers - l.i
+abbrev pub invariant-loop-n : goal.invariant-loop-n
+invariant-loop-n l = l.all < 1000003

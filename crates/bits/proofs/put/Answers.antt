@@ -1,5 +1,6 @@
 -- `bits::put` meets its contract: the three stores write the bytes of the number that has the value in its field. Assumes nothing.
 use Prim.Native.Nat.{ℕ, ◌-◌, ◌/◌, ◌%◌}
+use borrow.Author.Rules.{rules}
 use mathlib.Core.Path.{◌∙◌, ap}
 use native.Mathlib.Numerals.{add-one, add-two}
 use Rattle.bits.specs.Word.{mixed}
@@ -23,6 +24,4 @@ returns c =
       add-one i,
     )
     (write_law s a.at a.width c.requires.0
-    (λ j.
-    (c.slice_known-1.given
-    j).fits) a.value n c.requires.1 new)
+    (λ j. search rules) a.value n c.requires.1 new)

@@ -1,10 +1,6 @@
-use Prim.Native.Nat.{◌-◌}
-use Rattle.scope.specs.Limits.{most_links}
+use Rattle.std.proofs.Common.{length}
 use Rattle.bound.specs.Fronts.{Bucketed}
 use Rattle.bound.proofs.bucket.Given as goal
 
-abbrev pub invariant-loop-e : goal.invariant-loop-e
-invariant-loop-e l = Bucketed l.touches l.strips l.e l.row
-
-abbrev pub decreases-loop-e : goal.decreases-loop-e
-decreases-loop-e l = most_links - l.e
+abbrev pub invariant-loop-touched : goal.invariant-loop-touched
+invariant-loop-touched l = Bucketed l.touches l.strips (length l.yielded) l.row

@@ -3,6 +3,3 @@ use Rattle.bound.proofs.gather.Given as goal
 
 abbrev pub invariant-loop-k : goal.invariant-loop-k
 invariant-loop-k l = Gathering l.table l.slots l.initial.sets l.sets l.k
-
-abbrev pub decreases-loop-k : goal.decreases-loop-k
-decreases-loop-k l = l.k

@@ -3,6 +3,3 @@ use Rattle.bound.proofs.run_down.Given as goal
 
 abbrev pub invariant-loop-x : goal.invariant-loop-x
 invariant-loop-x l = Running l.initial.row l.row l.top l.x
-
-abbrev pub decreases-loop-x : goal.decreases-loop-x
-decreases-loop-x l = l.x

@@ -1,10 +1,7 @@
-use Prim.Native.Nat.{◌-◌}
-use Rattle.scope.specs.Limits.{most_messages}
-use Rattle.bound.proofs.Gathering.{ThroughBelow}
+use Rattle.std.proofs.Common.{◌≡◌, ℕ, ◌<◌, true}
+use Rattle.sets.specs.Sets.{has}
+use Rattle.bound.specs.Seconds.{second_in}
 use Rattle.bound.proofs.through.Given as goal
 
 abbrev pub invariant-loop-m : goal.invariant-loop-m
-invariant-loop-m l = ThroughBelow l.seconds l.e l.set l.m
-
-abbrev pub decreases-loop-m : goal.decreases-loop-m
-decreases-loop-m l = most_messages - l.m
+invariant-loop-m l = (j : ℕ) → j < l.m → 0 < second_in l.seconds l.e j → has l.set j ≡ true

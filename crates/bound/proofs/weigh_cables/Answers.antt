@@ -1,4 +1,4 @@
--- `bound::weigh_cables` meets its contract: first each link's own weight, then those of the other ways. Assumes nothing.
+-- `bound::weigh_cables` meets its contract: first each link's own weight, then those of the other ways.
 use Rattle.bound.proofs.Others.{may_add_others, weighs_cables}
 use Rattle.bound.proofs.weigh_cables.Goals as goal
 

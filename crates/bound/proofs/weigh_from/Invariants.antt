@@ -3,6 +3,3 @@ use Rattle.bound.proofs.weigh_from.Given as goal
 
 abbrev pub invariant-loop-k : goal.invariant-loop-k
 invariant-loop-k l = Weighing l.table l.links l.slots l.weights l.k
-
-abbrev pub decreases-loop-k : goal.decreases-loop-k
-decreases-loop-k l = l.k

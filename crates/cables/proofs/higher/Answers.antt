@@ -1,25 +1,8 @@
-use mathlib.Core.Path.{sym, ◌∙◌}
-use Rattle.cables.proofs.Bytes.{marking_first, marking_put, marking_next, marking_done}
+use Rattle.std.proofs.Common.{cond, ltb, rules}
+use Rattle.cables.specs.Others.{other_in, higher_of}
+use Rattle.cables.proofs.Made.{from_fn_pure}
 use Rattle.cables.proofs.higher.Goals as goal
-use Rattle.cables.proofs.higher.Goals.{then-is_higher, else-is_higher}
-
-pub loop-e-init : goal.loop-e-init
-loop-e-init c = marking_first c.args.others.now
-
-pub bounds-those-e : goal.bounds-those-e
-bounds-those-e c = c.loop-e-test.true
-
-pub loop-e-preserved : goal.loop-e-preserved
-loop-e-preserved c =
-    let l = c.loop-e in
-    let others = c.args.others.now in
-    let is = c.is_higher.ensures in
-    elim c.if-is_higher.branch [
-      | then-is_higher w ↦ rw w.those-is (marking_put others l.e l.those c.loop-e-test.true l.invariant (sym is ∙ w.if-is_higher.true))
-      | else-is_higher w ↦ rw w.those-is (marking_next others l.e l.those c.loop-e-test.true l.invariant (sym is ∙ w.if-is_higher.false))
-    ]
 
 pub returns : goal.returns
-returns c =
-    let l = c.loop-e in
-    marking_done c.args.others.now l.e l.those c.loop-e-test.false l.invariant
+unfolding higher_of
+returns c = from_fn_pure _ (λ e. cond (ltb (other_in c.args.others.now e) e) 1 0) _ (λ i y q k. search rules) _ _ c.from_fn.ensures.items

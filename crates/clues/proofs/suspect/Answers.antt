@@ -1,8 +1,7 @@
 -- `clues::suspect` meets its contract: each turn plays one slot more, or cuts one more link that a slot names.
 use native.Mathlib.Omega.{arith}
 use mathlib.Core.Path.{refl, sym}
-use mathlib.Core.Bool.{true≢false}
-use Rattle.clues.proofs.Suspecting.{suspects_none_yet, may_look, suspects_on, suspects_dead, link-small, suspects_none, suspects_more, suspects_over, suspects_fewer, suspects_only, suspects_given_up}
+use Rattle.clues.proofs.Suspecting.{suspects_none_yet, may_look, suspects_on, suspects_dead, link-small, suspects_none, suspects_more, suspects_over, suspects_fewer, suspects_only}
 use Rattle.clues.proofs.suspect.Goals as goal
 
 pub loop-i-init : goal.loop-i-init
@@ -13,8 +12,8 @@ slice_bounds-look-end c =
     let may = c.requires in
     sym (c.loop-i.invariant.of _ may refl refl).size
 
-pub look-seen-requires : goal.look-seen-requires
-look-seen-requires c =
+pub look-requires : goal.look-requires
+look-requires c =
     let may = c.requires in
     let inv = c.loop-i.invariant.of _ may refl refl in
     may_look _ _ _ _ _ _ may _ _ _ _ inv c.loop-i-test.true
@@ -25,7 +24,7 @@ loop-i-preserved-in-Nothing c =
     record {
       of = λ p m d s.
           suspects_on _ _ _ _ _ p m _ _ _ _ (inv.of p m d s) c.loop-i-test.true _
-          c.look-seen.ensures c.in-Nothing.is;
+          c.look.ensures _ c.in-Nothing.is;
       few = inv.few;
     }
 
@@ -33,11 +32,10 @@ pub returns-then-named-n : goal.returns-then-named-n
 returns-then-named-n c =
     let may = c.requires in
     let inv = c.loop-i.invariant.of _ may refl refl in
-    suspects_given_up _ _ _ _ _ c.given_up.ensures
-    (λ j few.
+    λ j few.
     suspects_none _ _ _ _ _ _ may _ _ _ _ inv c.loop-i-test.true _
-    c.look-seen.ensures _ c.in-Link.is j
-    (omega (arith, c.if-named-n.true)))
+    c.look.ensures _ c.in-Link.is j
+    (omega (arith, c.if-named-n.true))
 
 pub slice_bounds-other-end : goal.slice_bounds-other-end
 slice_bounds-other-end c =
@@ -50,7 +48,7 @@ bounds-down-x c =
     c.requires in
     let inv = c.loop-i.invariant.of _ may refl refl in
     link-small _ _ _ _ _ _ may _ _ _ _ inv c.loop-i-test.true _
-    c.look-seen.ensures _ c.in-Link.is
+    c.look.ensures _ c.in-Link.is
 
 pub bounds-down-other : goal.bounds-down-other
 bounds-down-other c =
@@ -66,7 +64,7 @@ loop-i-preserved c =
       of = λ p m d s.
           suspects_more _ _ _ _ _ p m _ _ _ _ (inv.of p m d s)
           c.loop-i-test.true _
-          c.look-seen.ensures _ c.in-Link.is _
+          c.look.ensures _ c.in-Link.is _
           c.other-other.ensures;
       few = omega (arith, inv.few, c.if-named-n.false);
     }
@@ -75,10 +73,8 @@ pub returns-in-Dead : goal.returns-in-Dead
 returns-in-Dead c =
     let may = c.requires in
     let inv = c.loop-i.invariant.of _ may refl refl in
-    suspects_given_up _ _ _ _ _ c.given_up-in-Dead.ensures
-    (λ j few.
     suspects_dead _ _ _ _ _ _ may _ _ _ _ inv c.loop-i-test.true _
-    c.look-seen.ensures c.in-Dead.is j)
+    c.look.ensures c.in-Dead.is c.args.n
 
 pub returns : goal.returns
 returns c =
@@ -86,9 +82,8 @@ returns c =
     let loop = c.loop-i.invariant in
     let inv = loop.of _ may refl refl in
     record {
-      none = λ t. absurd (true≢false (sym t));
-      few = λ f. loop.few;
-      fewer = λ f. suspects_fewer _ _ _ _ _ _ may _ _ _ _ inv;
-      whole = λ f. suspects_over _ _ _ _ _ _ may _ _ _ _ inv c.loop-i-test.false;
-      only = λ f. suspects_only _ _ _ _ _ _ may _ _ _ _ inv;
+      few = loop.few;
+      fewer = suspects_fewer _ _ _ _ _ _ may _ _ _ _ inv;
+      whole = suspects_over _ _ _ _ _ _ may _ _ _ _ inv c.loop-i-test.false;
+      only = suspects_only _ _ _ _ _ _ may _ _ _ _ inv;
     }

@@ -4,9 +4,6 @@ use native.Mathlib.Omega.{arith}
 use Rattle.cut_replay.proofs.Ways.{good-lies, good-may, replay-short, replay-gives}
 use Rattle.cut_replay.proofs.replay_cut.Goals as goal
 
-pub event_numbers-needed-requires : goal.event_numbers-needed-requires
-event_numbers-needed-requires c = c.requires.0.judged
-
 pub returns-then-events-needed : goal.returns-then-events-needed
 returns-then-events-needed c =
     let a = c.args in

@@ -1,10 +1,6 @@
 -- `cuts::down_in` meets its contract. The loop's invariant: `down` tells of the first j pairs. Assumes nothing.
-use Prim.Native.Nat.{◌-◌, ◌≤◌}
 use Rattle.cuts.proofs.Downs.{Told}
 use Rattle.cuts.proofs.down_in.Given as goal
 
 abbrev pub invariant-loop-j : goal.invariant-loop-j
-invariant-loop-j l = (l.j ≤ l.n) × Told l.others l.cuts l.slot l.j l.down
-
-abbrev pub decreases-loop-j : goal.decreases-loop-j
-decreases-loop-j l = l.n - l.j
+invariant-loop-j l = Told l.others l.cuts l.slot l.j l.down

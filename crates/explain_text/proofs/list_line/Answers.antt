@@ -1,23 +1,13 @@
--- `explain_text::list_line` meets its contract: the first number, the others each after a space, and a line feed.
-use borrow.Author.Rules.{rules}
-use Rattle.explain_text.proofs.Line.{puts_none, first-told, others-told, feed_told, puts-some}
+-- `explain_text::list_line` meets its contract: the numbers with a space between them, and a line feed.
+use Rattle.text.proofs.Laid.{told-first, told-rest, then}
+use Rattle.explain_text.proofs.Line.{line-told}
 use Rattle.explain_text.proofs.list_line.Goals as goal
 
-pub returns-then-list-eq0 : goal.returns-then-list-eq0
-returns-then-list-eq0 c = puts_none _ c.if-list-eq0.true c.put_byte.ensures
+pub parted-end-requires : goal.parted-end-requires
+parted-end-requires c = told-first _ _ (line-told c.args.list.now c.requires)
 
-pub put_decimal-a-requires : goal.put_decimal-a-requires
-put_decimal-a-requires c =
-    first-told c.args.list.now (search rules) c.requires
-
-pub spaced-b-requires : goal.spaced-b-requires
-spaced-b-requires c =
-    others-told c.args.list.now (search rules) c.requires c.put_decimal-a.ensures
-
-pub put_byte-requires-2 : goal.put_byte-requires-2
-put_byte-requires-2 c =
-    feed_told c.args.list.now (search rules) c.requires c.put_decimal-a.ensures c.spaced-b.ensures
+pub put_byte-requires : goal.put_byte-requires
+put_byte-requires c = told-rest c.parted-end.ensures _ (line-told c.args.list.now c.requires)
 
 pub returns : goal.returns
-returns c =
-    puts-some c.args.list.now (search rules) c.requires c.put_decimal-a.ensures c.spaced-b.ensures c.put_byte-2.ensures
+returns c = then c.parted-end.ensures c.put_byte.ensures

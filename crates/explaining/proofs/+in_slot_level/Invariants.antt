@@ -1,18 +1,12 @@
-use Prim.Native.Nat.{◌+◌, ◌-◌, ◌*◌}
+use Prim.Native.Nat.{◌+◌, ◌*◌}
 use Rattle.explaining.proofs.Levels.{Looking, Climbing}
 use Rattle.explaining.proofs.+in_slot_level.Given as goal
 
 abbrev pub invariant-in_slot-loop-i : goal.invariant-in_slot-loop-i
 invariant-in_slot-loop-i l = Looking l.row l.crossed l.z l.p l.n l.s l.e l.i
 
-abbrev pub decreases-in_slot-loop-i : goal.decreases-in_slot-loop-i
-decreases-in_slot-loop-i l = l.links - l.i
-
 abbrev pub invariant-level-loop-s : goal.invariant-level-loop-s
 invariant-level-loop-s l = Climbing l.row l.crossed l.z l.p l.n l.s l.e l.qs
-
-abbrev pub decreases-level-loop-s : goal.decreases-level-loop-s
-decreases-level-loop-s l = l.z.timeout - l.s
 
 abbrev pub decreases-in_slot : goal.decreases-in_slot
 decreases-in_slot l = 2 * l.n

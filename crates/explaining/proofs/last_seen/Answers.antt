@@ -1,6 +1,7 @@
 -- `explaining::last_seen` meets its contract: what is noted was seen.
-use mathlib.Core.Path.{refl}
+use Prim.Native.Nat.{◌*◌, ◌<◌}
 use native.Mathlib.Omega.{arith}
+use lib.Seq.{get_or-take, length-take-le}
 use Rattle.explaining.proofs.Seen.{link-below, lasts-none, lasts-more}
 use Rattle.explaining.proofs.last_seen.Goals as goal
 
@@ -19,9 +20,13 @@ pub loop-k-preserved : goal.loop-k-preserved
 loop-k-preserved c =
     let inv = c.loop-k.invariant in
     let links = c.requires.2 in
+    let end = c.args.z.timeout * 32 in
+    let crossed = c.args.crossed.now in
+    let early : c.loop-k.k < end =
+    omega (arith, c.loop-k-test.true, length-take-le end crossed (omega (arith, c.requires.0, c.requires.1))) in
     elim c.if-k-z.branch [
       | goal.then-k-z+then-c-gt0+then-c-le-LINKS w ↦
           rw (w.last-is, w.other-other.ensures)
-          (lasts-more _ _ _ _ _ inv c.loop-k-test.true refl w.if-k-z.true w.if-c-gt0.true w.if-c-le-LINKS.true links)
+          (lasts-more _ _ _ _ _ inv early (get_or-take end crossed c.loop-k.k 0 early) w.if-k-z.true w.if-c-gt0.true w.if-c-le-LINKS.true links)
       | goal.else-k-z w ↦ rw w.last-is inv
     ]

@@ -1,33 +1,21 @@
--- `faults::bad_ends` meets its contract: one law for each way out. Assumes nothing.
-use mathlib.Core.Path.{◌∙◌, sym}
-use Rattle.scope.specs.Plan.{plan_of, link_of}
+-- `faults::bad_ends` meets its contract. Assumes nothing.
+use Rattle.std.proofs.Common.{◌≡◌, ◌∙◌, sym, arith}
+use Rattle.std.proofs.lemmas.Bool.Decides.{nat_tests}
+use Rattle.scope.specs.Plan.{plan_of}
 use Rattle.rows.proofs.Parts.{vertex_count_lem}
-use Rattle.faults.proofs.Laws as law
 use Rattle.faults.proofs.bad_ends.Goals as goal
+use Rattle.faults.proofs.bad_ends.Goals.{then-v-ends, else-v-ends}
 
-pub returns-then-v-a : goal.returns-then-v-a
-returns-then-v-a c = let p = plan_of c.args.row.now in
-    let e = c.args.e in
-    law.ends-first p.vertices (link_of p e).from (link_of p e).to c.vertices-v.result
-    c.link_from-a.result c.link_to-b.result
-    (c.vertices-v.ensures.is ∙ sym
-    (vertex_count_lem c.args.row.now)) c.link_from-a.ensures
-    c.link_to-b.ensures c.if-v-a.true
+pub returns-then-v-ends-2 : goal.returns-then-v-ends-2
+returns-then-v-ends-2 c =
+    let v : c.vertices-v.result ≡ (plan_of c.args.row.now).vertices = c.vertices-v.ensures.is ∙ sym (vertex_count_lem c.args.row.now) in
+    let from = c.ends_at-ends.ensures.from in
+    let to = c.ends_at-ends.ensures.to in
+    elim c.if-v-ends.branch [ then-v-ends w ↦ grind (arith, nat_tests) | else-v-ends w ↦ grind (arith, nat_tests) ]
 
-pub returns-then-v-b : goal.returns-then-v-b
-returns-then-v-b c = let p = plan_of c.args.row.now in
-    let e = c.args.e in
-    law.ends-second p.vertices (link_of p e).from (link_of p e).to c.vertices-v.result
-    c.link_from-a.result c.link_to-b.result
-    (c.vertices-v.ensures.is ∙ sym
-    (vertex_count_lem c.args.row.now))
-    c.link_from-a.ensures c.link_to-b.ensures c.if-v-a.false c.if-v-b.true
-
-pub returns : goal.returns
-returns c = let p = plan_of c.args.row.now in
-    let e = c.args.e in
-    law.ends-below p.vertices (link_of p e).from (link_of p e).to c.vertices-v.result
-    c.link_from-a.result c.link_to-b.result
-    (c.vertices-v.ensures.is ∙ sym
-    (vertex_count_lem c.args.row.now))
-    c.link_from-a.ensures c.link_to-b.ensures c.if-v-a.false c.if-v-b.false
+pub returns-else-v-ends-2 : goal.returns-else-v-ends-2
+returns-else-v-ends-2 c =
+    let v : c.vertices-v.result ≡ (plan_of c.args.row.now).vertices = c.vertices-v.ensures.is ∙ sym (vertex_count_lem c.args.row.now) in
+    let from = c.ends_at-ends.ensures.from in
+    let to = c.ends_at-ends.ensures.to in
+    grind (arith, nat_tests)

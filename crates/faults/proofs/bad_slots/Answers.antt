@@ -1,59 +1,33 @@
-use mathlib.Core.Path.{◌∙◌, sym, ap}
-use mathlib.Core.Bool.{not}
-use native.Mathlib.Omega.{arith}
+use Rattle.std.proofs.Common.{◌<◌, ◌≤◌, not, ◌∙◌, sym, ap, refl, arith}
+use Rattle.scope.specs.Plan.{place_count}
 use Rattle.rows.proofs.Parts.{timeout-is}
 use Rattle.faults.proofs.Laws as law
 use Rattle.faults.proofs.bad_slots.Goals as goal
 
 pub loop-k-init : goal.loop-k-init
 loop-k-init c = let a = c.args in
-    let e = law.all_left a.row.now a.i c.place_count-n.result c.place_count-n.ensures.is in
+    let e = law.all_left a.row.now a.i _ refl in
     let f = c.timeout-t.ensures.is ∙ sym (timeout-is a.row.now) in
-    (law.passing_first a.row.now a.i c.place_count-n.result, rw (e, f))
-
-pub place_at-here-requires : goal.place_at-here-requires
-place_at-here-requires c = omega (
-  arith,
-  c.loop-k.invariant.0.small,
-  c.loop-k.invariant.0.most,
-  c.place_count-n.ensures.small,
-)
+    (law.passing_first a.row.now a.i _, rw (e, f))
 
 pub returns-then-here-least : goal.returns-then-here-least
 returns-then-here-least c = let a = c.args in
     let l = c.loop-k in
-    ap not (sym (law.slots_low a.row.now c.place_count-n.result l.at l.k
-    c.place_at-here.result c.place_at-here.ensures c.loop-k-test.true
-    c.timeout-t.result l.least c.if-here-least.true) ∙ l.invariant.1)
-
-pub returns-then-t-here : goal.returns-then-t-here
-returns-then-t-here c = let a = c.args in
-    let l = c.loop-k in
-    ap not (sym (law.slots_late a.row.now c.place_count-n.result l.at
-    l.k c.place_at-here.result c.place_at-here.ensures
-    c.loop-k-test.true
-    c.timeout-t.result l.least c.if-here-least.false
-    c.if-t-here.true) ∙ l.invariant.1)
-
-pub overflow_add-least : goal.overflow_add-least
-overflow_add-least c = omega (arith, c.place_at-here.ensures.slot_small)
+    let more : l._k < place_count a.row.now a.i = omega (arith, c.loop-k-test.true, c.place_count-k-end.ensures.is) in
+    ap not (sym (law.slots_out a.row.now _ l.at l._k c.place_at-here.result c.place_at-here.ensures more
+    c.timeout-t.result l.least c.then-here-least.either) ∙ l.invariant.1)
 
 pub loop-k-preserved : goal.loop-k-preserved
 loop-k-preserved c = let a = c.args in
-    let l = c.loop-k in (
-      law.passing_next a.row.now a.i c.place_count-n.result
-          l.at l.k c.place_at-here.result l.invariant.0
-          c.loop-k-test.true
-          c.place_at-here.ensures,
-      law.slots_next a.row.now c.place_count-n.result l.at l.k
-          c.place_at-here.result c.place_at-here.ensures
-          c.loop-k-test.true
-          c.timeout-t.result l.least
-          c.if-here-least.false c.if-t-here.false ∙ l.invariant.1,
+    let l = c.loop-k in
+    let more : l._k < place_count a.row.now a.i = omega (arith, c.loop-k-test.true, c.place_count-k-end.ensures.is) in (
+      law.passing_next a.row.now a.i _ l.at l._k c.place_at-here.result l.invariant.0 more c.place_at-here.ensures,
+      law.slots_next a.row.now _ l.at l._k c.place_at-here.result c.place_at-here.ensures more
+          c.timeout-t.result l.least c.if-here-least.false c.if-t-here.false ∙ l.invariant.1,
     )
 
 pub returns : goal.returns
 returns c = let a = c.args in
     let l = c.loop-k in
-    ap not (sym (law.slots_done a.row.now c.place_count-n.result l.at l.k
-    c.timeout-t.result l.least c.loop-k-test.false) ∙ l.invariant.1)
+    let done : place_count a.row.now a.i ≤ l._k = omega (arith, c.loop-k-test.false, c.place_count-k-end.ensures.is) in
+    ap not (sym (law.slots_done a.row.now _ l.at l._k c.timeout-t.result l.least done) ∙ l.invariant.1)

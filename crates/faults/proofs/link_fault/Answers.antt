@@ -1,60 +1,22 @@
--- `faults::link_fault` meets its contract: one law for each way out. Assumes nothing.
-use native.Mathlib.Omega.{arith}
+-- `faults::link_fault` meets its contract: the walk, the end and the start, each with its rules. Assumes nothing.
+use Rattle.std.proofs.Common.{arith}
 use Rattle.scope.specs.Plan.{plan_of}
 use Rattle.paths.proofs.Laws.{from-small}
 use Rattle.faults.specs.Broken.{second_of}
 use Rattle.faults.proofs.Seconds as rule
 use Rattle.faults.proofs.link_fault.Goals as goal
 
-pub path_fault-found-requires : goal.path_fault-found-requires
-path_fault-found-requires c =
-    let a = c.args in (
-      c.requires.0,
-      omega (
-        arith,
-        c.link_from-v.ensures,
-        from-small a.row.now c.requires.0
-            a.link,
-      ),
-    )
-
-pub returns-then-found-lt2 : goal.returns-then-found-lt2
-returns-then-found-lt2 c =
-    rule.fault_early (plan_of c.args.row.now) c.args.end (second_of c.args.link c.args.second.now) _
-    c.link_from-v.ensures
-    c.path_fault-found.result c.path_fault-found.ensures c.if-found-lt2.true
-
-pub returns-then-path_end-end : goal.returns-then-path_end-end
-returns-then-path_end-end c =
-    rw c.fault_in.ensures
-    (rule.fault_end (plan_of c.args.row.now) c.args.end (second_of c.args.link c.args.second.now) _
-    c.link_from-v.ensures
-    c.path_fault-found.result c.path_fault-found.ensures c.if-found-lt2.false c.requires.2 _ c.path_end.ensures
-    c.if-path_end-end.true)
-
-pub returns-then-found-lt3 : goal.returns-then-found-lt3
-returns-then-found-lt3 c =
-    rw c.fault_in-then-found-lt3.ensures
-    (rule.fault_again (plan_of c.args.row.now) c.args.end (second_of c.args.link c.args.second.now) _
-    c.link_from-v.ensures
-    c.path_fault-found.result c.path_fault-found.ensures c.if-found-lt2.false c.requires.2 _
-    c.path_end.ensures c.if-path_end-end.false
-    c.if-found-lt3.true)
-
-pub returns-then-number-link : goal.returns-then-number-link
-returns-then-number-link c =
-    rw c.fault_in-then-number-link.ensures
-    (rule.fault_replaced (plan_of c.args.row.now) c.args.end (second_of c.args.link c.args.second.now) _
-    c.link_from-v.ensures
-    c.path_fault-found.result c.path_fault-found.ensures c.if-found-lt2.false c.requires.2 _
-    c.path_end.ensures c.if-path_end-end.false
-    c.if-found-lt3.false _ c.number.ensures.is c.if-number-link.true)
+pub path_fault-walked-requires : goal.path_fault-walked-requires
+path_fault-walked-requires c =
+    let a = c.args in
+    (c.requires.0, omega (arith, c.ends_at-stands.ensures.from, from-small a.row.now c.requires.0 a.link))
 
 pub returns : goal.returns
 returns c =
-    rw c.fault_in-2.ensures
-    (rule.fault_none (plan_of c.args.row.now) c.args.end (second_of c.args.link c.args.second.now) _
-    c.link_from-v.ensures
-    c.path_fault-found.result c.path_fault-found.ensures c.if-found-lt2.false c.requires.2 _
-    c.path_end.ensures c.if-path_end-end.false
-    c.if-found-lt3.false _ c.number.ensures.is c.if-number-link.false)
+    let a = c.args in
+    let plan = plan_of a.row.now in
+    let p = second_of a.link a.second.now in
+    rule.second_fault_lem plan a.end p c.requires.2 _ c.ends_at-stands.ensures.from _ _ _ _ _ c.path_fault-walked.ensures
+    (rule.told_astray plan a.end p c.requires.2 _ c.path_end.ensures _ c.fault_in-end_fault.ensures _ c.then_some-astray.ensures)
+    (rule.told_replaced plan a.end p c.requires.2 _ c.number.ensures.is _ c.fault_in-start_fault.ensures _ c.then_some-replaced.ensures)
+    c.earlier.ensures c.earlier-2.ensures

@@ -1,8 +1,6 @@
-use mathlib.Core.Path.{◌∙◌, ap}
-use Rattle.scope.specs.Good.{repeats}
-use Rattle.scope.specs.Lowest.{lowest}
-use Rattle.scope.specs.Plan.{plan_of}
-use Rattle.scope.proofs.Seek.{lowest-done}
+use Rattle.std.proofs.Common.{◌<◌, ◌≤◌, sym, arith}
+use Rattle.scope.specs.Plan.{link_count}
+use Rattle.scope.proofs.Seek.{some-none}
 use Rattle.faults.proofs.Repeats.{repeating_first, repeating_found, repeating_next}
 use Rattle.faults.proofs.lowest_repeat.Goals as goal
 
@@ -13,20 +11,18 @@ pub returns-then-holds : goal.returns-then-holds
 returns-then-holds c =
     let row = c.args.row.now in
     let l = c.loop-e in
-    repeating_found row _ l.e l.met l.invariant c.loop-e-test.true _ c.ends_of-ends.ensures _
-    c.holds.ensures c.if-holds.true ∙
-    ap (lowest (repeats (plan_of row))) c.links-links.ensures.is
+    let more : l.e < link_count row = omega (arith, c.loop-e-test.true, c.links-e-end.ensures.is) in
+    (more, repeating_found row _ l.e l.met l.invariant more _ c.ends_of-ends.ensures _ c.holds.ensures c.if-holds.true)
 
 pub loop-e-preserved : goal.loop-e-preserved
 loop-e-preserved c =
     let row = c.args.row.now in
     let l = c.loop-e in
-    repeating_next row _ l.e l.met l.invariant c.loop-e-test.true _
-    c.ends_of-ends.ensures _ c.holds.ensures c.if-holds.false
-    _ c.with.ensures
+    let more : l.e < link_count row = omega (arith, c.loop-e-test.true, c.links-e-end.ensures.is) in
+    repeating_next row _ l.e l.met l.invariant more _ c.ends_of-ends.ensures _ c.holds.ensures c.if-holds.false _ c.with.ensures
 
 pub returns : goal.returns
 returns c =
-    let row = c.args.row.now in
-    lowest-done (repeats (plan_of row)) _ _ c.loop-e.invariant.seeking c.loop-e-test.false ∙
-    ap (lowest (repeats (plan_of row))) c.links-links.ensures.is
+    let l = c.loop-e in
+    let done : link_count c.args.row.now ≤ l.e = omega (arith, c.loop-e-test.false, c.links-e-end.ensures.is) in
+    sym (some-none _ _ _ l.invariant.seeking done)

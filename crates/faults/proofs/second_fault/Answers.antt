@@ -1,14 +1,7 @@
 -- `faults::second_fault` meets its contract: the links copied say where the first path ends. Assumes nothing.
-use native.Mathlib.Omega.{arith}
 use Rattle.scope.specs.Plan.{plan_of}
 use Rattle.faults.proofs.Laws as law
 use Rattle.faults.proofs.second_fault.Goals as goal
-
-pub slice_bounds-path_end-end : goal.slice_bounds-path_end-end
-slice_bounds-path_end-end c =
-    let f = c.first_links-n in
-    law.count-is c.args.row.now (plan_of c.args.row.now) c.args.i f.result _ f.new.path f.ensures
-    (omega (arith, f.ensures.count, f.auto.path, c.requires.2.few))
 
 pub returns : goal.returns
 returns c =

@@ -54,11 +54,6 @@ overflow_add-p c =
     let room = counts-room row at.s at.p at.i on.counts lt in
     omega (arith, c.width-w.ensures, room, most)
 
-pub overflow_add-i : goal.overflow_add-i
-overflow_add-i c =
-    let lt = c.loop-i-test.true in
-    omega (arith, lt)
-
 pub loop-i-preserved : goal.loop-i-preserved
 loop-i-preserved c =
     let row = c.args.row.now in

@@ -21,29 +21,29 @@ returns-then-field-ne1 c =
     (other-edition file some (λ e. c.if-field-ne1.true (c.field.ensures.is ∙ e)))
     c.refuse-then-field-ne1.ensures refl
 
-pub ends-requires : goal.ends-requires
-ends-requires c =
+pub ends-answer-requires : goal.ends-answer-requires
+ends-answer-requires c =
     let file = c.args.file.now in
     let some = c.if-file-eq0.false in
     let filled = c.fill-filled.ensures in
-    let inside = end-inside file some _ (sym filled.answer ∙ ap outcome_of c.in-Gives.is) in
+    let inside = end-inside file some _ (sym filled.answer ∙ ap outcome_of c.in-Ok.is) in
     (inside.0, omega (arith, inside.1))
 
-pub returns-in-Gives : goal.returns-in-Gives
-returns-in-Gives c =
+pub returns-in-Ok : goal.returns-in-Ok
+returns-in-Ok c =
     let file = c.args.file.now in
     let some = c.if-file-eq0.false in
     let filled = c.fill-filled.ensures in
-    let walked = sym filled.answer ∙ ap outcome_of c.in-Gives.is in
+    let walked = sym filled.answer ∙ ap outcome_of c.in-Ok.is in
     let opens = file_opens file some
     (sym c.field.ensures.is ∙ c.if-field-ne1.false) in
-    with_answer file _ _ _ _ _ _ filled (opens ∙ ap (λ (o : Outcome). and_then o (ends_at (bits file))) walked) c.ends.ensures refl
+    with_answer file _ _ _ _ _ _ filled (opens ∙ ap (λ (o : Outcome). and_then o (ends_at (bits file))) walked) c.ends-answer.ensures refl
 
-pub returns-in-Refused : goal.returns-in-Refused
-returns-in-Refused c =
+pub returns-in-Err : goal.returns-in-Err
+returns-in-Err c =
     let file = c.args.file.now in
     let some = c.if-file-eq0.false in
     let filled = c.fill-filled.ensures in
-    let walked = sym filled.answer ∙ ap outcome_of c.in-Refused.is in
+    let walked = sym filled.answer ∙ ap outcome_of c.in-Err.is in
     let opens = file_opens file some (sym c.field.ensures.is ∙ c.if-field-ne1.false) in
     with_answer file _ _ _ _ _ _ filled (opens ∙ ap (λ (o : Outcome). and_then o (ends_at (bits file))) walked) refl refl

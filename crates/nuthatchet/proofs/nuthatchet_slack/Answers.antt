@@ -3,11 +3,11 @@ use borrow.Author.Rules.{rules}
 use Rattle.nuthatchet.proofs.Ways.{slots, no_slots}
 use Rattle.nuthatchet.proofs.nuthatchet_slack.Goals as goal
 
-pub returns-in-Slots : goal.returns-in-Slots
-returns-in-Slots c =
-    slots _ _ _ _ c.slack-spare.ensures _ c.in-Slots.is
+pub returns-in-Ok : goal.returns-in-Ok
+returns-in-Ok c =
+    slots _ _ _ _ c.slack.ensures _ c.in-Ok.is
     (search rules) c.allow.ensures
 
-pub returns-in-Refused : goal.returns-in-Refused
-returns-in-Refused c =
-    no_slots _ _ _ _ c.slack-spare.ensures _ c.in-Refused.is c.refuse.ensures
+pub returns-in-Err : goal.returns-in-Err
+returns-in-Err c =
+    no_slots _ _ _ _ c.slack.ensures _ c.in-Err.is c.refuse.ensures

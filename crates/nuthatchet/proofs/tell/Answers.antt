@@ -3,10 +3,10 @@ use mathlib.Core.Path.{refl}
 use Rattle.nuthatchet.proofs.Ways.{allows}
 use Rattle.nuthatchet.proofs.tell.Goals as goal
 
-pub returns-in-Gives : goal.returns-in-Gives
-returns-in-Gives c =
-    rw c.in-Gives.is (record { refusal = allows _ c.allow.ensures; result = refl })
+pub returns-in-Ok : goal.returns-in-Ok
+returns-in-Ok c =
+    rw c.in-Ok.is (record { refusal = allows _ c.allow.ensures; result = refl })
 
-pub returns-in-Refused : goal.returns-in-Refused
-returns-in-Refused c =
-    rw c.in-Refused.is (record { refusal = c.refuse.ensures; result = refl })
+pub returns-in-Err : goal.returns-in-Err
+returns-in-Err c =
+    rw c.in-Err.is (record { refusal = c.refuse.ensures; result = refl })

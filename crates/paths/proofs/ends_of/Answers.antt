@@ -1,7 +1,5 @@
 -- `paths::ends_of` meets its contract: all links stand in the row. Assumes nothing.
-use Prim.Native.Nat.{◌+◌, ◌*◌}
-use mathlib.Core.Path.{◌≡◌, ◌∙◌, ap}
-use native.Mathlib.Omega.{arith}
+use Rattle.std.proofs.Common.{◌≡◌, ◌+◌, ◌*◌, ◌∙◌, ap, arith}
 use Rattle.scope.specs.Plan.{at}
 use Rattle.paths.proofs.Laws.{from_at, to_at, from-small, to-small, links-inside}
 use Rattle.paths.proofs.ends_of.Goals as goal
@@ -9,14 +7,8 @@ use Rattle.paths.proofs.ends_of.Goals as goal
 pub bounds-row-i : goal.bounds-row-i
 bounds-row-i c = omega (arith, links-inside c.args.row.now c.requires.0, c.requires.1)
 
-pub overflow_cast-from : goal.overflow_cast-from
-overflow_cast-from c = omega (arith, c.shared_slice_known-1.given (c.args.e * 2 + 5))
-
 pub bounds-row-i-2 : goal.bounds-row-i-2
 bounds-row-i-2 c = omega (arith, links-inside c.args.row.now c.requires.0, c.requires.1)
-
-pub overflow_cast-to : goal.overflow_cast-to
-overflow_cast-to c = omega (arith, c.shared_slice_known-2-1.given (c.args.e * 2 + 5 + 1))
 
 pub returns : goal.returns
 returns c =
@@ -29,6 +21,6 @@ returns c =
     record {
       from = from_at row a.e there;
       to = to_is;
-      from-small = omega (arith, from_at row a.e there, from-small row lies a.e);
-      to-small = omega (arith, to_is, to-small row lies a.e);
+      from_small = omega (arith, from_at row a.e there, from-small row lies a.e);
+      to_small = omega (arith, to_is, to-small row lies a.e);
     }

@@ -1,5 +1,4 @@
-use native.Mathlib.Omega.{arith}
-use mathlib.Core.Path.{◌∙◌, ap}
+use Rattle.std.proofs.Common.{arith}
 use Rattle.scope.specs.Plan.{plan_of}
 use Rattle.rows.proofs.Parts.{link-count}
 use Rattle.paths.proofs.Walk as law
@@ -7,21 +6,15 @@ use Rattle.paths.proofs.Walk.{OnLink}
 use Rattle.paths.proofs.path_fault.Goals as goal
 
 pub loop-k-init : goal.loop-k-init
-loop-k-init c = law.walking_first _ _ _ _ c.with-met.ensures _ (ap (λ f. f.rule) c.fault_in-found.ensures)
+loop-k-init c = law.walking_first _ _ _ _ c.with-met.ensures
 
 pub returns-then-links-e : goal.returns-then-links-e
 returns-then-links-e c =
     let row = c.args.row.now in
     rw c.fault_in.ensures
     (law.walking_no_link _ _ _ _ _ _ _ c.loop-k.invariant _ c.loop-k-test.true
-    c.number-e.ensures.is
+    c.from-e.ensures
     (omega (arith, c.if-links-e.true, c.links-links.ensures.is, link-count row)))
-
-pub holds-requires : goal.holds-requires
-holds-requires c = c.ends_of-ends.ensures.to-small
-
-pub with-met-requires-in-loop-k : goal.with-met-requires-in-loop-k
-with-met-requires-in-loop-k c = c.ends_of-ends.ensures.to-small
 
 pub loop-k-preserved : goal.loop-k-preserved
 loop-k-preserved c =
@@ -31,7 +24,7 @@ loop-k-preserved c =
     let on : OnLink (plan_of row) _ c.loop-k.k _ =
     record {
       here = c.loop-k-test.true;
-      is = c.number-e.ensures.is;
+      is = c.from-e.ensures;
       there = omega (
         arith,
         c.if-links-e.false,
@@ -39,11 +32,6 @@ loop-k-preserved c =
         link-count row,
       );
     } in
-    law.walking_next _ _ _ _ _ _ _ w _ on _ ends _ _ (ap (λ f. f.step) c.fault_in-in-loop-k.ensures)
-    (ap (λ f. f.rule) c.fault_in-in-loop-k.ensures ∙
-    law.link-breaks _ _ _ _ _ _ _ w _ on _ ends _ _ c.holds.ensures
-    c.link_rule-rule.ensures)
+    law.walking_next _ _ _ _ _ _ _ w _ on _ ends _ _ c.link_fault-here.ensures.1
+    (law.link-breaks _ _ _ _ _ _ _ w _ on _ ends _ _ c.holds.ensures c.link_fault-here.ensures.0)
     c.earlier-found.ensures _ c.with-met-in-loop-k.ensures
-
-pub returns : goal.returns
-returns c = law.walking_done _ _ _ _ _ _ _ c.loop-k.invariant c.loop-k-test.false

@@ -22,5 +22,5 @@ returns c =
     let numbers = c.numbers-n in
     answered c.which-question.result line _ size (length a.lent.now) (length a.file.now) c.which-question.ensures
     (numbers-are line _ a.given.now numbers.new.into numbers.result numbers.ensures
-    ∙ ap (numbers_in size line) c.size.ensures)
+    ∙ ap (numbers_in size line) (ap length c.word.ensures))
     c.asked.ensures

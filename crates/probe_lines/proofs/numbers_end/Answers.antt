@@ -7,8 +7,8 @@ put_numbers-last-requires c = told-first _ _ c.requires
 
 pub end-requires : goal.end-requires
 end-requires c =
-    rw c.kept_16.ensures (told-rest c.put_numbers-last.ensures _ c.requires)
+    rw c.kept.ensures (told-rest c.put_numbers-last.ensures _ c.requires)
 
 pub returns : goal.returns
 returns c =
-    then c.put_numbers-last.ensures (rw c.kept_16.ensures at c.end.ensures)
+    then c.put_numbers-last.ensures (rw c.kept.ensures at c.end.ensures)

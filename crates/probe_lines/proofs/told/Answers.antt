@@ -18,13 +18,13 @@ put_refusal-last-requires c =
 
 pub end-requires : goal.end-requires
 end-requires c =
-    rw c.kept_16.ensures
+    rw c.kept.ensures
     (told-rest c.put_refusal-last.ensures _ (told-told _ (refused _) c.args.written c.args.lent.now c.requires))
 
-pub returns-in-Gives : goal.returns-in-Gives
-returns-in-Gives c =
-    rw c.in-Gives.is (then c.ok-next.ensures c.numbers_end.ensures)
+pub returns-in-Ok : goal.returns-in-Ok
+returns-in-Ok c =
+    rw c.in-Ok.is (then c.ok-next.ensures c.numbers_end.ensures)
 
-pub returns-in-Refused : goal.returns-in-Refused
-returns-in-Refused c =
-    rw c.in-Refused.is (then c.put_refusal-last.ensures (rw c.kept_16.ensures at c.end.ensures))
+pub returns-in-Err : goal.returns-in-Err
+returns-in-Err c =
+    rw c.in-Err.is (then c.put_refusal-last.ensures (rw c.kept.ensures at c.end.ensures))

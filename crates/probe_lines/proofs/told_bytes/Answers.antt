@@ -20,10 +20,10 @@ pub end-requires : goal.end-requires
 end-requires c =
     rw c.kept.ensures (told-rest c.put_refusal-last.ensures _ (bytes-told _ (refused _) c.args.lent.now c.requires))
 
-pub returns-in-Gives : goal.returns-in-Gives
-returns-in-Gives c =
-    rw c.in-Gives.is (then c.ok-next.ensures c.bytes_end.ensures)
+pub returns-in-Ok : goal.returns-in-Ok
+returns-in-Ok c =
+    rw c.in-Ok.is (then c.ok-next.ensures c.bytes_end.ensures)
 
-pub returns-in-Refused : goal.returns-in-Refused
-returns-in-Refused c =
-    rw c.in-Refused.is (then c.put_refusal-last.ensures (rw c.kept.ensures at c.end.ensures))
+pub returns-in-Err : goal.returns-in-Err
+returns-in-Err c =
+    rw c.in-Err.is (then c.put_refusal-last.ensures (rw c.kept.ensures at c.end.ensures))

@@ -9,8 +9,8 @@ put_word-last-requires c =
 
 pub end-requires : goal.end-requires
 end-requires c =
-    rw c.kept_16.ensures (told-rest c.put_word-last.ensures _ (none_told _ _ c.args.lent.now c.requires))
+    rw c.kept.ensures (told-rest c.put_word-last.ensures _ (none_told _ _ c.args.lent.now c.requires))
 
 pub returns : goal.returns
 returns c =
-    then c.put_word-last.ensures (rw c.kept_16.ensures at c.end.ensures)
+    then c.put_word-last.ensures (rw c.kept.ensures at c.end.ensures)

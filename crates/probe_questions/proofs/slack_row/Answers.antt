@@ -2,12 +2,12 @@
 use Rattle.probe_questions.proofs.Lines.{puts_as, slots_line, no_slots_line}
 use Rattle.probe_questions.proofs.slack_row.Goals as goal
 
-pub returns-in-Slots : goal.returns-in-Slots
-returns-in-Slots c =
-    let slack = c.slack-spare.ensures in
-    puts_as (slots_line _ _ _ _ _ slack c.in-Slots.is) c.told_slack.ensures
+pub returns-in-Ok : goal.returns-in-Ok
+returns-in-Ok c =
+    let slack = c.slack.ensures in
+    puts_as (slots_line _ _ _ _ _ slack c.in-Ok.is) c.told_slack.ensures
 
-pub returns-in-Refused : goal.returns-in-Refused
-returns-in-Refused c =
-    let slack = c.slack-spare.ensures in
-    puts_as (no_slots_line _ _ _ _ _ slack c.in-Refused.is) c.told_refusal.ensures
+pub returns-in-Err : goal.returns-in-Err
+returns-in-Err c =
+    let slack = c.slack.ensures in
+    puts_as (no_slots_line _ _ _ _ _ slack c.in-Err.is) c.told_refusal.ensures

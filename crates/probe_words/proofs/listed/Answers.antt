@@ -1,28 +1,20 @@
 -- `probe_words::listed` meets its contract: what the loop has left are those from index i on, for the room that is left.
-use mathlib.Core.Path.{refl}
-use lib.ListN.{length-set}
-use Rattle.probe_words.proofs.Items.{listing-first, listing-more, listing_none, listing_full}
+use Rattle.std.proofs.Common.{sym, ◌∙◌}
+use Rattle.probe_words.proofs.Items.{listing-first, listing-more, listing_none, listing_full, found_none, found_some}
 use Rattle.probe_words.proofs.listed.Goals as goal
 
 pub loop-n-init : goal.loop-n-init
-loop-n-init c = (refl, listing-first _ _ _ _)
+loop-n-init g c = λ value next reads. listing-first value next _ _
 
-pub shape_of-into-then-next-i : goal.shape_of-into-then-next-i
-shape_of-into-then-next-i c = c.loop-n.invariant.0
-
-pub returns-then-next-i : goal.returns-then-next-i
-returns-then-next-i c =
-    listing_none _ _ _ _ _ _ _ c.loop-n.invariant.1 _ _ _ c.number-found.ensures c.loop-n-test.true c.if-next-i.true
+pub returns-in_default : goal.returns-in_default
+returns-in_default g c = λ value next reads.
+    let e = found_none value next _ (sym c.in_default.is ∙ reads _ _ c.read.ensures) in
+    listing_none value next _ _ _ _ _ (c.loop-n.invariant value next reads) c.loop-n-test.true e
 
 pub loop-n-preserved : goal.loop-n-preserved
-loop-n-preserved c =
-    let inv = c.loop-n.invariant in (
-      simp length-set inv.0,
-      listing-more _ _ _ _ _ _ _ inv.1 _ _ _ c.number-found.ensures c.loop-n-test.true c.if-next-i.false,
-    )
-
-pub shape_of-into : goal.shape_of-into
-shape_of-into c = c.loop-n.invariant.0
+loop-n-preserved g c = λ value next reads.
+    let f = found_some value next _ _ (sym c.in-Some.is ∙ reads _ _ c.read.ensures) in
+    rw (f.1, f.2) (listing-more value next _ _ _ _ _ (c.loop-n.invariant value next reads) c.loop-n-test.true f.0)
 
 pub returns : goal.returns
-returns c = listing_full _ _ _ _ _ _ _ c.loop-n.invariant.1 _ c.loop-n-test.false
+returns g c = λ value next reads. listing_full value next _ _ _ _ _ (c.loop-n.invariant value next reads) c.loop-n.auto.into c.loop-n-test.false

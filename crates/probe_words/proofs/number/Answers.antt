@@ -1,5 +1,5 @@
 -- `probe_words::number` meets its contract: one law for each way.
-use Rattle.probe_words.proofs.Found.{number_past, number-other, number-none, number-found}
+use Rattle.probe_words.proofs.Found.{number_past, number-other, number-read}
 use Rattle.probe_words.proofs.number.Goals as goal
 
 pub returns-then-line-at : goal.returns-then-line-at
@@ -8,9 +8,5 @@ returns-then-line-at c = number_past _ _ c.if-line-at.true
 pub returns-then-byte-ne32 : goal.returns-then-byte-ne32
 returns-then-byte-ne32 c = number-other _ _ _ c.byte.ensures.is c.if-byte-ne32.true
 
-pub returns-then-found-at : goal.returns-then-found-at
-returns-then-found-at c = number-none _ _ _ c.byte.ensures.is _ c.number_at-found.ensures c.if-found-at.true
-
 pub returns : goal.returns
-returns c =
-    number-found _ _ _ c.byte.ensures.is _ c.number_at-found.ensures c.if-line-at.false c.if-byte-ne32.false c.if-found-at.false
+returns c = number-read _ _ _ c.byte.ensures.is _ c.number_at.ensures c.if-line-at.false c.if-byte-ne32.false

@@ -1,13 +1,12 @@
 -- A read that failed has failed, and no other.
-use Rattle.std.proofs.Common.{refl, ap}
-use Rattle.program_io.specs.declared.Read.TheVariants.{Bytes}
+use Rattle.std.proofs.Common.{refl, ap, Some}
 use Rattle.program_io.specs.More.{says}
 use Rattle.program_io.proofs.said.Goals as goal
 
-pub returns-in_default : goal.returns-in_default
+pub returns-in-Ok : goal.returns-in-Ok
 unfolding says
-returns-in_default c = rw c.in_default.is refl
+returns-in-Ok c = rw c.in-Ok.is (ap Some c.min.ensures)
 
-pub returns : goal.returns
+pub returns-in-Err : goal.returns-in-Err
 unfolding says
-returns c = rw c.in-Ok.is (ap Bytes c.min.ensures)
+returns-in-Err c = rw c.in-Err.is refl

@@ -13,5 +13,5 @@ slice_bounds-played-end c = sym (length-take-le _ _ (cuts_fit _ _ _ _ c.cuts-n.e
 
 pub returns : goal.returns
 returns c =
-    input-says c.args.row.now (search rules) c.cuts-n.ensures
+    input-says c.args.good.row.now (search rules) c.cuts-n.ensures
     c.played.ensures

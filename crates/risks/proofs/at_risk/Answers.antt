@@ -1,4 +1,4 @@
--- `search::at_risk` meets its contract: each is counted in a set of those away.
+-- `risks::at_risk` meets its contract: each is counted in a set of those away.
 use Rattle.risks.proofs.Risks.{at_risk_is}
 use Rattle.risks.proofs.at_risk.Goals as goal
 

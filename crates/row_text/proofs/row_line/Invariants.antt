@@ -1,11 +1,7 @@
-use Prim.Native.Nat.{◌≤◌, ◌-◌}
-use lib.ListN.{length, drop}
+use Rattle.std.proofs.Common.{drop}
 use Rattle.text.proofs.Laid.{Left}
 use Rattle.row_text.specs.Rows.{row_line}
 use Rattle.row_text.proofs.row_line.Given as goal
 
 abbrev pub invariant-loop-i : goal.invariant-loop-i
-invariant-loop-i l = (l.i ≤ length l.row) × Left (row_line l.row) l.initial.out 0 (row_line (drop l.i l.row)) l.out l.next
-
-abbrev pub decreases-loop-i : goal.decreases-loop-i
-decreases-loop-i l = length l.row - l.i
+invariant-loop-i l = Left (row_line l.row) l.initial.out 0 (row_line (drop l.i l.row)) l.out l.next

@@ -1,13 +1,8 @@
--- `rows::message_index` meets its contract. The invariant: the index after the messages left is the one asked for. Assumes nothing.
-use Prim.Native.Nat.{◌+◌, ◌-◌, ◌*◌, ◌≤◌}
-use mathlib.Core.Path.{◌≡◌}
-use Rattle.scope.specs.Plan.{after_messages}
+-- The invariant of `rows::message_index`: its promise, as far as the loop has come. Assumes nothing.
+use Rattle.std.proofs.Common.{◌+◌, ◌*◌}
 use Rattle.scope.specs.SecondPath.{message_index}
+use Rattle.rows.specs.View.{Is}
 use Rattle.rows.proofs.message_index.Given as goal
 
 abbrev pub invariant-loop-k : goal.invariant-loop-k
-invariant-loop-k l =
-    (after_messages l.row l.at (l.m - l.k) ≡ message_index l.row l.m) × (l.at ≤ 131077 + l.k * 4295229441) × (l.k ≤ l.m)
-
-abbrev pub decreases-loop-k : goal.decreases-loop-k
-decreases-loop-k l = l.m - l.k
+invariant-loop-k l = Is (message_index l.row l._k) (131077 + l._k * 4295229441) l.at

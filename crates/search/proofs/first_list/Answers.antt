@@ -1,47 +1,24 @@
 -- `search::first_list` meets its contract: lists of fewer pairs leave enough.
-use mathlib.Core.Path.{refl}
-use native.Mathlib.Omega.{arith}
-use Rattle.search.proofs.Hunting.{hunt_first, may-seek, hunt_some, hunt_on, hunt_over}
+use Rattle.std.proofs.Common.{arith}
+use Rattle.search.proofs.Hunting.{may-seek, hunt_some, hunt_on, hunt_over}
 use Rattle.search.proofs.first_list.Goals as goal
 
-pub away-left-requires : goal.away-left-requires
-away-left-requires c = c.requires.stand.next.stand.few
+pub start-walk-requires : goal.start-walk-requires
+start-walk-requires c = c.requires.ready.laid
 
 pub loop-n-init : goal.loop-n-init
-loop-n-init c = hunt_first _ _ _ _ _ _ _ _ _ _ c.requires
+loop-n-init c = c.requires.before
 
-pub level-r-requires : goal.level-r-requires
-level-r-requires c =
-    may-seek _ _ _ _ _ _ _ _ _ _ c.requires _ _ _ _
-    c.loop-n-test.true c.no_pair-p.ensures c.no_hits-hits.ensures
-    c.away-left.ensures
+pub level-requires : goal.level-requires
+level-requires c =
+    may-seek _ _ _ _ _ c.requires _ _ (omega (arith, c.loop-n-test.true)) c.start-walk.ensures.0 c.start-walk.ensures.1
 
-pub returns-then-r : goal.returns-then-r
-returns-then-r c =
-    hunt_some _ _ _ _ _ _ _ _ _ _
-    c.requires _
-    c.loop-n.invariant _ _
-    c.no_pair-p.ensures c.level-r.ensures _
-    c.loop-n-test.true c.if-r.true refl refl refl refl
-
-pub overflow_add-n : goal.overflow_add-n
-overflow_add-n c =
-    omega (
-      arith,
-      c.loop-n-test.true,
-      c.requires.few,
-    )
-
-pub loop-n-smaller : goal.loop-n-smaller
-loop-n-smaller c = omega (arith, c.loop-n-test.true)
+pub returns-in-Some : goal.returns-in-Some
+returns-in-Some c =
+    hunt_some _ _ _ _ _ c.requires _ c.loop-n.invariant _ c.start-walk.ensures.1 _ (omega (arith, c.loop-n-test.true)) c.in-Some.ensures
 
 pub loop-n-preserved : goal.loop-n-preserved
-loop-n-preserved c =
-    hunt_on _ _ _ _ _ _ _ _ _ _ c.requires
-    _ c.loop-n.invariant _ _ c.no_pair-p.ensures
-    c.level-r.ensures c.loop-n-test.true c.if-r.false
+loop-n-preserved c = hunt_on _ _ _ _ _ c.requires _ c.loop-n.invariant _ c.start-walk.ensures.1 c.in_default.ensures
 
 pub returns : goal.returns
-returns c =
-    hunt_over _ _ _ _ _ _ _ _ _ _ c.requires _ _
-    c.loop-n.invariant c.loop-n-test.false c.no_list.ensures
+returns c = hunt_over _ _ _ _ _ c.requires _ c.loop-n.invariant (omega (arith, c.loop-n-test.false))

@@ -15,4 +15,4 @@ shifted true m l n = rw (shl_exact {a = 1} 1 m 32 (omega arith) (omega arith), o
 shifted false m l n = rw zero-mul (has-none n)
 
 pub returns : goal.returns
-returns c = shifted c.args.there c.args.m c.requires
+returns c = rw c.from.ensures (shifted c.args.there c.args.m c.requires)

@@ -2,13 +2,13 @@
 use Rattle.text.proofs.Laid.{told-first, told-rest, then}
 use Rattle.sheet_lines.proofs.figures_line.Goals as goal
 
-pub put_parted-next-requires : goal.put_parted-next-requires
-put_parted-next-requires c = told-first _ _ c.requires
+pub parted-next-requires : goal.parted-next-requires
+parted-next-requires c = told-first _ _ c.requires
 
 pub put_name-requires : goal.put_name-requires
 put_name-requires c =
-    told-rest c.put_parted-next.ensures _ c.requires
+    told-rest c.parted-next.ensures _ c.requires
 
 pub returns : goal.returns
 returns c =
-    then c.put_parted-next.ensures c.put_name.ensures
+    then c.parted-next.ensures c.put_name.ensures

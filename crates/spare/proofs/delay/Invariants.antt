@@ -6,7 +6,4 @@ use Rattle.spare.proofs.delay.Given as goal
 
 abbrev pub invariant-loop-k : goal.invariant-loop-k
 invariant-loop-k l =
-    (l.sum + delay_at l.row l.m (l.i + l.k) (l.n - l.k) ≡ delay_at l.row l.m l.i l.n) × (l.k ≤ l.n) × (l.sum ≤ l.k * 4295032833) × (l.m ≤ 65536)
-
-abbrev pub decreases-loop-k : goal.decreases-loop-k
-decreases-loop-k l = l.n - l.k
+    (l.sum + delay_at l.row l.m (l.i + l.k) (l.n - l.k) ≡ delay_at l.row l.m l.i l.n) × (l.sum ≤ l.k * 4295032833)

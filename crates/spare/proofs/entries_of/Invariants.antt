@@ -7,7 +7,4 @@ use Rattle.spare.proofs.entries_of.Given as goal
 
 abbrev pub invariant-loop-k : goal.invariant-loop-k
 invariant-loop-k l =
-    (l.sum + entries_of l.e (places_at l.row l.at (l.n - l.k)) ≡ entries_of l.e (places_at l.row l.i l.n)) × (l.at ≤ l.i + l.k * 65540) × (l.k ≤ l.n) × (l.sum ≤ l.k)
-
-abbrev pub decreases-loop-k : goal.decreases-loop-k
-decreases-loop-k l = l.n - l.k
+    (l.sum + entries_of l.e (places_at l.row l.at (l.n - l._k)) ≡ entries_of l.e (places_at l.row l.i l.n)) × (l.at ≤ l.i + l._k * 65540) × (l.sum ≤ l._k)

@@ -8,8 +8,5 @@ use Rattle.spare.proofs.lower_through.Given as goal
 
 abbrev pub invariant-loop-j : goal.invariant-loop-j
 invariant-loop-j l =
-    (l.sum + lower_through by_number l.m l.e l.j (messages_at l.row l.at (message_count l.row - l.j)) ≡ lower_through by_number l.m l.e 0 (plan_of l.row).messages) ×
-    (l.at ≤ 131077 + l.j * 4295229441) × (l.j ≤ l.m) × (l.sum ≤ l.j) × (l.m ≤ 65536)
-
-abbrev pub decreases-loop-j : goal.decreases-loop-j
-decreases-loop-j l = l.m - l.j
+    (l.sum + lower_through by_number l.m l.e l._j (messages_at l.row l.at (message_count l.row - l._j)) ≡ lower_through by_number l.m l.e 0 (plan_of l.row).messages) ×
+    (l.at ≤ 131077 + l._j * 4295229441) × (l.sum ≤ l._j)

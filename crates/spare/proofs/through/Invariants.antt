@@ -7,7 +7,4 @@ use Rattle.spare.proofs.through.Given as goal
 
 abbrev pub invariant-loop-k : goal.invariant-loop-k
 invariant-loop-k l =
-    (has_second_through l.e (places_at l.row l.at (l.n - l.k)) ≡ has_second_through l.e (places_at l.row l.i l.n)) × (l.at ≤ l.i + l.k * 65540) × (l.k ≤ l.n)
-
-abbrev pub decreases-loop-k : goal.decreases-loop-k
-decreases-loop-k l = l.n - l.k
+    (has_second_through l.e (places_at l.row l.at (l.n - l._k)) ≡ has_second_through l.e (places_at l.row l.i l.n)) × (l.at ≤ l.i + l._k * 65540)

@@ -35,12 +35,6 @@ meets-met-requires c =
     let h : c.args.p.left ≡ 0 → ⊥ = eqb-false _ _ (sym c.is_home.ensures ∙ c.if-is_home.false) in
     (omega (arith, h), c.requires.fit)
 
-pub overflow_cast-first : goal.overflow_cast-first
-overflow_cast-first c = omega (arith, c.first_trier-first.ensures.1, c.requires.noting.low)
-
-pub overflow_cast-m : goal.overflow_cast-m
-overflow_cast-m c = omega (arith, c.requires.noting.low)
-
 pub acts-requires : goal.acts-requires
 acts-requires c =
     let g = c.meets-met.ensures in
@@ -53,7 +47,7 @@ returns-then-not-met c =
     let turned : c.meets-met.result.position.turned ≡ true = search rules in
     acts-tries _ _ a.slot.0 a.tried.now a.m a.row.now a.p _ g _ _ _ _ turned
     (not-true _ c.if-not-met.true)
-    c.entry-entry.ensures c.first_trier-first.ensures.0 c.note.ensures (c.acts.ensures _ g.cut)
+    c.entry-entry.ensures c.first-first.ensures c.note.ensures (c.acts.ensures _ g.cut)
 
 pub returns : goal.returns
 returns c =

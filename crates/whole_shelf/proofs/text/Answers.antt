@@ -14,14 +14,14 @@ slice_bounds-sheet-end c =
 pub sheet-requires : goal.sheet-requires
 sheet-requires c = (
   may_read c.args.input.now c.args.n c.args.out.now c.args.out.now c.requires.1 c.requires.2
-      _ _ c.check_names-checked.ensures c.in-Gives.is,
+      _ _ c.check_names.ensures c.in-Ok.is,
   c.requires.2,
 )
 
-pub returns-in-Gives : goal.returns-in-Gives
-returns-in-Gives c =
-    shown-sheet c.args.input.now c.args.n _ _ c.requires.1 c.requires.2 _ _ c.check_names-checked.ensures c.in-Gives.is _ c.sheet.ensures
+pub returns-in-Ok : goal.returns-in-Ok
+returns-in-Ok c =
+    shown-sheet c.args.input.now c.args.n _ _ c.requires.1 c.requires.2 _ _ c.check_names.ensures c.in-Ok.is _ c.sheet.ensures
 
-pub returns-in-Refused : goal.returns-in-Refused
-returns-in-Refused c =
-    shown-refused c.args.input.now c.args.n _ _ c.requires.1 c.requires.2 _ _ c.check_names-checked.ensures c.in-Refused.is _ c.refusal_text.ensures
+pub returns-in-Err : goal.returns-in-Err
+returns-in-Err c =
+    shown-refused c.args.input.now c.args.n _ _ c.requires.1 c.requires.2 _ _ c.check_names.ensures c.in-Err.is _ c.refusal_text.ensures

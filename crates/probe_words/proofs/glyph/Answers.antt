@@ -1,9 +1,0 @@
--- `probe_words::glyph` meets its contract: one law for each way.
-use borrow.Author.Tests.{lt-ltb, le-ltb}
-use Rattle.probe_words.proofs.glyph.Goals as goal
-
-pub returns-then-d-lt10 : goal.returns-then-d-lt10
-returns-then-d-lt10 c = rw (lt-ltb c.args.d 10 c.if-d-lt10.true)
-
-pub returns-else-d-lt10 : goal.returns-else-d-lt10
-returns-else-d-lt10 c = rw (le-ltb c.args.d 10 c.if-d-lt10.false)

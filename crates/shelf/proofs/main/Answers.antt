@@ -1,8 +1,0 @@
--- `shelf::main` is safe: what is printed is the text of what came, in whole buffers.
-use Rattle.program_io.proofs.Fits.{bytes-came}
-use borrow.Author.Rules.{rules}
-use Rattle.shelf.proofs.main.Goals as goal
-
-pub text-answer-requires : goal.text-answer-requires
-text-answer-requires c =
-    (bytes-came _ _ _ c.in-Bytes.is c.read_input-read.ensures, search rules, search rules)
