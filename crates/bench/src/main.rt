@@ -176,7 +176,9 @@ fn asked(rt: &impl Env) -> Question {
 }
 
 // The capture on standard input, a byte a number, where it is asked about.
-fn read_capture<'a>(rt: &HostRuntime, q: Question, capture: &'a mut [u16; CAPTURE]) -> &'a [u16] {
+fn read_capture<'a>(rt: &HostRuntime, q: Question, capture: &'a mut [u16; CAPTURE]) -> &'a [u16]
+    ensures { length result.now ≤ length capture.old }
+{
     let mut bytes = [0u8; CAPTURE];
     let n = match q.asks {
         Asks::Infer => program_io::read_input(rt, b"bench", &mut bytes).unwrap_or(0),

@@ -9,7 +9,7 @@ use Rattle.picks.specs.Picks.{Playable}
 use Rattle.risks.specs.Weighed.{Hittable}
 use Rattle.board.specs.declared.Board.{Board}
 
--- the table, the sets and the sizes are right, and the messages stand at their sources
+-- the table, the sets and the sizes are right, and the messages may be put at their sources, which `Walk::start` does
 pub record Laid (row : List ℕ) (b : Board) : Type 0 where
   pub play : Playable row b.table b.sizes
   pub many : b.sizes.messages ≤ most_messages

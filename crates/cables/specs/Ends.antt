@@ -1,4 +1,4 @@
--- The lowest link with each two ends, as a list.
+-- The lowest link with each two ends, as a list of bytes: that link plus one, or 0 where there is none.
 use Rattle.std.specs.Prelude.{ℕ, ◌+◌, ◌-◌, ◌*◌, ◌<◌, ◌≡◌, Bool, cond, Option, Some, None, List, length, get_or, replicate, ltb}
 use Rattle.scope.specs.Limits.{most_vertices, most_links, ends_size}
 use Rattle.scope.specs.Lowest.{seek}
@@ -17,20 +17,25 @@ lowest_from plan a b e =
     let d = seek (leads plan a b) (n - e) e in
     cond (ltb d n) (Some d) None
 
+-- as a byte
+abbrev pub end_byte : Option ℕ → ℕ
+end_byte None = 0
+end_byte (Some e) = e + 1
+
 -- where the list has two ends
 abbrev pub ends_index : ℕ → ℕ → ℕ
 ends_index a b = a * most_vertices + b
 
 -- it has those from link e on
-pub record EndsFrom (plan : Plan) (e : ℕ) (table : List (Option ℕ)) : Type 0 where
+pub record EndsFrom (plan : Plan) (e : ℕ) (table : List ℕ) : Type 0 where
   pub size : length table ≡ ends_size
-  pub is : (a b : ℕ) → a < most_vertices → b < most_vertices → get_or table (ends_index a b) None ≡ lowest_from plan a b e
+  pub is : (a b : ℕ) → a < most_vertices → b < most_vertices → get_or table (ends_index a b) 0 ≡ end_byte (lowest_from plan a b e)
 
-pub record MayPut (row : List ℕ) (table : List (Option ℕ)) : Type 0 where
+pub record MayPut (row table : List ℕ) : Type 0 where
   pub lies : PlanLies row
-  pub clear : table ≡ replicate ends_size None
+  pub clear : table ≡ replicate ends_size 0
 
-pub record MayFind (row : List ℕ) (table : List (Option ℕ)) (e : ℕ) : Type 0 where
+pub record MayFind (row table : List ℕ) (e : ℕ) : Type 0 where
   pub lies : PlanLies row
   pub ends : EndsFrom (plan_of row) 0 table
   pub there : e < link_count row

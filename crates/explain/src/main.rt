@@ -72,8 +72,8 @@ fn text(rt: &HostRuntime, plan: &[u8], p: usize, out: &mut [u8]) -> Option<Resul
     ensures { Shows plan.now p out.old out.new result }
 {
     let mut row = [0u16; limits::ROW];
-    match plan::read_good(&plan[..p], &mut row) {
-        Ok(good) => of_row(rt, good, out),
+    match plan::read_file(&plan[..p], &mut row) {
+        Ok(n) => of_row(rt, Good { row: &row[..n] }, out),
         Err(refusal) => Some(listing::refusal_text(refusal, out)),
     }
 }

@@ -88,6 +88,6 @@ pub fn explain_text(file: &[u8], input: &[u8], out: &mut [u8]) -> Result<usize, 
         out.old out.new result }
 {
     let mut row = [0u16; limits::ROW];
-    let good = plan::read_good(file, &mut row)?;
-    said_of(good, input, out)
+    let n = plan::read_file(file, &mut row)?;
+    said_of(Good { row: &row[..n] }, input, out)
 }

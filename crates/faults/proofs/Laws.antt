@@ -22,6 +22,7 @@ use Rattle.table.specs.Table.{entry_at}
 use Rattle.paths.specs.Path.{FirstLinks, Earliest, order, at_of, step_of, path_rule}
 use Rattle.paths.proofs.Laws.{head_first}
 use Rattle.paths.specs.declared.Fault.{Fault}
+use Rattle.paths.specs.declared.Rule.{Rule}
 use Rattle.faults.specs.Broken.{held_below, FirstFault, SecondFault, SecondsFault, PlaceFault, place_in, second_of}
 use Rattle.faults.proofs.Seconds.{first_fault_lem}
 
@@ -49,7 +50,7 @@ module _ (row : List ℕ) (i n : ℕ) where
 
   -- the place that it is at, and that it has passed all
   module _ (j k : ℕ) (e : n ≡ place_count row i) (p : Passing row i n j k) where
-    pub place-of : k < n → (plan : Plan) (end : ℕ) (r : Option Fault) → PlaceFault plan end (place_at row j) r →
+    pub place-of : k < n → (plan : Plan) (end : ℕ) (r : Option (Fault Rule)) → PlaceFault plan end (place_at row j) r →
         PlaceFault plan end (place_in (message_at row i) k) r
     place-of h plan end r f =
         let is : place_in (message_at row i) k ≡ place_at row j =
@@ -141,7 +142,7 @@ module _ (row : List ℕ) (i : ℕ) (here : RowPlace) (is : IsPlace row i here) 
         let n : length (second_at row i) ≡ second_count row i = rw t (numbers-length row (i + 4) (second_count row i)) in
         omega (arith, ap length second-part, n)
 
-    pub place_fault_lem : (plan : Plan) (end : ℕ) (r : Option Fault) →
+    pub place_fault_lem : (plan : Plan) (end : ℕ) (r : Option (Fault Rule)) →
         PlaceFault plan end (second_of here.link (take (here.next - here.second) (drop here.second row))) r →
         PlaceFault plan end (place_at row i) r
     place_fault_lem plan end r g =
@@ -160,7 +161,7 @@ module _ (row : List ℕ) (plan : Plan) (i n : ℕ) (entry buffer : List ℕ) (l
       head = sym (get_or-take n buffer 0 0 (omega (arith, links.count))) ∙ head_first (take n buffer)
 
   -- what the walk over them found is what the message's first path breaks
-  pub first_path : (v : ℕ) → v ≡ (link_of plan (get_or buffer 0 0)).from → (r : Option Fault) →
+  pub first_path : (v : ℕ) → v ≡ (link_of plan (get_or buffer 0 0)).from → (r : Option (Fault Rule)) →
       Earliest (path_rule plan v (take n buffer)) 5 (length (take n buffer)) (order r) (step_of r) → at_of r ≡ step_of r →
       FirstFault plan (message_at row i) r
   first_path v fv r g same =
@@ -170,6 +171,6 @@ module _ (row : List ℕ) (plan : Plan) (i n : ℕ) (entry buffer : List ℕ) (l
       first_fault_lem (path_rule plan (begins_at plan (links_of ps)) (links_of ps)) (length ps) r walk same
 
   -- and they say where it ends
-  pub second_paths_lem : (end : ℕ) → end ≡ end_of plan (take n buffer) → (r : Option Fault) → SecondsFault plan end (message_at row i) r →
+  pub second_paths_lem : (end : ℕ) → end ≡ end_of plan (take n buffer) → (r : Option (Fault Rule)) → SecondsFault plan end (message_at row i) r →
       SecondFault plan (message_at row i) r
   second_paths_lem end fe r g = subst (λ e. SecondsFault plan e (message_at row i) r) (fe ∙ ap (end_of plan) links.are) g

@@ -19,6 +19,7 @@ use Rattle.scope.specs.PathRules.{link_in, no_link, apart, astray, again, replac
 use Rattle.scope.proofs.Lowest.{seek_is, seek-same}
 use Rattle.scope.proofs.Some.{some_at, some_same}
 use Rattle.paths.specs.declared.Fault.{Fault}
+use Rattle.paths.specs.declared.Rule.{Rule}
 use Rattle.paths.specs.declared.Rule.TheVariants.{Astray, Replaced}
 use Rattle.paths.specs.Path.{Earliest, order, order_of, at_of, step_of, path_rule}
 use Rattle.paths.proofs.Earliest.{Alone, lowest-is, earliest-none, earliest-next, earliest-same, earliest-or, either}
@@ -26,7 +27,7 @@ use Rattle.paths.proofs.Laws.{end_is}
 use Rattle.faults.specs.Broken.{FaultOf, PlaceFault, SecondsFault, place_in, place_rule}
 
 -- the earliest rule of a first path is that of its message
-module _ (broken : ℕ → ℕ → Bool) (n : ℕ) (r : Option Fault) (g : Earliest broken 5 n (order r) (step_of r)) (same : at_of r ≡ step_of r) where
+module _ (broken : ℕ → ℕ → Bool) (n : ℕ) (r : Option (Fault Rule)) (g : Earliest broken 5 n (order r) (step_of r)) (same : at_of r ≡ step_of r) where
   pub first_fault_lem : FaultOf (λ x p s. eqb s p && broken x s) (λ p. n) n r
   first_fault_lem =
       record {
@@ -58,9 +59,9 @@ module _ (broken : ℕ → ℕ → Bool) (n : ℕ) (r : Option Fault) (g : Earli
       before j l = rw (ne_eqb j (at_of r) (λ e. omega (arith, e, same, l)))
 
 -- a rule that is asked of one step alone, by whether it is broken there
-module _ (test : ℕ → Bool) (n o : ℕ) (b : Bool) (is : some test n ≡ b) (f : Fault) (rule : order_of f.rule ≡ o)
+module _ (test : ℕ → Bool) (n o : ℕ) (b : Bool) (is : some test n ≡ b) (f : Fault Rule) (rule : order_of f.rule ≡ o)
     (step : b ≡ true → f.step ≡ lowest test n) where
-  alone : (h : Option Fault) → h ≡ then_some b f → Alone test n o 5 h
+  alone : (h : Option (Fault Rule)) → h ≡ then_some b f → Alone test n o 5 h
   alone h e = record { broken = λ t. there (sym is ∙ t); kept = λ t. not_there (sym is ∙ t) }
     where
       there : b ≡ true → (order h ≡ o) × (step_of h ≡ lowest test n)
@@ -84,8 +85,8 @@ module _ (plan : Plan) (end : ℕ) (p : Place) (long : 0 < length p.second) wher
         some_at (λ s. eqb (s + 1) n) (λ s. not (eqb (link_in plan p.second s).to end)) n (n - 1) (omega arith)
         (eq-eqb (n - 1 + 1) n (omega arith)) (λ s l h. omega (arith, eqb-true (s + 1) n h)) ∙ ap (λ w. not (eqb w end)) leads
 
-    pub told_astray : (f : Fault) → f ≡ record { rule = Astray; message = 0; at = 0; step = n - 1 } →
-        (h : Option Fault) → h ≡ then_some (not (eqb last end)) f → Alone (astray plan end p.second) n 2 5 h
+    pub told_astray : (f : Fault Rule) → f ≡ record { rule = Astray; message = 0; at = 0; step = n - 1 } →
+        (h : Option (Fault Rule)) → h ≡ then_some (not (eqb last end)) f → Alone (astray plan end p.second) n 2 5 h
     told_astray f is h e =
         alone (astray plan end p.second) n 2 (not (eqb last end)) ends f (rw is) (λ w. ap (λ x. x.step) is ∙ lowest_end w) h e
       where
@@ -102,8 +103,8 @@ module _ (plan : Plan) (end : ℕ) (p : Place) (long : 0 < length p.second) wher
         some_at (λ s. eqb s 0) (λ s. eqb (get_or p.second s 0) p.link) n 0 long refl (λ s l h. eqb-true s 0 h) ∙
         ap (λ e. eqb e p.link) (sym ff)
 
-    pub told_replaced : (f : Fault) → f ≡ record { rule = Replaced; message = 0; at = 0; step = 0 } →
-        (h : Option Fault) → h ≡ then_some (eqb first p.link) f → Alone (replaced p.link p.second) n 4 5 h
+    pub told_replaced : (f : Fault Rule) → f ≡ record { rule = Replaced; message = 0; at = 0; step = 0 } →
+        (h : Option (Fault Rule)) → h ≡ then_some (eqb first p.link) f → Alone (replaced p.link p.second) n 4 5 h
     told_replaced f is h e =
         alone (replaced p.link p.second) n 4 (eqb first p.link) begins f (rw is) (λ w. ap (λ x. x.step) is ∙ lowest_start w) h e
       where
@@ -113,7 +114,7 @@ module _ (plan : Plan) (end : ℕ) (p : Place) (long : 0 < length p.second) wher
             lowest-is (replaced p.link p.second) n 0 long t (λ j l. absurd (omega arith))
 
   -- all of them
-  pub second_fault_lem : (v : ℕ) → v ≡ stands_at plan p → (walked bent begun both all : Option Fault) →
+  pub second_fault_lem : (v : ℕ) → v ≡ stands_at plan p → (walked bent begun both all : Option (Fault Rule)) →
       Earliest (path_rule plan v p.second) 5 n (order walked) (step_of walked) →
       Alone (astray plan end p.second) n 2 5 bent → Alone (replaced p.link p.second) n 4 5 begun →
       both ≡ cond (ltb (order bent) (order walked)) bent walked → all ≡ cond (ltb (order begun) (order both)) begun both →
@@ -142,19 +143,19 @@ module _ (plan : Plan) (end : ℕ) (p : Place) (long : 0 < length p.second) wher
       in_order (suc (suc (suc (suc (suc x))))) s l = absurd (omega arith)
 
 -- a loop over the places of a message whose first path ends at vertex `end`, at place k
-pub record Placing (plan : Plan) (end : ℕ) (ps : List Place) (k : ℕ) (found : Option Fault) : Type 0 where
+pub record Placing (plan : Plan) (end : ℕ) (ps : List Place) (k : ℕ) (found : Option (Fault Rule)) : Type 0 where
   pub kept : Earliest (λ x q. some (place_rule plan end (place_in ps q) x) (length (place_in ps q).second)) 5 k (order found) (at_of found)
   pub step : order found < 5 → step_of found ≡ lowest (place_rule plan end (place_in ps (at_of found)) (order found)) (length (place_in ps
       (at_of found)).second)
 
 -- a fault told with its place
-pub record ToldAt (k : ℕ) (fault told : Option Fault) : Type 0 where
+pub record ToldAt (k : ℕ) (fault told : Option (Fault Rule)) : Type 0 where
   pub rule : order told ≡ order fault
   pub at : order told < 5 → at_of told ≡ k
   pub step : step_of told ≡ step_of fault
 
-pub told_at : (k : ℕ) (fault told : Option Fault) (post : Fault → Fault → Type 0) →
-    ((x r : Fault) → post x r → r ≡ record { rule = x.rule; message = x.message; at = k; step = x.step }) →
+pub told_at : (k : ℕ) (fault told : Option (Fault Rule)) (post : Fault Rule → Fault Rule → Type 0) →
+    ((x r : Fault Rule) → post x r → r ≡ record { rule = x.rule; message = x.message; at = k; step = x.step }) →
     MatchOption fault (told ≡ None) (λ x. IsSomeAnd told (post x)) → ToldAt k fault told
 told_at k None told post is h = rw h (record { rule = refl; at = λ l. absurd (omega arith); step = refl })
 told_at k (Some x) None post is h = elim h [ ]
@@ -166,18 +167,18 @@ module _ (plan : Plan) (end : ℕ) (ps : List Place) where
   pub placing_first : Placing plan end ps 0 None
   placing_first = record { kept = earliest-none _ 5 0; step = λ h. absurd (omega arith) }
 
-  pub placing_next : (k : ℕ) (found here next fault : Option Fault) → Placing plan end ps k found → PlaceFault plan end (place_in ps k) fault →
+  pub placing_next : (k : ℕ) (found here next fault : Option (Fault Rule)) → Placing plan end ps k found → PlaceFault plan end (place_in ps k) fault →
       order here ≡ order fault → (order here < 5 → at_of here ≡ k) → step_of here ≡ step_of fault → next ≡ cond (ltb (order here) (order found)) here found →
       Placing plan end ps (k + 1) next
   placing_next k found here next fault w f fr fk fs e =
       record {
-        kept = earliest-next _ 5 k at_of found here next w.kept fk (fr ∙ f.earliest) e;
+        kept = earliest-next _ 5 k order at_of found here next w.kept fk (fr ∙ f.earliest) e;
         step =
-            either _ 5 k at_of found here next w.kept fk (fr ∙ f.earliest) e
+            either _ 5 k order at_of found here next w.kept fk (fr ∙ f.earliest) e
             (λ r. order r < 5 → step_of r ≡ lowest (place_rule plan end (place_in ps (at_of r)) (order r)) (length (place_in ps (at_of r)).second))
             w.step
             (λ h. let l : order fault < 5 = omega (arith, fr) in rw (fs, fk, fr) (f.first l));
       }
 
-  pub placing_done : (k : ℕ) (found : Option Fault) → Placing plan end ps k found → k ≡ length ps → SecondsFault plan end ps found
+  pub placing_done : (k : ℕ) (found : Option (Fault Rule)) → Placing plan end ps k found → k ≡ length ps → SecondsFault plan end ps found
   placing_done k found w e = rw (← e) (record { found = w.kept; step = w.step })

@@ -7,6 +7,7 @@ use Rattle.scope.specs.Good.{links_of, slots_rise, end_of}
 use Rattle.scope.specs.PathRules.{no_link, apart, astray, again, replaced, begins_at, stands_at}
 use Rattle.table.specs.Table.{entry_at}
 use Rattle.paths.specs.declared.Fault.{Fault}
+use Rattle.paths.specs.declared.Rule.{Rule}
 use Rattle.paths.specs.Path.{Earliest, order, at_of, step_of, path_rule}
 
 -- r is the lowest number below n that passes a test, or none where none does
@@ -43,22 +44,22 @@ abbrev pub second_rule : Plan → List Place → ℕ → ℕ → ℕ → Bool
 second_rule plan ps x p s = place_rule plan (end_of plan (links_of ps)) (place_in ps p) x s
 
 -- r has the earliest rule that is broken at one of n places, the lowest place and there the lowest step: a place p has so many links
-pub record FaultOf (broken : ℕ → ℕ → ℕ → Bool) (links : ℕ → ℕ) (n : ℕ) (r : Option Fault) : Type 0 where
+pub record FaultOf (broken : ℕ → ℕ → ℕ → Bool) (links : ℕ → ℕ) (n : ℕ) (r : Option (Fault Rule)) : Type 0 where
   pub found : Earliest (λ x p. some (broken x p) (links p)) 5 n (order r) (at_of r)
   pub step : order r < 5 → step_of r ≡ lowest (broken (order r) (at_of r)) (links (at_of r))
 
-abbrev pub FirstFault : Plan → List Place → Option Fault → Type 0
+abbrev pub FirstFault : Plan → List Place → Option (Fault Rule) → Type 0
 FirstFault plan ps r = FaultOf (first_rule plan ps) (λ p. length ps) (length ps) r
 
-abbrev pub SecondFault : Plan → List Place → Option Fault → Type 0
+abbrev pub SecondFault : Plan → List Place → Option (Fault Rule) → Type 0
 SecondFault plan ps r = FaultOf (second_rule plan ps) (λ p. length (place_in ps p).second) (length ps) r
 
 -- the same, where the first path ends at vertex `end`
-abbrev pub SecondsFault : Plan → ℕ → List Place → Option Fault → Type 0
+abbrev pub SecondsFault : Plan → ℕ → List Place → Option (Fault Rule) → Type 0
 SecondsFault plan end ps r = FaultOf (λ x p. place_rule plan end (place_in ps p) x) (λ p. length (place_in ps p).second) (length ps) r
 
 -- and of one place alone
-abbrev pub PlaceFault : Plan → ℕ → Place → Option Fault → Type 0
+abbrev pub PlaceFault : Plan → ℕ → Place → Option (Fault Rule) → Type 0
 PlaceFault plan end p r = Earliest (place_rule plan end p) 5 (length p.second) (order r) (step_of r)
 
 -- a place with this link and second path; no rule of paths asks for its slot

@@ -42,7 +42,7 @@ pub fn lowest_repeat(row: &[u16]) -> Option<usize>
 }
 
 // The fault of the first path of the message at an index; "on a first path the step is the place".
-pub fn first_fault(row: &[u16], i: usize) -> Option<Fault>
+pub fn first_fault(row: &[u16], i: usize) -> Option<Fault<Rule>>
     requires { PlanLies row.now × (i < 2 ^ 60) × (place_count row.now i ≤ most_places) }
     ensures { FirstFault (plan_of row.now) (message_at row.now i) result }
 {
@@ -93,7 +93,7 @@ pub fn held_below(row: &[u16], i: usize, m: usize, table: &[u8]) -> bool
 }
 
 // The fault of a second path in place of a link, where the first path ends at a vertex.
-fn link_fault(row: &[u16], end: usize, link: usize, second: &[u16]) -> Option<Fault>
+fn link_fault(row: &[u16], end: usize, link: usize, second: &[u16]) -> Option<Fault<Rule>>
     requires { PlanLies row.now × (link < 65536) × (0 < length second.now) }
     ensures { PlaceFault (plan_of row.now) end (second_of link second.now) result }
 {
@@ -107,7 +107,7 @@ fn link_fault(row: &[u16], end: usize, link: usize, second: &[u16]) -> Option<Fa
 }
 
 // The fault of the second path from the place at an index; none where there is no second path.
-fn place_fault(row: &[u16], end: usize, at: usize) -> Option<Fault>
+fn place_fault(row: &[u16], end: usize, at: usize) -> Option<Fault<Rule>>
     requires { PlanLies row.now × (at < 2 ^ 61) × (at + place_size row.now at ≤ length row.now) }
     ensures { PlaceFault (plan_of row.now) end (place_at row.now at) result }
 {
@@ -119,7 +119,7 @@ fn place_fault(row: &[u16], end: usize, at: usize) -> Option<Fault>
 }
 
 // The fault of the second paths of the message at an index, place by place.
-fn places_fault(row: &[u16], end: usize, i: usize) -> Option<Fault>
+fn places_fault(row: &[u16], end: usize, i: usize) -> Option<Fault<Rule>>
     requires { PlanLies row.now × (i < 2 ^ 60) × MessageLies row.now i }
     ensures { SecondsFault (plan_of row.now) end (message_at row.now i) result }
 {
@@ -136,7 +136,7 @@ fn places_fault(row: &[u16], end: usize, i: usize) -> Option<Fault>
 }
 
 // The same, where the first path of the message ends.
-pub fn second_fault(row: &[u16], i: usize) -> Option<Fault>
+pub fn second_fault(row: &[u16], i: usize) -> Option<Fault<Rule>>
     requires { PlanLies row.now × (i < 2 ^ 60) × MessageLies row.now i }
     ensures { SecondFault (plan_of row.now) (message_at row.now i) result }
 {

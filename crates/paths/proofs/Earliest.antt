@@ -6,11 +6,18 @@ use native.Mathlib.Omega.{arith}
 use borrow.Author.Tests.{lt-ltb, le-ltb, ltb-true, ltb-false, eq-eqb, ne_eqb, eqb-true, eqb-false}
 use lib.Dec.{ltb, eqb}
 use Rattle.std.specs.declared.option.Option.{Option}
+use Rattle.std.specs.declared.option.Option.TheVariants.{Some, None}
+use Rattle.std.specs.Option.{is_some}
+use Rattle.std.specs.declared.cmp.Ordering.TheVariants.{Less, Equal, Greater}
+use Rattle.std.specs.Ordering.{is_lt, nat_cmp}
 use Rattle.scope.specs.Lowest.{seek, lowest, some}
 use Rattle.scope.proofs.Lowest.{seek_is, seek-low, seek-from, seek-most, seek-same}
 use Rattle.scope.proofs.Some.{none, none_below, some_one, some_more, some_same}
 use Rattle.paths.specs.declared.Fault.{Fault}
-use Rattle.paths.specs.Path.{Earliest, order, step_of}
+use Rattle.paths.specs.declared.Rule.{Rule}
+use Rattle.paths.specs.declared.Rule.TheVariants.{NoLink, Apart, Astray, Again, Replaced}
+use Rattle.paths.specs.contracts.RuleOrd.TheImpl as rule_ord
+use Rattle.paths.specs.Path.{Earliest, goes_first, order, order_of, step_of}
 
 -- a number that passes a test where none below it does is the lowest
 pub lowest-is : (test : ℕ → Bool) (n i : ℕ) → i < n → test i ≡ true → ((j : ℕ) → j < i → test j ≡ false) → i ≡ lowest test n
@@ -39,6 +46,61 @@ seek_or s t (suc n) i = by (s i) (t i) (seek_or s t n (i + 1)) (seek-from s n (i
     by false true e f g = let z : ltb i (seek s n (i + 1)) ≡ true = lt-ltb i (seek s n (i + 1)) (omega arith) in rw z
     by false false e f g = e
 
+-- what holds of each rule
+each : (P : Rule → Type 0) → P NoLink → P Apart → P Astray → P Again → P Replaced → (r : Rule) → P r
+each P a b c d e NoLink = a
+each P a b c d e Apart = b
+each P a b c d e Astray = c
+each P a b c d e Again = d
+each P a b c d e Replaced = e
+
+-- a fault is earlier than none
+below_none : (r : Rule) → order_of r < 5
+below_none = each (λ r. order_of r < 5) (omega arith) (omega arith) (omega arith) (omega arith) (omega arith)
+
+-- what `earlier` keeps of faults of these rules, by their numbers
+pub by-order : (found here next : Option (Fault Rule)) → next ≡ cond (goes_first (rule_ord.ghosts).cmp found here) here found →
+    next ≡ cond (ltb (order here) (order found)) here found
+by-order found here next e = e ∙ ap (λ b. cond b here found) (same found here)
+  where
+    Alike : Rule → Rule → Type 0
+    Alike h f = is_lt ((rule_ord.ghosts).cmp h f) ≡ ltb (order_of h) (order_of f)
+
+    rules : (h f : Rule) → Alike h f
+    rules =
+        each (λ h. (f : Rule) → Alike h f)
+        (each (Alike NoLink) refl refl refl refl refl)
+        (each (Alike Apart) refl refl refl refl refl)
+        (each (Alike Astray) refl refl refl refl refl)
+        (each (Alike Again) refl refl refl refl refl)
+        (each (Alike Replaced) refl refl refl refl refl)
+
+    same : (found here : Option (Fault Rule)) → goes_first (rule_ord.ghosts).cmp found here ≡ ltb (order here) (order found)
+    same None None = refl
+    same (Some f) None = sym (le-ltb 5 (order_of f.rule) (omega (arith, below_none f.rule)))
+    same None (Some h) = sym (lt-ltb (order_of h.rule) 5 (below_none h.rule))
+    same (Some f) (Some h) = rules h.rule f.rule
+
+-- and what it keeps where the rules are numbers: the fault of the lower one, and of one rule the one that was found first
+pub by-number : (found here : Fault ℕ) (next : Option (Fault ℕ)) →
+    next ≡ cond (goes_first nat_cmp (Some found) (Some here)) (Some here) (Some found) →
+    next ≡ Some (cond (ltb here.rule found.rule) here found)
+by-number found here next e = e ∙ by (ltb here.rule found.rule) (eqb here.rule found.rule)
+  where
+    by : (a b : Bool) → cond (is_lt (cond a Less (cond b Equal Greater))) (Some here) (Some found) ≡ Some (cond a here found)
+    by true b = refl
+    by false true = refl
+    by false false = refl
+
+-- no fault is earlier than none
+order-most : (f : Option (Fault Rule)) → order f ≤ 5
+order-most None = omega arith
+order-most (Some f) = omega (arith, below_none f.rule)
+
+pub none-later : (here kept : Option (Fault Rule)) → is_some here ≡ false → kept ≡ cond (ltb (order here) (order kept)) here kept
+none-later None kept h = let z : ltb 5 (order kept) ≡ false = le-ltb 5 (order kept) (order-most kept) in rw z
+none-later (Some f) kept h = absurd (true≢false h)
+
 module _ (broken : ℕ → ℕ → Bool) (k : ℕ) where
   -- nothing was looked at
   pub earliest-none : (thing : ℕ) → Earliest broken k 0 k thing
@@ -62,27 +124,27 @@ module _ (broken : ℕ → ℕ → Bool) (k : ℕ) where
         seek-same (λ r. some (broken r) (i + 1)) (λ r. some (broken r) i || broken r i) k 0 (λ r a b. some_more (broken r) i) ∙
         seek_or (λ r. some (broken r) i) (λ r. broken r i) k 0
 
-    -- the fault kept, and the one here; `at` says which thing a fault is of
-    module _ (at : Option Fault → ℕ) (kept here next : Option Fault) (g : Earliest broken k i (order kept) (at kept))
-        (is : order here < k → at here ≡ i) (rule : order here ≡ lowest (λ r. broken r i) k)
-        (kept-or-here : next ≡ cond (ltb (order here) (order kept)) here kept) where
-      pub earliest-next : Earliest broken k (i + 1) (order next) (at next)
-      earliest-next = by (ltb (order here) (order kept)) refl
+    -- the fault kept, and the one here, whatever faults are; `rank` says which rule is broken, and `at` by which thing
+    module _ {X : Type 0} (rank at : X → ℕ) (kept here next : X) (g : Earliest broken k i (rank kept) (at kept))
+        (is : rank here < k → at here ≡ i) (rule : rank here ≡ lowest (λ r. broken r i) k)
+        (kept-or-here : next ≡ cond (ltb (rank here) (rank kept)) here kept) where
+      pub earliest-next : Earliest broken k (i + 1) (rank next) (at next)
+      earliest-next = by (ltb (rank here) (rank kept)) refl
         where
-          by : (b : Bool) → ltb (order here) (order kept) ≡ b → Earliest broken k (i + 1) (order next) (at next)
+          by : (b : Bool) → ltb (rank here) (rank kept) ≡ b → Earliest broken k (i + 1) (rank next) (at next)
           by true e =
-              let lower : order here < order kept = ltb-true (order here) (order kept) e in
+              let lower : rank here < rank kept = ltb-true (rank here) (rank kept) e in
               let f : next ≡ here = kept-or-here ∙ rw e in
               let t : ltb (lowest (λ r. broken r i) k) (lowest (λ r. some (broken r) i) k) ≡ true = rw (← rule, ← g.earliest) e in
-              let inside : order kept ≤ k = omega (arith, g.earliest, seek-most (λ r. some (broken r) i) k 0) in
-              let breaks : broken (order here) i ≡ true = rw rule (seek_is (λ r. broken r i) k 0 (omega (arith, rule))) in
-              let new : some (broken (order here)) i ≡ false =
-              seek-low (λ r. some (broken r) i) k 0 (order here) (omega arith) (omega (arith, g.earliest)) in
+              let inside : rank kept ≤ k = omega (arith, g.earliest, seek-most (λ r. some (broken r) i) k 0) in
+              let breaks : broken (rank here) i ≡ true = rw rule (seek_is (λ r. broken r i) k 0 (omega (arith, rule))) in
+              let new : some (broken (rank here)) i ≡ false =
+              seek-low (λ r. some (broken r) i) k 0 (rank here) (omega arith) (omega (arith, g.earliest)) in
               let there : at here ≡ i = is (omega arith) in
               rw (f, there)
               (record {
                 earliest = rule ∙ sym (both ∙ rw t);
-                first = λ h. lowest-is (broken (order here)) (i + 1) i (omega arith) breaks (none_below (broken (order here)) i new);
+                first = λ h. lowest-is (broken (rank here)) (i + 1) i (omega arith) breaks (none_below (broken (rank here)) i new);
               })
           by false e =
               let f : next ≡ kept = kept-or-here ∙ rw e in
@@ -93,20 +155,20 @@ module _ (broken : ℕ → ℕ → Bool) (k : ℕ) where
                 first = λ h. still h;
               })
             where
-              still : order kept < k → at kept ≡ lowest (broken (order kept)) (i + 1)
+              still : rank kept < k → at kept ≡ lowest (broken (rank kept)) (i + 1)
               still h =
-                  let there : some (broken (order kept)) i ≡ true =
+                  let there : some (broken (rank kept)) i ≡ true =
                   rw g.earliest (seek_is (λ r. some (broken r) i) k 0 (omega (arith, g.earliest))) in
-                  let low : lowest (broken (order kept)) i < i = ltb-true (lowest (broken (order kept)) i) i there in
+                  let low : lowest (broken (rank kept)) i < i = ltb-true (lowest (broken (rank kept)) i) i there in
                   g.first h ∙
-                  lowest-is (broken (order kept)) (i + 1) (lowest (broken (order kept)) i) (omega arith)
-                  (seek_is (broken (order kept)) i 0 (omega arith)) (λ j l. seek-low (broken (order kept)) i 0 j (omega arith) l)
+                  lowest-is (broken (rank kept)) (i + 1) (lowest (broken (rank kept)) i) (omega arith)
+                  (seek_is (broken (rank kept)) i 0 (omega arith)) (λ j l. seek-low (broken (rank kept)) i 0 j (omega arith) l)
 
       -- what holds of both holds of the one that is kept
-      pub either : (P : Option Fault → Type 0) → P kept → P here → P next
-      either P p q = by (ltb (order here) (order kept)) refl
+      pub either : (P : X → Type 0) → P kept → P here → P next
+      either P p q = by (ltb (rank here) (rank kept)) refl
         where
-          by : (b : Bool) → ltb (order here) (order kept) ≡ b → P next
+          by : (b : Bool) → ltb (rank here) (rank kept) ≡ b → P next
           by true e = let f : next ≡ here = kept-or-here ∙ rw e in rw f q
           by false e = let f : next ≡ kept = kept-or-here ∙ rw e in rw f p
 
@@ -128,7 +190,7 @@ earliest-same broken other k n rule thing same g =
     }
 
 -- h is the fault of rule o where a thing passes its test, and none otherwise
-pub record Alone (test : ℕ → Bool) (n o k : ℕ) (h : Option Fault) : Type 0 where
+pub record Alone (test : ℕ → Bool) (n o k : ℕ) (h : Option (Fault Rule)) : Type 0 where
   pub broken : some test n ≡ true → (order h ≡ o) × (step_of h ≡ lowest test n)
   pub kept : some test n ≡ false → order h ≡ k
 
@@ -191,7 +253,7 @@ module _ (broken : ℕ → ℕ → Bool) (k n o : ℕ) (inside : o < k) (test : 
           first = λ h. e ∙ seek-same _ _ n 0 (λ s a b. sym (this s));
         }
 
-  pub earliest-or : (f h next : Option Fault) → Earliest broken k n (order f) (step_of f) → Alone test n o k h →
+  pub earliest-or : (f h next : Option (Fault Rule)) → Earliest broken k n (order f) (step_of f) → Alone test n o k h →
       next ≡ cond (ltb (order h) (order f)) h f → Earliest also k n (order next) (step_of next)
   earliest-or f h next g a e = by (some test n) refl (ltb (order h) (order f)) refl
     where

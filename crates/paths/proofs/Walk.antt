@@ -19,6 +19,7 @@ use Rattle.sets.specs.Sets.{has as In, IsWith}
 use Rattle.sets.proofs.Sets.{has-none}
 use Rattle.paths.specs.declared.Ends.{Ends}
 use Rattle.paths.specs.declared.Fault.{Fault}
+use Rattle.paths.specs.declared.Rule.{Rule}
 use Rattle.paths.specs.Path.{EndsOf, Earliest, order, step_of, path_rule, link_rule}
 use Rattle.paths.proofs.Earliest.{earliest-none, earliest-next, earliest-found}
 
@@ -53,7 +54,7 @@ visited-more plan es k h = ap (before plan es) (add-one k) ∙ go es k h
 
 -- a loop over a path that began at vertex v, at step k and vertex u: all links before it are below E, the vertices met are marked, and of what
 -- was broken the earliest rule is found
-pub record Walking (plan : Plan) (path : List ℕ) (v u k marks : ℕ) (found : Option Fault) : Type 0 where
+pub record Walking (plan : Plan) (path : List ℕ) (v u k marks : ℕ) (found : Option (Fault Rule)) : Type 0 where
   pub stands : u ≡ last_of v (before plan path k)
   pub marked : Marks (λ x. has x (v ∷ before plan path k)) marks
   pub below : some (no_link plan path) k ≡ false
@@ -78,7 +79,7 @@ module _ (plan : Plan) (path : List ℕ) (v : ℕ) where
         most = omega arith;
       }
 
-  module _ (u k marks : ℕ) (found : Option Fault) (w : Walking plan path v u k marks found) where
+  module _ (u k marks : ℕ) (found : Option (Fault Rule)) (w : Walking plan path v u k marks found) where
     pub walking_done : length path ≤ k → Earliest (path_rule plan v path) 5 (length path) (order found) (step_of found)
     walking_done h = let e : k ≡ length path = omega (arith, w.most) in rw (← e) w.kept
 
@@ -113,7 +114,7 @@ module _ (plan : Plan) (path : List ℕ) (v : ℕ) where
           fr ∙ rw (parted, twice, is-link)
 
       -- and then the next
-      pub walking_next : (here next : Option Fault) → (order here < 5 → step_of here ≡ k) → order here ≡ lowest (λ x. path_rule plan v path x k) 5 →
+      pub walking_next : (here next : Option (Fault Rule)) → (order here < 5 → step_of here ≡ k) → order here ≡ lowest (λ x. path_rule plan v path x k) 5 →
           next ≡ cond (ltb (order here) (order found)) here found → (more : ℕ) → IsWith marks r.to more →
           Walking plan path v r.to (k + 1) more next
       unfolding has
@@ -124,6 +125,6 @@ module _ (plan : Plan) (path : List ℕ) (v : ℕ) where
             marked = λ x. with_it x ∙ ap (λ t. eqb x r.to || t) (w.marked x) ∙ ap (λ y. eqb x y || has x (v ∷ before plan path k)) to_is ∙
                 has_more x (v ∷ before plan path k) (link_in plan path k).to ∙ ap (λ vs. has x (v ∷ vs)) (sym more);
             below = some_more (no_link plan path) k ∙ rw (w.below, is-link);
-            kept = earliest-next (path_rule plan v path) 5 k step_of found here next w.kept at rule kept-or-here;
+            kept = earliest-next (path_rule plan v path) 5 k order step_of found here next w.kept at rule kept-or-here;
             most = omega (arith, on.here);
           }

@@ -1,5 +1,7 @@
 -- The rules of a path by their order, the earliest that is broken, and what the links of a first path are in a buffer.
-use Rattle.std.specs.Prelude.{ℕ, ◌<◌, ◌≡◌, Bool, cond, ◌&&◌, List, take, drop, eqb, Option, Some, None}
+use Rattle.std.specs.Prelude.{ℕ, ◌<◌, ◌≡◌, Bool, true, false, cond, ◌&&◌, List, take, drop, eqb, Option, Some, None}
+use Rattle.std.specs.declared.cmp.Ordering.{Ordering}
+use Rattle.std.specs.Ordering.{is_lt}
 use Rattle.scope.specs.Lowest.{lowest, some}
 use Rattle.scope.specs.Limits.{most_vertices}
 use Rattle.scope.specs.Plan.{Plan, link_of, place_count, message_at}
@@ -22,6 +24,12 @@ pub record EndsOf (plan : Plan) (e : ℕ) (r : Ends) : Type 0 where
   pub from_small : r.from < most_vertices
   pub to_small : r.to < most_vertices
 
+-- of two faults or none, by the order of their rules: the one here comes before the one that was found first
+abbrev pub goes_first : {R : Type 0} → (R → R → Ordering) → Option (Fault R) → Option (Fault R) → Bool
+goes_first cmp found None = false
+goes_first cmp None (Some here) = true
+goes_first cmp (Some found) (Some here) = is_lt (cmp here.rule found.rule)
+
 -- the rules by number, in the order in which they are asked; of a fault or none, its rule's, 5 for none, and where it is
 abbrev pub order_of : Rule → ℕ
 order_of NoLink = 0
@@ -30,19 +38,19 @@ order_of Astray = 2
 order_of Again = 3
 order_of Replaced = 4
 
-abbrev pub order : Option Fault → ℕ
+abbrev pub order : Option (Fault Rule) → ℕ
 order None = 5
 order (Some f) = order_of f.rule
 
-abbrev pub message_of : Option Fault → ℕ
+abbrev pub message_of : Option (Fault Rule) → ℕ
 message_of None = 0
 message_of (Some f) = f.message
 
-abbrev pub at_of : Option Fault → ℕ
+abbrev pub at_of : Option (Fault Rule) → ℕ
 at_of None = 0
 at_of (Some f) = f.at
 
-abbrev pub step_of : Option Fault → ℕ
+abbrev pub step_of : Option (Fault Rule) → ℕ
 step_of None = 0
 step_of (Some f) = f.step
 

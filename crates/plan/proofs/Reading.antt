@@ -13,7 +13,7 @@ use Rattle.scope.specs.Outcome.{Answer}
 use Rattle.std.specs.Prelude.{Ok, Err}
 use Rattle.scope.specs.declared.Refusal.{Refusal}
 use Rattle.scope.proofs.Outcomes.{not-both}
-use Rattle.scope.specs.Outcome.{Outcome, gives, refused, refuse, and_then, room}
+use Rattle.scope.specs.Outcome.{Outcome, number, gives, refused, refuse, and_then, room}
 use Rattle.scope.specs.File.{walk_file, row_of, file_of}
 use Rattle.scope.specs.Plan.{plan_of}
 use Rattle.scope.specs.Rules.{rules}
@@ -67,6 +67,9 @@ module _ (file entry exit : List ℕ) (a : Answer) (h : Reads file entry exit a)
 
     pub read-row : take n exit ≡ row_of file
     read-row = ap (take n) written ∙ take_at (row_of file) (drop (length (row_of file)) entry) n (sym count)
+
+    pub read-known : number (judge (take n exit)) ≡ 0
+    read-known = ap (λ (row : List ℕ). number (judge row)) read-row ∙ ap number (read-judged file (length entry) n (gave n e h.answer))
 
     pub read-fit : n ≤ length exit
     read-fit = omega (arith, simp length-append at (ap length written), count)

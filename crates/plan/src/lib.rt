@@ -6,9 +6,8 @@
 
 ghost use Rattle.std.specs.Prelude.{◌≡◌, length, MatchResult};
 ghost use Rattle.scope.specs.Outcome.{outcome_of, number, refused};
-ghost use Rattle.scope.specs.Questions.{judge, read_file, second_path};
+ghost use Rattle.scope.specs.Questions.{judge, second_path};
 ghost use Rattle.scope.specs.Outcome.{gives};
-ghost use Rattle.scope.specs.File.{row_of};
 ghost use Rattle.scope.specs.Row.{walk_row};
 ghost use Rattle.rows.specs.View.{PartAt};
 ghost use Rattle.plan.specs.Answers.{Accepts, Reads, Writes, shown_index};
@@ -65,17 +64,6 @@ pub fn read_file(file: &[u8], row: &mut [u16]) -> Result<usize, Refusal>
     accept(&all[..n], row)
 }
 
-// The good row of a file, read into a lent row; or what `read_file` refuses, which then changes nothing: no clause can say that of a row
-// which the answer lends on.
-pub fn read_good<'a>(file: &[u8], row: &'a mut [u16]) -> Result<Good<'a>, Refusal>
-    ensures { MatchResult result
-        (λ good. (good.row.now ≡ row_of file.now) × (read_file file.now (length row.old) ≡ gives (length good.row.now)))
-        (λ r. read_file file.now (length row.old) ≡ refused r) }
-{
-    let n = read_file(file, row)?;
-    Ok(Good { row: &row[..n] })
-}
-
 // A row written into lent bytes: how many, or refusal 1 to 10, 14 to 19, 13.
 pub fn write_file(row: &[u16], file: &mut [u8]) -> Result<usize, Refusal>
     ensures { Writes row.now file.old file.new result }
@@ -106,7 +94,7 @@ pub fn second_index(row: &[u16], m: usize, p: usize) -> usize
     ensures { result ≡ shown_index row.now m p }
 {
     match judge(row) {
-        Ok(_) => rows::second_span(row, m, p).map_or(0, |span| span.start),
+        Ok(_) => rows::second_span(row, m, p).map_or(0, |span| span.from),
         Err(_) => 0,
     }
 }

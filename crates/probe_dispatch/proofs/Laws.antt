@@ -3,7 +3,7 @@ use Prim.Native.Nat.{ℕ, ◌+◌, ◌≤◌, ◌<◌}
 use mathlib.Core.Path.{◌≡◌, refl, sym, ◌∙◌, ap, ap₂, subst}
 use mathlib.Core.Bool.{Bool, true, false, cond, ◌&&◌}
 use mathlib.Core.List.{List, []}
-use Rattle.std.proofs.Common.{Option, Some, None}
+use Rattle.std.proofs.Common.{Result, Ok, Err}
 use native.Mathlib.Omega.{arith}
 use native.Mathlib.Numerals.{add-one}
 use lib.ListN.{length, get_or, take, drop, drop_of_length-le}
@@ -69,7 +69,7 @@ module _ (lent : ℕ) (line : List ℕ) (room : Number) (f : Finds (number_value
   some_number h true t = t
   some_number h false t = let n : number_next line 4 ≡ 4 = rw t in absurd (omega arith)
 
-  module _ (h : 4 < number_next line 4) (word : List ℕ) (is : word ≡ last_word line room.next) (entry exit : List ℕ) (r : Option ℕ)
+  module _ (h : 4 < number_next line 4) (word : List ℕ) (is : word ≡ last_word line room.next) (entry exit : List ℕ) (r : Result ℕ ℕ)
       (b : Bytes word entry exit r) where
     some : is_number line 4 ≡ true
     some = some_number h (is_number line 4) refl
@@ -87,19 +87,19 @@ module _ (lent : ℕ) (line : List ℕ) (room : Number) (f : Finds (number_value
         in
         ap₂ (λ (x y : Bool). cond (x && y) answer unknown_line) some is
 
-    no_bytes : r ≡ None → (t : Bool) → is_bytes (length entry) word ≡ t → is_bytes (length entry) word ≡ false
-    no_bytes g true e = let c : r ≡ Some (length (bytes_in (length entry) word)) = rw e at b.count in absurd (cc)
-    no_bytes g false e = e
+    no_bytes : (n : ℕ) → r ≡ Err n → (t : Bool) → is_bytes (length entry) word ≡ t → is_bytes (length entry) word ≡ false
+    no_bytes n g true e = let c : r ≡ Ok (length (bytes_in (length entry) word)) = rw e at b.count in absurd (cc)
+    no_bytes n g false e = e
 
-    some_bytes : (n : ℕ) → r ≡ Some n → (t : Bool) → is_bytes (length entry) word ≡ t →
+    some_bytes : (n : ℕ) → r ≡ Ok n → (t : Bool) → is_bytes (length entry) word ≡ t →
         (is_bytes (length entry) word ≡ true) × (n ≡ length (bytes_in (length entry) word))
-    some_bytes n g true e = let c : r ≡ Some (length (bytes_in (length entry) word)) = rw e at b.count in (e, (cc))
-    some_bytes n g false e = let c : r ≡ None = rw e at b.count in absurd (cc)
+    some_bytes n g true e = let c : r ≡ Ok (length (bytes_in (length entry) word)) = rw e at b.count in (e, (cc))
+    some_bytes n g false e = let c : r ≡ Err (length (bytes_in (length entry) word)) = rw e at b.count in absurd (cc)
 
-    pub read-bad : r ≡ None → unknown_line ≡ read_asked lent (length entry) line
-    read-bad g = sym (asked false (no_bytes g (is_bytes (length entry) word) refl))
+    pub read-bad : (n : ℕ) → r ≡ Err n → unknown_line ≡ read_asked lent (length entry) line
+    read-bad n g = sym (asked false (no_bytes n g (is_bytes (length entry) word) refl))
 
-    module _ (n : ℕ) (g : r ≡ Some n) where
+    module _ (n : ℕ) (g : r ≡ Ok n) where
       bytes-are : (is_bytes (length entry) word ≡ true) × (n ≡ length (bytes_in (length entry) word))
       bytes-are = some_bytes n g (is_bytes (length entry) word) refl
 

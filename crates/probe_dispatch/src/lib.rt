@@ -90,8 +90,8 @@ fn read(line: &[u8], lent: &mut [u16], file: &mut [u8], out: &mut [u8], at: usiz
     };
     let word = probe_words::last_word(line, room.next);
     match probe_words::bytes(word, file) {
-        Some(n) => probe_questions::read(&file[..n], room.value, lent, out, at),
-        None => unknown(out, at),
+        Ok(n) => probe_questions::read(&file[..n], room.value, lent, out, at),
+        Err(_) => unknown(out, at),
     }
 }
 

@@ -1,10 +1,11 @@
 -- Laws of things that stand one after another in a line, as a loop reads them.
-use Rattle.std.proofs.Common.{◌≡◌, ℕ, zero, suc, ◌+◌, ◌-◌, ◌≤◌, ◌<◌, Bool, true, false, cond, ◌&&◌, ◌||◌, ltb, List, [], ◌∷◌, ◌++◌, Some, None, length, get_or, drop, set, refl, sym, ap, ◌∙◌, arith, lt-ltb, le-ltb, le-leb, leb, eqb, ◌≢◌, drop-cons, length-drop, add-one, inl, inr}
+use Rattle.std.proofs.Common.{◌≡◌, ℕ, zero, suc, ◌+◌, ◌-◌, ◌≤◌, ◌<◌, Bool, true, false, cond, ◌&&◌, ◌||◌, ltb, List, [], ◌∷◌, ◌++◌, Some, None, Ok, Err, length, get_or, drop, set, refl, sym, ap, ◌∙◌, arith, lt-ltb, le-ltb, le-leb, leb, eqb, ◌≢◌, drop-cons, length-drop, add-one, inl, inr}
 use Rattle.std.proofs.lemmas.Bool.{cases_lt, lt-leb, ne_eqb}
 use Rattle.std.proofs.lemmas.List.{get_or_past}
 use lib.Seq.{paste}
-use Rattle.std.proofs.lemmas.List.Edits.{paste_none, paste_more, paste_all}
 use Rattle.std.specs.Bool.{then_some}
+use Rattle.std.specs.Option.{ok_or}
+use Rattle.std.proofs.lemmas.List.Edits.{paste_none, paste_more, paste_all}
 use Rattle.scope.specs.Lines.{byte_at}
 use Rattle.text.specs.Text.{Puts}
 use Rattle.text.proofs.Laid.{laid-front}
@@ -140,15 +141,15 @@ module _ (line : List ℕ) (at : ℕ) (b c : List ℕ) (n end : ℕ) (l : Lists 
 
 -- the bytes of a whole word, or none
 module _ (word b c : List ℕ) (n end : ℕ) (l : Lists (pair_value word) (pair_next word) 0 b c (n, end)) where
-  pub bytes_by : (t : Bool) → t ≡ is_bytes (length b) word → Bytes word b c (then_some t n)
+  pub bytes_by : (t : Bool) → t ≡ is_bytes (length b) word → Bytes word b c (ok_or (then_some t n) n)
   bytes_by t e =
       let count = l.count in
       let few = l.few in
       record { buffer = laid_items (pair_value word) (pair_next word) 0 b c n end l; count = rw (← e) (by t count); few = omega arith }
     where
-      by : {m : ℕ} (t : Bool) → n ≡ m → then_some t n ≡ cond t (Some m) None
-      by true p = ap Some p
-      by false p = refl
+      by : {m : ℕ} (t : Bool) → n ≡ m → ok_or (then_some t n) n ≡ cond t (Ok m) (Err m)
+      by true p = ap Ok p
+      by false p = ap Err p
 
 -- whether a word is bytes, by its length
 module _ (room : ℕ) (word : List ℕ) where

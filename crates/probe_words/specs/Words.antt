@@ -1,5 +1,5 @@
 -- What the words of a line say, and the words that are written: the probe's own forms, beside those of document 01 (`Lines`).
-use Rattle.std.specs.Prelude.{ℕ, zero, suc, ◌+◌, ◌-◌, ◌*◌, ◌/◌, ◌%◌, ◌≤◌, ◌≡◌, Bool, cond, Option, Some, None, ◌&&◌, ◌||◌, List, [], ◌∷◌, ◌++◌, length, take, drop, ltb, leb, eqb}
+use Rattle.std.specs.Prelude.{ℕ, zero, suc, ◌+◌, ◌-◌, ◌*◌, ◌/◌, ◌%◌, ◌≤◌, ◌≡◌, Bool, cond, Option, Some, None, Result, Ok, Err, ◌&&◌, ◌||◌, List, [], ◌∷◌, ◌++◌, length, take, drop, ltb, leb, eqb}
 use Rattle.std.specs.List.{list_all}
 use Rattle.scope.specs.Lines.{byte_at, is_digit}
 use Rattle.text.specs.Text.{Puts}
@@ -81,10 +81,10 @@ bytes_in room word = items (pair_value word) (pair_next word) room 0
 abbrev pub is_bytes : ℕ → List ℕ → Bool
 is_bytes room word = is_dash word || (ltb 0 (length word) && leb (length word) (items_end (pair_next word) room 0))
 
--- they were written to the front of a buffer: how many, none where it is no such word
-pub record Bytes (word entry exit : List ℕ) (r : Option ℕ) : Type 0 where
+-- they were written to the front of a buffer: how many, as an error where it is no such word
+pub record Bytes (word entry exit : List ℕ) (r : Result ℕ ℕ) : Type 0 where
   pub buffer : Puts (bytes_in (length entry) word) entry exit 0 (length (bytes_in (length entry) word))
-  pub count : r ≡ cond (is_bytes (length entry) word) (Some (length (bytes_in (length entry) word))) None
+  pub count : r ≡ cond (is_bytes (length entry) word) (Ok (length (bytes_in (length entry) word))) (Err (length (bytes_in (length entry) word)))
   pub few : length (bytes_in (length entry) word) ≤ length entry
 
 -- the numbers of a line from an index on, as many as there is room for, and whether the line then ends

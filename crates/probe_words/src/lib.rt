@@ -106,8 +106,9 @@ fn pair(word: &[u8], i: usize) -> Option<(u8, usize)>
     }
 }
 
-// The bytes of a word, pairs of digits, or `-` for none, into the front of what is lent: how many, none where it is no such word.
-pub fn bytes(word: &[u8], into: &mut [u8]) -> Option<usize>
+// The bytes of a word, pairs of digits, or `-` for none, into the front of what is lent: how many; where it is no such word, how many were
+// written all the same.
+pub fn bytes(word: &[u8], into: &mut [u8]) -> Result<usize, usize>
     ensures { Bytes word.now into.old into.new result }
 {
     let (n, end) = listed(0, into, |i| pair(word, i));
@@ -116,7 +117,7 @@ pub fn bytes(word: &[u8], into: &mut [u8]) -> Option<usize>
         1 => word[0] == b'-',
         len => len <= end,
     };
-    whole.then_some(n)
+    whole.then_some(n).ok_or(n)
 }
 
 // A word at an index of a buffer, or at its end where the index lies behind it, as far as the buffer goes; the index after the word.

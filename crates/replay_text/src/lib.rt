@@ -44,6 +44,6 @@ pub fn replay_text(file: &[u8], input: &[u8], out: &mut [u8]) -> Result<usize, R
         out.old out.new result }
 {
     let mut row = [0u16; limits::ROW];
-    let good = plan::read_good(file, &mut row)?;
-    played_input(good, input, out)
+    let n = plan::read_file(file, &mut row)?;
+    played_input(Good { row: &row[..n] }, input, out)
 }

@@ -12,7 +12,7 @@ use Rattle.scope.specs.Plan.{plan_of, path_of}
 use Rattle.scope.specs.SecondPath.{message_index, place_index, has_second}
 use Rattle.rows.specs.View.{IsPlace, IsSpan, second_part}
 use Rattle.rows.specs.declared.RowPlace.{RowPlace}
-use Rattle.std.specs.declared.ops.Range.{Range}
+use Rattle.rows.specs.declared.Span.{Span}
 use Rattle.rows.specs.Lies.{SecondLies, PlanLies}
 use Rattle.rows.proofs.Parts.{numbers-part, places_length, places_at_lem, message-count, path_at}
 
@@ -119,14 +119,14 @@ module _ (row : List ℕ) (m p : ℕ) where
           sym (part_none (has_no_message h)) ∙ sym (ap (λ q. q.second) (path [] (get_or-eq_default (plan_of row).messages [] b)))
 
   -- and it lies within the row
-  pub span_within : PlanLies row → (r : Range ℕ) → IsSpan row m p r → r.end ≤ length row
+  pub span_within : PlanLies row → (r : Span) → IsSpan row m p r → r.to ≤ length row
   span_within l r s =
       by (ltb m (message_count row)) (ltb p (place_count row (message_index row m))) (flagged row (place_index row m p)) refl refl refl s.there
     where
       by : (x y z : Bool) → ltb m (message_count row) ≡ x → ltb p (place_count row (message_index row m)) ≡ y →
-          flagged row (place_index row m p) ≡ z → has_second row m p ≡ true → r.end ≤ length row
+          flagged row (place_index row m p) ≡ z → has_second row m p ≡ true → r.to ≤ length row
       by true true true a b c e =
-          let t : r.end ≡ second_start (place_index row m p) + second_count row (place_index row m p) = s.ends ∙ rw e in
+          let t : r.to ≡ second_start (place_index row m p) + second_count row (place_index row m p) = s.ends ∙ rw e in
           let w = (part_lies l (ltb-true m (message_count row) a) (ltb-true p (place_count row (message_index row m)) b) c).lies in
           omega (arith, w, t)
       by true true false a b c e = absurd (true≢false (sym e ∙ rw (a, b, c)))

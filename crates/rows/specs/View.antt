@@ -1,6 +1,6 @@
 -- What looking at a row gives.
 use Rattle.std.specs.Prelude.{ℕ, ◌+◌, ◌*◌, ◌<◌, ◌≤◌, ◌≡◌, true, cond, List, [], take, drop}
-use Rattle.std.specs.declared.ops.Range.{Range}
+use Rattle.rows.specs.declared.Span.{Span}
 use Rattle.scope.specs.Plan.{at, slot_at, flagged, second_start, second_count, place_size}
 use Rattle.scope.specs.SecondPath.{place_index, has_second}
 use Rattle.rows.specs.declared.RowPlace.{RowPlace}
@@ -49,7 +49,7 @@ abbrev pub second_end : List ℕ → ℕ → ℕ → ℕ
 second_end row m p = cond (has_second row m p) (second_start (place_index row m p) + second_count row (place_index row m p)) 0
 
 -- r is where the second path of message m from place p stands in a row, from one index to another
-pub record IsSpan (row : List ℕ) (m p : ℕ) (r : Range ℕ) : Type 0 where
+pub record IsSpan (row : List ℕ) (m p : ℕ) (r : Span) : Type 0 where
   pub there : has_second row m p ≡ true
-  pub begins : r.start ≡ second_index row m p
-  pub ends : r.end ≡ second_end row m p
+  pub begins : r.from ≡ second_index row m p
+  pub ends : r.to ≡ second_end row m p

@@ -14,8 +14,6 @@ ghost use Rattle.scope.specs.Plan.{slot_at, after_places, after_message, vertex_
 ghost use Rattle.scope.specs.SecondPath.{message_index, place_index, has_second};
 ghost use Rattle.rows.specs.View.{Number, Is, IsPlace, IsSpan, PartAt, second_part, second_index};
 
-use std::ops::Range;
-
 // The number at an index of a row, 0 past its end.
 pub fn number(row: &[u16], i: usize) -> usize
     ensures { Number row.now i result }
@@ -143,8 +141,15 @@ pub fn place_index(row: &[u16], m: usize, p: usize) -> usize
     after_places(row, message_index(row, m) + 1, p)
 }
 
+// Where a second path stands in a row, from one index to another. A `Range` is no `Copy`.
+#[derive(Clone, Copy)]
+pub struct Span {
+    pub from: usize,
+    pub to: usize,
+}
+
 // Where the second path of message m from place p stands in a row, if there is one.
-pub fn second_span(row: &[u16], m: usize, p: usize) -> Option<Range<usize>>
+pub fn second_span(row: &[u16], m: usize, p: usize) -> Option<Span>
     ensures { MatchOption result (has_second row.now m p ≡ false) (IsSpan row.now m p) }
 {
     if messages(row) <= m {
@@ -158,7 +163,10 @@ pub fn second_span(row: &[u16], m: usize, p: usize) -> Option<Range<usize>>
     if here.count == 0 {
         return None;
     }
-    Some(here.second..here.next)
+    Some(Span {
+        from: here.second,
+        to: here.next,
+    })
 }
 
 // The second path of message m from place p, as a part of the row: length 0 where there is no such message, place or second path.
@@ -167,7 +175,7 @@ pub fn second_path_part(row: &[u16], m: usize, p: usize) -> &[u16]
     ensures { PartAt (second_part row.now m p) (second_index row.now m p) row.entry.ref_ptr result.now result.ref_ptr }
 {
     match second_span(row, m, p) {
-        Some(span) => &row[span],
+        Some(span) => &row[span.from..span.to],
         None => &row[..0],
     }
 }

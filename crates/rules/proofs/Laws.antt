@@ -304,7 +304,7 @@ all_in_turn plan First after =
     ap (unless_on plan 15 (rule 3)) (never plan 15 (rule 4) after (λ m. none _ _ (λ p l. none _ _ (λ s k. both_false (eqb s p)))))))
 all_in_turn plan Second after = refl
 
-module _ (plan : Plan) (paths : Paths) (r : Option Fault) (g : PlanFault plan paths (length plan.messages) r) where
+module _ (plan : Plan) (paths : Paths) (r : Option (Fault Rule)) (g : PlanFault plan paths (length plan.messages) r) where
   whole : (after : Outcome) → path_rules plan paths after ≡ cond (ltb (order r) 5) (refusal plan paths (order r)) after
   whole after =
       all_in_turn plan paths after ∙ in_order plan paths 5 0 5 refl after ∙
@@ -335,14 +335,14 @@ order-few Again = omega arith
 order-few Replaced = omega arith
 
 -- a fault told with its message
-pub record ToldOf (m : ℕ) (fault told : Option Fault) : Type 0 where
+pub record ToldOf (m : ℕ) (fault told : Option (Fault Rule)) : Type 0 where
   pub rule : order told ≡ order fault
   pub message : order told < 5 → message_of told ≡ m
   pub at : at_of told ≡ at_of fault
   pub step : step_of told ≡ step_of fault
 
-pub told_of : (m : ℕ) (fault told : Option Fault) (post : Fault → Fault → Type 0) →
-    ((x r : Fault) → post x r → r ≡ record { rule = x.rule; message = m; at = x.at; step = x.step }) →
+pub told_of : (m : ℕ) (fault told : Option (Fault Rule)) (post : Fault Rule → Fault Rule → Type 0) →
+    ((x r : Fault Rule) → post x r → r ≡ record { rule = x.rule; message = m; at = x.at; step = x.step }) →
     MatchOption fault (told ≡ None) (λ x. IsSomeAnd told (post x)) → ToldOf m fault told
 told_of m None told post is h = rw h (record { rule = refl; message = λ l. absurd (omega arith); at = refl; step = refl })
 told_of m (Some x) None post is h = elim h [ ]
@@ -361,18 +361,18 @@ module _ (plan : Plan) (paths : Paths) where
   messages-first =
       record { found = earliest-none _ 5 0; at = λ h. absurd (omega arith); step = λ h. absurd (omega arith) }
 
-  pub messages-next : (m : ℕ) (kept here next fault : Option Fault) → PlanFault plan paths m kept →
+  pub messages-next : (m : ℕ) (kept here next fault : Option (Fault Rule)) → PlanFault plan paths m kept →
       MessageFault plan paths (path_of plan m) fault → ToldOf m fault here →
       next ≡ cond (ltb (order here) (order kept)) here kept → PlanFault plan paths (m + 1) next
   messages-next m kept here next fault g f t e =
       record {
-        found = earliest-next _ 5 m message_of kept here next g.found t.message (t.rule ∙ f.found.earliest) e;
+        found = earliest-next _ 5 m order message_of kept here next g.found t.message (t.rule ∙ f.found.earliest) e;
         at = one (λ r. order r < 5 → at_of r ≡ place_broken plan (round_rule plan paths (order r)) (message_of r)) g.at place;
         step = one (λ r. order r < 5 → step_of r ≡ step_broken plan (round_rule plan paths (order r)) (message_of r)) g.step way;
       }
     where
-      one : (P : Option Fault → Type 0) → P kept → P here → P next
-      one = either _ 5 m message_of kept here next g.found t.message (t.rule ∙ f.found.earliest) e
+      one : (P : Option (Fault Rule) → Type 0) → P kept → P here → P next
+      one = either _ 5 m order message_of kept here next g.found t.message (t.rule ∙ f.found.earliest) e
 
       place : order here < 5 → at_of here ≡ place_broken plan (round_rule plan paths (order here)) (message_of here)
       place h = let l : order fault < 5 = rw (← t.rule) h in rw (t.at, t.rule, t.message h) (f.found.first l)

@@ -10,6 +10,7 @@ use Rattle.scope.specs.PathRules.{PathRule, breaks_it, place_broken, step_broken
 use Rattle.scope.specs.PathRules.{second_no_link, second_apart, second_astray, second_again, second_replaced}
 use Rattle.scope.specs.SecondPath.{message_index}
 use Rattle.paths.specs.declared.Fault.{Fault}
+use Rattle.paths.specs.declared.Rule.{Rule}
 use Rattle.paths.specs.Path.{Earliest, order, message_of, at_of, step_of}
 use Rattle.faults.specs.Broken.{FaultOf, first_rule, second_rule, place_in}
 use Rattle.rules.specs.declared.Paths.{Paths}
@@ -37,11 +38,11 @@ round_rule plan paths x =
     }
 
 -- r has the fault of a message's paths
-abbrev pub MessageFault : Plan → Paths → List Place → Option Fault → Type 0
+abbrev pub MessageFault : Plan → Paths → List Place → Option (Fault Rule) → Type 0
 MessageFault plan paths ps r = FaultOf (message_rule plan paths ps) (message_links paths ps) (length ps) r
 
 -- r has that of a plan whose first messages, so many of them, are asked
-pub record PlanFault (plan : Plan) (paths : Paths) (messages : ℕ) (r : Option Fault) : Type 0 where
+pub record PlanFault (plan : Plan) (paths : Paths) (messages : ℕ) (r : Option (Fault Rule)) : Type 0 where
   pub found : Earliest (λ x m. breaks_it plan (round_rule plan paths x) m) 5 messages (order r) (message_of r)
   pub at : order r < 5 → at_of r ≡ place_broken plan (round_rule plan paths (order r)) (message_of r)
   pub step : order r < 5 → step_of r ≡ step_broken plan (round_rule plan paths (order r)) (message_of r)

@@ -70,7 +70,7 @@ fn number_of(paths: Paths, rule: Rule) -> usize
 }
 
 // The fault of these paths of the message at an index.
-fn message_fault(row: &[u16], i: usize, paths: Paths) -> Option<Fault>
+fn message_fault(row: &[u16], i: usize, paths: Paths) -> Option<Fault<Rule>>
     requires { PlanLies row.now × (i < 2 ^ 60) × MessageLies row.now i }
     ensures { MessageFault (plan_of row.now) paths (message_at row.now i) result }
 {
@@ -81,7 +81,7 @@ fn message_fault(row: &[u16], i: usize, paths: Paths) -> Option<Fault>
 }
 
 // The fault of these paths of all messages.
-fn messages_fault(row: &[u16], starts: &[usize; MESSAGES], paths: Paths) -> Option<Fault>
+fn messages_fault(row: &[u16], starts: &[usize; MESSAGES], paths: Paths) -> Option<Fault<Rule>>
     requires { PlanLies row.now × Starts row.now (message_count row.now) starts.now }
     ensures { PlanFault (plan_of row.now) paths (message_count row.now) result }
 {

@@ -42,8 +42,8 @@ pub fn plan_line(file: &[u8], name: &[u8], t: Tally, out: &mut [u8], at: usize) 
     ensures { Lays file.now name.now t out.old out.new at result }
 {
     let mut row = [0u16; limits::ROW];
-    match plan::read_good(file, &mut row) {
-        Ok(good) => rated(good, name, t, out, at),
+    match plan::read_file(file, &mut row) {
+        Ok(n) => rated(Good { row: &row[..n] }, name, t, out, at),
         Err(refusal) => {
             let next = sheet_lines::refused_line(out, at, refusal, name);
             Laid { next, tally: t }

@@ -26,12 +26,12 @@ module _ (ts : List ℕ) where
 
   -- the list tells who below m tries which link first
   pub record Knows (tried : Tries) (m : ℕ) : Type 0 where
-    pub room : length tried.list ≡ most_messages
+    pub room : most_messages ≤ length tried.list
     pub few : tried.count ≤ m
     pub below : (j : ℕ) → j < tried.count → tried_by tried j < m
     pub is : (e : ℕ) → first_trier tried e m ≡ lowest (λ k. eqb (get_or ts k 0) (e + 1)) m
 
-  pub knows_none : (tried : Tries) → tried.count ≡ 0 → length tried.list ≡ most_messages → Knows tried 0
+  pub knows_none : (tried : Tries) → tried.count ≡ 0 → most_messages ≤ length tried.list → Knows tried 0
   unfolding seek
   knows_none tried z r =
       record { room = r; few = omega arith; below = λ j h. absurd (omega arith); is = λ e. trier_none tried e 0 (omega arith) }
@@ -178,7 +178,7 @@ order_is : (plan : Plan) (m : ℕ) → order_of plan m ≡ m
 order_is plan m = refl
 
 pub pass-slot : (plan : Plan) (down : ℕ → ℕ → Bool) (owner : ℕ → ℕ → ℕ) (i : ℕ) (tried : Tries) (ps : List S.Position) → tried.count ≡ 0 →
-    length tried.list ≡ most_messages → length ps ≤ most_messages →
+    most_messages ≤ length tried.list → length ps ≤ most_messages →
     pass (down i) (owner i) i tried 0 ps ≡ slot (order_of plan) down owner i ps
 unfolding slot
 pass-slot plan down owner i tried ps z r l =

@@ -37,13 +37,13 @@ module _ (row : List ℕ) (down : ℕ → Bool) (owner : ℕ → ℕ) (i n : ℕ
     pub most : n ≤ most_messages
     pub long : n ≤ length old
     pub same : length tried.list ≡ length tried₀.list
-    pub room : length tried₀.list ≡ most_messages
+    pub room : most_messages ≤ length tried₀.list
     pub counted : tried.count ≤ m
     pub below : (j : ℕ) → j < tried.count → tried_by tried j < m
     pub noted : all_tried down tried₀ 0 (positions_of row n old) ≡ all_tried down tried m (drop m (positions_of row n old))
     pub left : drop m (pass down owner i tried₀ 0 (positions_of row n old)) ≡ pass down owner i tried m (drop m (positions_of row n old))
 
-  pub passing_none : n ≤ most_messages → n ≤ length old → length tried₀.list ≡ most_messages → tried₀.count ≡ 0 → Passing 0 tried₀
+  pub passing_none : n ≤ most_messages → n ≤ length old → most_messages ≤ length tried₀.list → tried₀.count ≡ 0 → Passing 0 tried₀
   passing_none a b c d =
       record {
         few = omega arith;

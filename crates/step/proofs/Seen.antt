@@ -55,7 +55,7 @@ module _ (row : List ℕ) (down : ℕ → ℕ → Bool) (owner : ℕ → ℕ →
     pub first : seek is_other (n - m) m ≡ lowest is_other n
 
   pub watching_none : MayTellAll row old n i (length buffer) → length old ≡ most_messages →
-      (tried₀.count ≡ 0) × (length tried₀.list ≡ most_messages) → Watching 0 old tried₀ buffer
+      (tried₀.count ≡ 0) × (most_messages ≤ length tried₀.list) → Watching 0 old tried₀ buffer
   watching_none a l t =
       let all : n - 0 ≡ n = omega arith in
       record { telling = telling_none row down owner i n old tried₀ buffer a l t; first = ap (λ (k : ℕ). seek is_other k 0) all }

@@ -64,7 +64,7 @@ module _ (row : List ℕ) (down : ℕ → ℕ → Bool) (owner : ℕ → ℕ →
     pub written : out ≡ take (2 * m) (numbers (passes row (down i) (owner i) i n old tried₀)) ++ drop (2 * m) buffer
 
   pub telling_none : MayTellAll row old n i (length buffer) → length old ≡ most_messages →
-      (tried₀.count ≡ 0) × (length tried₀.list ≡ most_messages) → Telling 0 old tried₀ buffer
+      (tried₀.count ≡ 0) × (most_messages ≤ length tried₀.list) → Telling 0 old tried₀ buffer
   telling_none a l t =
       let may : MayMoveAll row old n i tried₀ =
       record { stand = a.stand; long = omega (arith, l, a.stand.few); early = a.early; room = t.1; none = t.0 } in

@@ -38,7 +38,7 @@ noted tried e m = record { count = tried.count + 1; list = set tried.list tried.
 -- there is room to note message m and those after it, and whoever has been noted is lower
 pub record Noting (tried : Tries) (m : ℕ) : Type 0 where
   pub low : m < most_messages
-  pub room : length tried.list ≡ most_messages
+  pub room : most_messages ≤ length tried.list
   pub few : tried.count ≤ m
   pub below : (j : ℕ) → j < tried.count → tried_by tried j < m
 
@@ -86,7 +86,7 @@ pub record MayMoveAll (row : List ℕ) (ps : List Position) (n i : ℕ) (tried :
   pub stand : Stand row n ps
   pub long : n ≤ length ps
   pub early : i < 65536
-  pub room : length tried.list ≡ most_messages
+  pub room : most_messages ≤ length tried.list
   pub none : tried.count ≡ 0
 
 -- they have moved: the first n records are the next positions of the slot, the records past them are as they were, and the list has who

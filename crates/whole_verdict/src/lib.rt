@@ -77,8 +77,8 @@ fn whole_text(
     ensures { PrintsOne (TextUpTo large file.now) out.old out.new result }
 {
     let mut row = [0u16; limits::ROW];
-    match plan::read_good(file, &mut row) {
-        Ok(good) => Ok(all_lines(rt, name, large, good, out)),
+    match plan::read_file(file, &mut row) {
+        Ok(n) => Ok(all_lines(rt, name, large, Good { row: &row[..n] }, out)),
         Err(refusal) => listing::refusal_text(refusal, out),
     }
 }

@@ -11,4 +11,5 @@ bounds-table-to c =
 pub returns : goal.returns
 returns c =
     rw c.unwrap_or.ensures
-    (found _ c.requires.lies _ _ _ _ c.requires.there c.number-from.ensures c.number-to.ensures c.requires.ends)
+    (found _ c.requires.lies _ _ _ _ _ c.requires.there c.number-from.ensures c.number-to.ensures c.requires.ends
+    c.checked_sub-back.ensures)

@@ -1,6 +1,7 @@
 use Rattle.std.proofs.Common.{◌<◌, ◌≤◌, refl, arith, rules}
 use Rattle.scope.specs.Plan.{plan_of, message_at, place_count}
 use Rattle.rows.specs.Lies.{PlaceLies}
+use Rattle.paths.proofs.Earliest.{by-order}
 use Rattle.faults.proofs.Laws as law
 use Rattle.faults.proofs.Seconds as rule
 use Rattle.faults.proofs.places_fault.Goals as goal
@@ -32,7 +33,7 @@ loop-k-preserved c =
       law.passing_next row a.i _ l.at l.k here.result l.invariant.0 more here.ensures,
       rule.placing_next plan a.end (message_at row a.i) l.k l.found c.map-told.result c.earlier-found.result fault.result l.invariant.1
           (law.place-of row a.i _ l.at l.k refl l.invariant.0 more plan a.end fault.result fault.ensures)
-          told.rule told.at told.step c.earlier-found.ensures,
+          told.rule told.at told.step (by-order l.found c.map-told.result _ c.earlier-found.ensures),
     )
 
 pub returns : goal.returns

@@ -1,9 +1,11 @@
-use Rattle.std.proofs.Common.{arith}
+use Rattle.std.proofs.Common.{arith, sym, ◌∙◌}
 use Rattle.scope.specs.Plan.{plan_of}
 use Rattle.rows.proofs.Parts.{link-count}
 use Rattle.paths.proofs.Walk as law
 use Rattle.paths.proofs.Walk.{OnLink}
+use Rattle.paths.proofs.Earliest.{by-order, none-later}
 use Rattle.paths.proofs.path_fault.Goals as goal
+use Rattle.paths.proofs.path_fault.Goals.{then-is_some, else-is_some}
 
 pub loop-k-init : goal.loop-k-init
 loop-k-init c = law.walking_first _ _ _ _ c.with-met.ensures
@@ -32,6 +34,13 @@ loop-k-preserved c =
         link-count row,
       );
     } in
-    law.walking_next _ _ _ _ _ _ _ w _ on _ ends _ _ c.link_fault-here.ensures.1
-    (law.link-breaks _ _ _ _ _ _ _ w _ on _ ends _ _ c.holds.ensures c.link_fault-here.ensures.0)
-    c.earlier-found.ensures _ c.with-met-in-loop-k.ensures
+    let at = c.link_fault-here.ensures.1 in
+    let breaks = law.link-breaks _ _ _ _ _ _ _ w _ on _ ends _ _ c.holds.ensures c.link_fault-here.ensures.0 in
+    let met = c.with-met-in-loop-k.ensures in
+    elim c.if-is_some.branch [
+      | then-is_some t ↦
+          let kept = by-order c.loop-k.found c.link_fault-here.result _ t.earlier-found.ensures in
+          rw t.found-is (law.walking_next _ _ _ _ _ _ _ w _ on _ ends _ _ at breaks kept _ met)
+      | else-is_some t ↦ rw t.found-is
+          (law.walking_next _ _ _ _ _ _ _ w _ on _ ends _ _ at breaks (none-later _ _ (sym c.is_some.ensures ∙ t.if-is_some.false)) _ met)
+    ]

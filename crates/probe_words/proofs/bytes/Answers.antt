@@ -16,4 +16,4 @@ returns c =
       | in_default w ↦ w.whole-is ∙ sym (whole_more _ _ _ l.end (omega arith) (omega arith))
     ]
     in
-    rw c.then_some.ensures (bytes_by _ _ _ _ _ l _ e)
+    rw (c.ok_or.ensures.value, c.then_some.ensures) (bytes_by _ _ _ _ _ l _ e)

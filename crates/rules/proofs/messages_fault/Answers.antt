@@ -1,6 +1,7 @@
 use Rattle.std.proofs.Common.{◌≡◌, arith, rules}
 use Rattle.scope.specs.Plan.{plan_of, message_count}
 use Rattle.rows.proofs.Parts.{message-count}
+use Rattle.paths.proofs.Earliest.{by-order}
 use Rattle.rules.proofs.Laws as law
 use Rattle.rules.proofs.messages_fault.Goals as goal
 
@@ -22,7 +23,7 @@ loop-m-preserved c =
     let fault = c.message_fault-fault in
     let told = law.told_of l.m fault.result c.map-told.result _ (λ x r p. search rules) c.map-told.ensures.cases in
     law.messages-next (plan_of row) c.args.paths l.m l.found c.map-told.result c.earlier-found.result fault.result l.invariant
-    (rw at.is fault.ensures) told c.earlier-found.ensures
+    (rw at.is fault.ensures) told (by-order l.found c.map-told.result _ c.earlier-found.ensures)
 
 pub returns : goal.returns
 returns c =

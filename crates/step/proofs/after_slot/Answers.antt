@@ -12,7 +12,7 @@ lend-requires c =
       stand = c.requires.0;
       long = omega (arith, z, c.requires.0.few);
       early = c.requires.1;
-      room = c.none-tried.ensures.1;
+      room = omega (arith, c.none-tried.ensures.1);
       none = c.none-tried.ensures.0;
     }
 

@@ -1,5 +1,6 @@
 use mathlib.Core.Path.{◌≡◌, sym, ◌∙◌}
 use lib.ListN.{length}
+use native.Mathlib.Omega.{arith}
 use Rattle.step.proofs.Seen.{watching_none, watching_more, watching_other, watching_done}
 use borrow.Author.Rules.{rules}
 use Rattle.step.proofs.go_all.Goals as goal
@@ -7,7 +8,7 @@ use Rattle.step.proofs.go_all.Goals as goal
 pub loop-k-init : goal.loop-k-init
 loop-k-init c =
     let z : length c.args.ps ≡ 32 = search rules in
-    watching_none _ _ _ _ _ _ _ _ _ c.requires z c.none-tried.ensures
+    watching_none _ _ _ _ _ _ _ _ _ c.requires z (c.none-tried.ensures.0, omega (arith, c.none-tried.ensures.1))
 
 pub returns-then-not-as_seen : goal.returns-then-not-as_seen
 returns-then-not-as_seen c =
