@@ -152,6 +152,7 @@ pub fn read_input(rt: &HostRuntime, name: &[u8], buf: &mut [u8]) -> Option<usize
 
 // One read of standard input, after `turn` others: as many bytes as came, at least one, or none at its end.
 // A read that fails is no end of it, as above. Only the promise looks at `turn`: what came is what came in all turns before, and this piece.
+#[tactic(auto, using(crate::proofs::Reading::reads_piece))]
 pub fn read_piece(rt: &HostRuntime, name: &[u8], turn: u64, buf: &mut [u8]) -> Option<usize>
     requires { 0 < length buf.old }
     ensures { ReadsPiece result turn buf.new }
